@@ -1,0 +1,4 @@
+pub mod OlderLaws
+pub mod OnwardLaws
+pub mod OnwardCases
+pub mod RoomLaws

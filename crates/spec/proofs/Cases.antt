@@ -1,0 +1,91 @@
+-- Document 01's schemas A and B, and its starred cases, as one list under one statement.
+-- Assumes nothing.
+use Prim.Native.Nat.{ℕ, zero, suc, _+_, _-_, _*_}
+use mathlib.Core.Path.{_≡_, refl}
+use mathlib.Core.Bool.{Bool, true, false}
+use mathlib.Core.List.{List, [], _∷_, _++_, map}
+use lib.ListN.{length, replicate}
+use Rattle.spec.specs.Base.{Read, Took, No, meaning, require, longer, _>>=_, digit}
+use Rattle.spec.specs.Varint.{varint, unzigzag, fixed, tag}
+use Rattle.spec.specs.Utf8.{lead, followers, behind, char, chars, validPrefix}
+use Rattle.spec.specs.Kind.{kindWires, ownWires, wires, wire, shapes, shape, isScalar, extend, scalar}
+use Rattle.spec.specs.Schema.{Schema, goodEntry, badEntry, badSchema, lookup, unknownKind, kindOf}
+use Rattle.spec.specs.Skip.{content, plain, skipField, skipGroup, skipFieldForTag}
+use Rattle.spec.specs.Record.{Record, numbers}
+use Rattle.spec.specs.Reading.{Reading, given, shaped, field, used, _followed-by_, element, elements, contents, records, fields, read, within, refusedOr, reading, number, place, listed}
+use Rattle.spec.specs.declared.Entry.{Entry}
+
+abbrev entry : ℕ → ℕ → ℕ → Bool → ℕ → Entry
+entry o n k r c = record { owner = o; number = n; kind = k; repeated = r; child = c }
+
+-- schema A; B is A without 4, 5, 7 of type 0 and 2 of type 1
+unfoldable pub schemaA : Schema
+schemaA = record {
+  types = 2;
+  entries =
+      entry 0 1 5 false 0 ∷ entry 0 2 9 false 0 ∷ entry 0 3 11 false 1
+      ∷ entry 0 4 17 true 0 ∷ entry 0 5 2 false 0 ∷ entry 0 7 8 false 0
+      ∷ entry 1 1 13 false 0 ∷ entry 1 2 12 false 0 ∷ entry 1 3 11 false 1 ∷ [];
+}
+
+unfoldable pub schemaB : Schema
+schemaB = record {
+  types = 2;
+  entries =
+      entry 0 1 5 false 0 ∷ entry 0 2 9 false 0 ∷ entry 0 3 11 false 1
+      ∷ entry 1 1 13 false 0 ∷ entry 1 3 11 false 1 ∷ [];
+}
+
+-- what the program shows: number and place, and the records
+abbrev reads : Schema → List ℕ → List (List ℕ)
+reads sch s = let q = reading sch 1024 s in (number q ∷ place q ∷ []) ∷ map numbers (listed q)
+
+abbrev answer : Read → List (List ℕ)
+answer (Took v n) = (0 ∷ n ∷ []) ∷ []
+answer (No k) = (k ∷ 0 ∷ []) ∷ []
+
+pub record Case : Type 0 where
+  pub is : List (List ℕ)
+  pub should : List (List ℕ)
+
+infix 5 _gives_
+abbrev _gives_ : List (List ℕ) → List (List ℕ) → Case
+a gives b = record { is = a; should = b }
+
+abbrev refused : ℕ → ℕ → List (List ℕ)
+refused k p = (k ∷ p ∷ []) ∷ []
+
+abbrev well : List (List ℕ) → List (List ℕ)
+well rows = (0 ∷ 0 ∷ []) ∷ rows
+
+abbrev six : ℕ → ℕ → ℕ → ℕ → ℕ → ℕ → List ℕ
+six d n k v a e = d ∷ n ∷ k ∷ v ∷ a ∷ e ∷ []
+
+abbrev listing : List ℕ
+listing = 0x08 ∷ 0x96 ∷ 0x01 ∷ 0x12 ∷ 0x02 ∷ 0x4f ∷ 0x4b ∷ 0x1a ∷ 0x04 ∷ 0x08 ∷ 0x05 ∷ 0x12 ∷ 0x00 ∷ 0x22 ∷ 0x04 ∷ 0x01 ∷ 0x02 ∷ 0x80 ∷ 0x01 ∷ []
+
+pub cases : List Case
+cases =
+    (reads schemaA listing gives well (
+    six 0 1 5 150 1 3 ∷ six 0 2 9 0 5 7 ∷ six 0 3 11 0 9 13 ∷ six 1 1 13 5 10 11 ∷ six 1 2 12 0 13 13
+    ∷ six 0 4 20 0 15 19 ∷ six 1 4 17 18446744073709551615 15 16 ∷ six 1 4 17 1 16 17 ∷ six 1 4 17 64 17 19 ∷ []))
+    ∷ (reads schemaB listing gives well (
+    six 0 1 5 150 1 3 ∷ six 0 2 9 0 5 7 ∷ six 0 3 11 0 9 13 ∷ six 1 1 13 5 10 11 ∷ six 1 2 23 0 13 13 ∷ six 0 4 23 0 15 19 ∷ []))
+    ∷ (reads schemaA [] gives well [])
+    ∷ (reads schemaA (0x08 ∷ []) gives refused 1 0)
+    ∷ (reads schemaA (0x0c ∷ []) gives refused 4 0)
+    ∷ (reads schemaA (0x08 ∷ 0x80 ∷ 0x80 ∷ 0x80 ∷ 0x80 ∷ 0x08 ∷ []) gives refused 5 0)
+    ∷ (reads schemaA (0x08 ∷ replicate 9 0xff ++ 0x01 ∷ []) gives well (six 0 1 5 18446744073709551615 1 11 ∷ []))
+    ∷ (reads schemaA (0x08 ∷ replicate 9 0xff ++ 0x02 ∷ []) gives refused 2 0)
+    ∷ (reads schemaA (0x88 ∷ 0x00 ∷ 0x05 ∷ []) gives well (six 0 1 5 5 2 3 ∷ []))
+    ∷ (reads schemaA (0x1a ∷ 0x06 ∷ 0x08 ∷ 0x80 ∷ 0x80 ∷ 0x80 ∷ 0x80 ∷ 0x10 ∷ []) gives ((2 ∷ 2 ∷ []) ∷ six 0 3 11 0 2 8 ∷ []))
+    ∷ (reads schemaA (0x12 ∷ 0x01 ∷ 0xff ∷ []) gives refused 6 0)
+    ∷ (reads schemaA (0x0b ∷ 0x14 ∷ []) gives well [])
+    ∷ (reads schemaA (0x0b ∷ 0x13 ∷ []) gives refused 1 0)
+    ∷ (answer (skipFieldForTag 0x0b 0 (0x13 ∷ [])) gives ((0 ∷ 1 ∷ []) ∷ []))
+    ∷ (reads schemaA (0x22 ∷ 0x00 ∷ []) gives well [])
+    ∷ []
+
+pub all-right : map (λ (c : Case). c .is) cases ≡ map (λ (c : Case). c .should) cases
+unfolding cases schemaA schemaB meaning require longer _>>=_ digit varint unzigzag fixed tag lead followers behind char chars validPrefix kindWires ownWires wires wire shapes shape isScalar extend scalar goodEntry badEntry badSchema lookup unknownKind kindOf content plain skipField skipGroup skipFieldForTag given shaped field used _followed-by_ element elements contents records fields read within refusedOr reading number place listed numbers
+all-right = refl

@@ -1,0 +1,14 @@
+pub mod Laws
+pub mod VarintLaws
+pub mod Utf8Laws
+pub mod KindLaws
+pub mod FrontLaws
+pub mod ReadingLaws
+pub mod RecordLaws
+pub mod DocumentLaws
+pub mod WritingLaws
+pub mod FlatLaws
+pub mod RoundTrip
+pub mod ListLaws
+pub mod TreeLaws
+pub mod Cases

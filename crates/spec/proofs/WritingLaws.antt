@@ -1,0 +1,146 @@
+-- A field that is written is read back, which is the step of the round trip; and the equation of the written bytes.
+-- Assumes nothing.
+use Prim.Native.Nat.{ℕ, zero, suc, _+_, _-_, _*_, _/_, _%_, _^_, _≤_, _<_}
+use native.Mathlib.Omega.{arith}
+use mathlib.Core.Path.{_≡_, refl, sym, ap, ap₂, _∙_, subst}
+use mathlib.Core.Bool.{Bool, true, false, not, _&&_}
+use mathlib.Core.List.{List, [], _∷_, _++_, append-assoc}
+use lib.ListN.{length, take, drop, length-append, length-take, length-drop}
+use lib.Seq.{drop-append-seam, take-append-seam}
+use lib.Dec.{leb, ltb, eqb}
+use borrow.Author.Tests.{le-leb, lt-leb, leb-true, eqb-true}
+use Rattle.spec.specs.Base.{if_then_else_, between, part, Read, Took, No, require, longer, _>>=_}
+use Rattle.spec.specs.Varint.{varint, varint32, varint64, encode, tag, goodTag}
+use Rattle.spec.specs.Utf8.{utf8}
+use Rattle.spec.specs.Kind.{Scalar, Shape, one, other, string, bytes, message, packed, shape, scalar, encoded, fits}
+use Rattle.spec.specs.Schema.{Schema, lookup, kindOf}
+use Rattle.spec.specs.Skip.{content}
+use Rattle.spec.specs.Reading.{Field, Value, Message, Packed, Fault, given, shaped, field}
+use Rattle.spec.specs.Record.{Record, deeper}
+use Rattle.spec.proofs.Laws.{either-way}
+use Rattle.spec.specs.Writing.{prefixed, body, tagOf, bytesOf}
+use Rattle.spec.proofs.VarintLaws.{varint-shortest, top}
+use Rattle.spec.proofs.KindLaws.{scalar-encoded}
+use Rattle.spec.specs.declared.Entry.{Entry}
+
+pub both-true : {a b : Bool} → a ≡ true → b ≡ true → (a && b) ≡ true
+both-true {a} {b} p q = ap (λ (x : Bool). x && b) p ∙ q
+
+pub tag-written : (m w : ℕ) (u : List ℕ) → 1 ≤ m → m ≤ 536870911 → w ≤ 5
+    → tag (encode (m * 8 + w) ++ u) ≡ Took (m * 8 + w) (length (encode (m * 8 + w)))
+unfolding tag require
+tag-written m w u h i j =
+    let t : ℕ = m * 8 + w in
+    ap (require 3 goodTag) (varint-shortest 4 9 15 t u (omega arith) (omega arith) (omega arith))
+    ∙ ap (λ (b : Bool). if b then Took t (length (encode t)) else No 3)
+    (both-true (le-leb (t % 8) 5 (omega arith)) (le-leb 1 (t / 8) (omega arith)))
+
+-- a prefixed content is found again, whichever width its length is read in
+pub content-written : (k last : ℕ) (c u : List ℕ) → k ≤ 9 → last < 128 → length c < top k last
+    → content (varint k last) (prefixed c ++ u) ≡ Took (length (encode (length c))) (length (prefixed c))
+unfolding content _>>=_ longer
+content-written k last c u h i j =
+    let p : List ℕ = encode (length c) in
+    let x : List ℕ = p ++ c ++ u in
+    let reads : varint k last x ≡ Took (length c) (length p) = ap (varint k last) (append-assoc p c u) ∙ varint-shortest k 9 last (length c) (c ++ u) h i j in
+    let fits : leb (length p + length c) (length x) ≡ true =
+    le-leb (length p + length c) (length x) (omega (arith, length-append (p ++ c) u, length-append p c)) in
+    ap (λ (r : Read). r >>= λ m n. if leb (n + m) (length x) then Took n m else No 1) reads
+    ∙ ap (λ (b : Bool). longer (length p) (if b then Took (length p) (length c) else No 1)) fits
+    ∙ ap (Took (length p)) (sym (length-append p c))
+
+pub part-written : (c u : List ℕ) → part (length (encode (length c))) (length (prefixed c)) (prefixed c ++ u) ≡ c
+part-written c u =
+    let p : List ℕ = encode (length c) in
+    let long : length (p ++ c) - length p ≡ length c = omega (arith, length-append p c) in
+    ap₂ take long (ap (drop (length p)) (append-assoc p c u) ∙ drop-append-seam p (c ++ u)) ∙ take-append-seam c u
+
+-- the field behind a written tag, as its entry and its wire type say
+pub field-written : (sch : Schema) (depth type m w : ℕ) (u : List ℕ) → 1 ≤ m → m ≤ 536870911 → w ≤ 5
+    → field sch depth type (encode (m * 8 + w) ++ u)
+    ≡ shaped (shape (kindOf (lookup (sch .entries) type m) w)) depth (lookup (sch .entries) type m) m (kindOf (lookup (sch .entries) type m) w) (length (encode (m * 8 + w))) u
+unfolding field given
+field-written sch depth type m w u h i j =
+    let t : ℕ = m * 8 + w in
+    let s : List ℕ = encode t ++ u in
+    let at : ℕ → ℕ → List ℕ → Field = λ x y v. shaped (shape (kindOf (lookup (sch .entries) type x) y)) depth (lookup (sch .entries) type x) x (kindOf (lookup (sch .entries) type x) y) (length (encode t)) v in
+    ap (λ (r : Read). given r (λ t n. shaped (shape (kindOf (lookup (sch .entries) type (t / 8)) (t % 8))) depth (lookup (sch .entries) type (t / 8)) (t / 8) (kindOf (lookup (sch .entries) type (t / 8)) (t % 8)) n (drop n s)))
+    (tag-written m w u h i j)
+    ∙ ap (λ (x : ℕ). at x (t % 8) (drop (length (encode t)) s)) (omega arith)
+    ∙ ap (λ (y : ℕ). at m y (drop (length (encode t)) s)) (omega arith)
+    ∙ ap (at m w) (drop-append-seam (encode t) u)
+
+pub scalar-written : (c : Scalar) (depth : ℕ) (e : Entry) (m kind n v : ℕ) (u : List ℕ) → fits c v ≡ true
+    → shaped (one c) depth e m kind n (encoded c v ++ u) ≡ Value m kind v n (n + length (encoded c v))
+unfolding shaped given
+scalar-written c depth e m kind n v u h = ap (λ (r : Read). given r (λ v l. Value m kind v n (n + l))) (scalar-encoded c v u h)
+
+-- the same for a content c of at most the size limit, whose start and end are then
+abbrev pub from : List ℕ → ℕ
+from c = length (encode (length c))
+
+abbrev pub to : List ℕ → ℕ
+to c = length (prefixed c)
+
+module _ (depth : ℕ) (e : Entry) (m kind n : ℕ) (c u : List ℕ) (small : length c ≤ 2147483647) where
+  pub bytes-written : shaped (other bytes) depth e m kind n (prefixed c ++ u) ≡ Value m kind 0 (n + from c) (n + to c)
+  unfolding shaped given
+  bytes-written = ap (λ (r : Read). given r (λ a z. Value m kind 0 (n + a) (n + z))) (content-written 4 15 c u (omega arith) (omega arith) (omega arith))
+
+  pub string-written : utf8 c ≡ true → shaped (other string) depth e m kind n (prefixed c ++ u) ≡ Value m kind 0 (n + from c) (n + to c)
+  unfolding shaped given
+  string-written h =
+      ap (λ (r : Read). given r (λ a z. if utf8 (part a z (prefixed c ++ u)) then Value m kind 0 (n + a) (n + z) else Fault 6 0))
+      (content-written 4 15 c u (omega arith) (omega arith) (omega arith))
+      ∙ ap (λ (b : Bool). if b then Value m kind 0 (n + from c) (n + to c) else Fault 6 0) (ap utf8 (part-written c u) ∙ h)
+
+  pub message-written : depth < 100 → shaped (other message) depth e m kind n (prefixed c ++ u) ≡ Message m (e .child) (n + from c) (n + to c)
+  unfolding shaped given
+  message-written h =
+      ap (λ (b : Bool). if b then Fault 7 0 else given (content varint64 (prefixed c ++ u)) (λ a z. Message m (e .child) (n + a) (n + z))) (lt-leb 100 depth h)
+      ∙ ap (λ (r : Read). given r (λ a z. Message m (e .child) (n + a) (n + z))) (content-written 9 1 c u (omega arith) (omega arith) (omega arith))
+
+  pub packed-written : shaped (other packed) depth e m kind n (prefixed c ++ u) ≡ Packed m (e .kind) (n + from c) (n + to c)
+  unfolding shaped given
+  packed-written = ap (λ (r : Read). given r (λ a z. Packed m (e .kind) (n + a) (n + z))) (content-written 9 1 c u (omega arith) (omega arith) (omega arith))
+
+-- ---- the bytes of a list: enough steps are enough, and the equation with no count
+
+pub deeper-le : (d : ℕ) (rs : List Record) → deeper d rs ≤ length rs
+unfolding deeper
+deeper-le d [] = omega arith
+deeper-le d (r ∷ rs) = either-way (λ (n : ℕ). n ≤ suc (length rs)) (ltb d (r .depth)) (omega (arith, deeper-le d rs)) (omega arith)
+
+pub bytesOf-enough : (f g : ℕ) (tags : Bool) (payload : List ℕ) (rs : List Record) → length rs ≤ f → length rs ≤ g
+    → bytesOf f tags payload rs ≡ bytesOf g tags payload rs
+unfolding bytesOf
+bytesOf-enough zero zero tags payload rs hf hg = refl
+bytesOf-enough zero (suc g) tags payload [] hf hg = refl
+bytesOf-enough (suc f) zero tags payload [] hf hg = refl
+bytesOf-enough zero (suc g) tags payload (r ∷ rs) hf hg = absurd (omega arith)
+bytesOf-enough (suc f) zero tags payload (r ∷ rs) hf hg = absurd (omega arith)
+bytesOf-enough (suc f) (suc g) tags payload [] hf hg = refl
+bytesOf-enough (suc f) (suc g) tags payload (r ∷ rs) hf hg =
+    let n : ℕ = deeper (r .depth) rs in
+    let first : length (take n rs) ≤ length rs = omega (arith, length-take n rs) in
+    let rest : length (drop n rs) ≤ length rs = omega (arith, length-drop n rs) in
+    ap₂ (λ (x y : List ℕ). tagOf tags r ++ body (shape (r .kind)) payload r x ++ y)
+    (bytesOf-enough f g (not (eqb (r .kind) 20)) payload (take n rs) (omega arith) (omega arith))
+    (bytesOf-enough f g tags payload (drop n rs) (omega arith) (omega arith))
+
+-- a record's tag and body, in which the records that stand deeper are written, and then those behind them
+abbrev pub bytesIn : Bool → List ℕ → List Record → List ℕ
+bytesIn tags payload rs = bytesOf (length rs) tags payload rs
+
+pub bytes-cons : (tags : Bool) (payload : List ℕ) (r : Record) (rs : List Record)
+    → bytesIn tags payload (r ∷ rs)
+    ≡ tagOf tags r ++ body (shape (r .kind)) payload r (bytesIn (not (eqb (r .kind) 20)) payload (take (deeper (r .depth) rs) rs))
+    ++ bytesIn tags payload (drop (deeper (r .depth) rs) rs)
+unfolding bytesOf
+bytes-cons tags payload r rs =
+    let n : ℕ = deeper (r .depth) rs in
+    let first : length (take n rs) ≤ length rs = omega (arith, length-take n rs) in
+    let rest : length (drop n rs) ≤ length rs = omega (arith, length-drop n rs) in
+    ap₂ (λ (x y : List ℕ). tagOf tags r ++ body (shape (r .kind)) payload r x ++ y)
+    (bytesOf-enough (length rs) (length (take n rs)) (not (eqb (r .kind) 20)) payload (take n rs) first (omega arith))
+    (bytesOf-enough (length rs) (length (drop n rs)) tags payload (drop n rs) rest (omega arith))

@@ -1,0 +1,99 @@
+-- The kinds of descriptor.proto and our own, what stands on the wire for each, and how its value is read and written.
+-- Assumes nothing: these are definitions.
+use Prim.Native.Nat.{ℕ, zero, suc, _+_, _-_, _^_, min}
+use mathlib.Core.Bool.{Bool, true, false, _||_, _&&_}
+use mathlib.Core.List.{List, [], _∷_, _++_}
+use lib.ListN.{getD}
+use lib.Dec.{leb, ltb, eqb}
+use Rattle.spec.specs.Base.{if_then_else_, between, Read, meaning, require}
+use Rattle.spec.specs.Varint.{varint32, varint64, encode, zigzag, unzigzag, fixed, little}
+
+-- a value that is one number
+pub data Scalar : Type 0 where
+  int32 uint32 uint64 bool sint32 sint64 fixed32 sfixed32 fixed64 : Scalar
+
+-- a field that is not
+pub data Special : Type 0 where
+  string bytes message packed startGroup endGroup nothing : Special
+
+pub data Shape : Type 0 where
+  one : Scalar → Shape
+  other : Special → Shape
+
+-- The wire type of each kind of descriptor.proto, 1 to 18 (10 unused). A wire type of 7, which no tag has, says that there is no such kind.
+--           -   dbl flt i64 u64 i32 f64 f32 boo str -   msg byt u32 enu sf4 sf8 s32 s64
+unfoldable pub kindWires : List ℕ
+kindWires = 7 ∷ 1 ∷ 5 ∷ 0 ∷ 0 ∷ 0 ∷ 1 ∷ 5 ∷ 0 ∷ 2 ∷ 7 ∷ 2 ∷ 2 ∷ 0 ∷ 0 ∷ 5 ∷ 1 ∷ 0 ∷ 0 ∷ []
+
+-- The same of our own kinds, from 19 on: 20 packed head, 21 to 24 unknown; 25 and 26 are the start and the end of a group, which give no record.
+--         19  20  21  22  23  24  25  26
+unfoldable pub ownWires : List ℕ
+ownWires = 7 ∷ 2 ∷ 0 ∷ 1 ∷ 2 ∷ 5 ∷ 3 ∷ 4 ∷ []
+
+unfoldable pub wires : List ℕ
+unfolding kindWires ownWires
+wires = kindWires ++ ownWires
+
+-- what stands on the wire for each kind, 0 to 26
+unfoldable pub shapes : List Shape
+shapes =
+    other nothing
+    ∷ one fixed64 ∷ one fixed32 ∷ one uint64 ∷ one uint64 ∷ one int32 ∷ one fixed64  -- double float int64 uint64 int32 fixed64
+    ∷ one fixed32 ∷ one bool ∷ other string ∷ other nothing ∷ other message ∷ other bytes  -- fixed32 bool string - message bytes
+    ∷ one uint32 ∷ one int32 ∷ one sfixed32 ∷ one fixed64 ∷ one sint32 ∷ one sint64  -- uint32 enum sfixed32 sfixed64 sint32 sint64
+    ∷ other nothing ∷ other packed ∷ one uint64 ∷ one fixed64 ∷ other bytes ∷ one fixed32 ∷ other startGroup ∷ other endGroup ∷ []
+
+unfoldable pub wire : ℕ → ℕ
+unfolding wires
+wire kind = getD wires kind 7
+
+unfoldable pub shape : ℕ → Shape
+unfolding shapes
+shape kind = getD shapes kind (other nothing)
+
+unfoldable pub isScalar : Shape → Bool
+isScalar (one c) = true
+isScalar (other x) = false
+
+-- a pattern of 64 bits whose signed number has 32 bits
+abbrev pub signed32 : ℕ → Bool
+signed32 v = ltb v (2 ^ 31) || between (2 ^ 64 - 2 ^ 31) (2 ^ 64 - 1) v
+
+-- the pattern of a signed number of 32 bits
+unfoldable pub extend : ℕ → ℕ
+extend v = if ltb v (2 ^ 31) then v else v + (2 ^ 64 - 2 ^ 32)
+
+-- how it is read
+unfoldable pub scalar : Scalar → List ℕ → Read
+scalar int32 s = require 5 signed32 (varint64 s)
+scalar uint32 s = varint32 s
+scalar uint64 s = varint64 s
+scalar bool s = meaning (min 1) (varint64 s)
+scalar sint32 s = meaning unzigzag (varint32 s)
+scalar sint64 s = meaning unzigzag (varint64 s)
+scalar fixed32 s = fixed 4 s
+scalar sfixed32 s = meaning extend (fixed 4 s)
+scalar fixed64 s = fixed 8 s
+
+-- how a value is written, and which values fit
+unfoldable pub encoded : Scalar → ℕ → List ℕ
+encoded int32 v = encode v
+encoded uint32 v = encode v
+encoded uint64 v = encode v
+encoded bool v = encode v
+encoded sint32 v = encode (zigzag v)
+encoded sint64 v = encode (zigzag v)
+encoded fixed32 v = little 4 v
+encoded sfixed32 v = little 4 v
+encoded fixed64 v = little 8 v
+
+unfoldable pub fits : Scalar → ℕ → Bool
+fits int32 v = signed32 v
+fits uint32 v = ltb v (2 ^ 32)
+fits uint64 v = ltb v (2 ^ 64)
+fits bool v = ltb v 2
+fits sint32 v = signed32 v
+fits sint64 v = ltb v (2 ^ 64)
+fits fixed32 v = ltb v (2 ^ 32)
+fits sfixed32 v = signed32 v
+fits fixed64 v = ltb v (2 ^ 64)

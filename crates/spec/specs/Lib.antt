@@ -1,0 +1,12 @@
+pub mod Base
+pub mod Varint
+pub mod Utf8
+pub mod Kind
+pub mod Schema
+pub mod Record
+pub mod Skip
+pub mod Document
+pub mod Reading
+pub mod Sizes
+pub mod Writing
+pub mod Pull

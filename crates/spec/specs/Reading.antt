@@ -1,0 +1,159 @@
+-- What bytes read as under a schema. Assumes nothing: these are definitions.
+use Prim.Native.Nat.{ℕ, zero, suc, _+_, _/_, _%_}
+use mathlib.Core.Bool.{Bool, true, false}
+use mathlib.Core.List.{List, [], _∷_, _++_}
+use mathlib.Core.Option.{Option, none, some}
+use lib.ListN.{length, drop}
+use lib.Dec.{leb, ltb, eqb}
+use Rattle.spec.specs.Base.{if_then_else_, part, limit, Read, Took, No}
+use Rattle.spec.specs.Varint.{varint32, varint64, tag}
+use Rattle.spec.specs.Utf8.{utf8}
+use Rattle.spec.specs.Kind.{Scalar, Shape, one, other, string, bytes, message, packed, startGroup, endGroup, nothing, shape, scalar}
+use Rattle.spec.specs.Schema.{Schema, badSchema, lookup, kindOf}
+use Rattle.spec.specs.Skip.{content, outerGroup}
+use Rattle.spec.specs.Record.{Record, row}
+use Rattle.spec.specs.declared.Entry.{Entry}
+
+-- ---- one field
+
+-- The field at the front of some bytes; `start` and `end` count from its tag's first byte.
+pub data Field : Type 0 where
+  Value : (number kind value start end : ℕ) → Field  -- one record
+  Message : (number child start end : ℕ) → Field  -- a head, with fields of the type `child` for its content
+  Packed : (number kind start end : ℕ) → Field  -- a head, with values of this kind for its content
+  Dropped : (number end : ℕ) → Field  -- a group that is skipped
+  Fault : (number place : ℕ) → Field  -- a refusal; its place counts from the tag too
+
+unfoldable pub given : Read → (ℕ → ℕ → Field) → Field
+given (Took v n) f = f v n
+given (No k) f = Fault k 0
+
+-- The field m of this kind, whose tag took n bytes, with s behind them; e is its entry.
+unfoldable pub shaped : Shape → (depth : ℕ) → Entry → (m kind n : ℕ) → List ℕ → Field
+shaped (one c) depth e m kind n s = given (scalar c s) λ v l. Value m kind v n (n + l)
+shaped (other string) depth e m kind n s =
+    given (content varint32 s) λ a z. if utf8 (part a z s) then Value m kind 0 (n + a) (n + z) else Fault 6 0
+shaped (other bytes) depth e m kind n s = given (content varint32 s) λ a z. Value m kind 0 (n + a) (n + z)
+shaped (other message) depth e m kind n s =
+    if leb 100 depth then Fault 7 0 else
+    given (content varint64 s) λ a z. Message m (e .child) (n + a) (n + z)
+shaped (other packed) depth e m kind n s = given (content varint64 s) λ a z. Packed m (e .kind) (n + a) (n + z)
+shaped (other startGroup) depth e m kind n s = given (outerGroup depth s) λ v l. Dropped m (n + l)
+shaped (other endGroup) depth e m kind n s = Fault 4 0
+shaped (other nothing) depth e m kind n s = Fault 3 0  -- no kind of a valid schema
+
+-- the field at the front of s, in a message of this type and depth
+unfoldable pub field : Schema → ℕ → ℕ → List ℕ → Field
+field sch depth type s =
+    given (tag s) λ t n.
+    let e = lookup (sch .entries) type (t / 8) in
+    let kind = kindOf e (t % 8) in
+    shaped (shape kind) depth e (t / 8) kind n (drop n s)
+
+-- how many bytes it took
+unfoldable pub used : Field → ℕ
+used (Value number kind value start end) = end
+used (Message number child start end) = end
+used (Packed number kind start end) = end
+used (Dropped number end) = end
+used (Fault number place) = 0
+
+-- ---- a message
+
+-- A reading: its records in order, and then how it ended: well, or with a refusal's number and place.
+infixr 20 _then_
+pub data Reading : Type 0 where
+  Done : Reading
+  Refused : ℕ → ℕ → Reading
+  _then_ : Record → Reading → Reading
+
+-- one after the other, where the first ends well
+infixr 20 _followed-by_
+unfoldable pub _followed-by_ : Reading → Reading → Reading
+Done followed-by q = q
+Refused n p followed-by q = Refused n p
+(r then p) followed-by q = r then (p followed-by q)
+
+-- records, and then a reading: `after rs Done` is the records rs and no refusal
+unfoldable pub after : List Record → Reading → Reading
+after [] q = q
+after (r ∷ rs) q = r then after rs q
+
+-- The values in a packed field's content s, which stands at `at`; t is the place of the field's tag.
+-- k is no less than the number of bytes.
+unfoldable pub element : Read → ℕ → (ℕ → ℕ → Reading) → Reading
+element (Took v n) t next = next v n
+element (No k) t next = Refused k t
+
+unfoldable pub elements : ℕ → Scalar → (depth number kind t at : ℕ) → List ℕ → Reading
+elements zero c d m kind t at s = Done
+elements (suc k) c d m kind t at [] = Done
+elements (suc k) c d m kind t at (b ∷ s) =
+    element (scalar c (b ∷ s)) t λ v n.
+    row d m kind v at (at + n) t then elements k c d m kind t (at + n) (drop n (b ∷ s))
+
+-- the elements of a kind that is one number; no other kind is packed
+unfoldable pub contents : Shape → (depth number kind t at : ℕ) → List ℕ → Reading
+contents (one c) d m kind t at s = elements (length s) c d m kind t at s
+contents (other x) d m kind t at s = Done
+
+-- The records of one field of a message at this depth, whose tag stands at `at`; `inner` reads the content of a message.
+-- Skipped groups and empty packed fields give no record.
+unfoldable pub records : (ℕ → ℕ → List ℕ → Reading) → ℕ → ℕ → List ℕ → Field → Reading
+records inner depth at s (Value m kind v a e) = row depth m kind v (at + a) (at + e) at then Done
+records inner depth at s (Message m child a e) =
+    row depth m 11 0 (at + a) (at + e) at then inner child (at + a) (part a e s)
+records inner depth at s (Packed m kind a e) =
+    let all = row depth m 20 0 (at + a) (at + e) at then contents (shape kind) (depth + 1) m kind at (at + a) (part a e s) in
+    if eqb a e then Done else all
+records inner depth at s (Dropped m e) = Done
+records inner depth at s (Fault m p) = Refused m (at + p)
+
+-- The fields s of a message of this depth and type, which stand at `at`. k is no less than the number of bytes.
+unfoldable pub fields : ℕ → Schema → (depth type at : ℕ) → List ℕ → Reading
+fields zero sch depth type at s = Done
+fields (suc k) sch depth type at [] = Done
+fields (suc k) sch depth type at (b ∷ s) =
+    let x = field sch depth type (b ∷ s) in
+    let rest = fields k sch depth type (at + used x) (drop (used x) (b ∷ s)) in
+    records (λ child a u. fields k sch (depth + 1) child a u) depth at (b ∷ s) x followed-by rest
+
+unfoldable pub read : Schema → (depth type at : ℕ) → List ℕ → Reading
+read sch depth type at s = fields (length s) sch depth type at s
+
+-- ---- the call
+
+-- with room for n records
+unfoldable pub within : ℕ → Reading → Reading
+within n Done = Done
+within n (Refused k p) = Refused k p
+within zero (r then q) = Refused 8 (r .tag)
+within (suc n) (r then q) = r then within n q
+
+unfoldable pub refusedOr : Option ℕ → Reading → Reading
+refusedOr none q = q
+refusedOr (some i) q = Refused 9 i
+
+unfoldable pub reading : Schema → ℕ → List ℕ → Reading
+reading sch room s =
+    if ltb limit (length s) then Refused 11 0 else
+    refusedOr (badSchema sch) (within room (read sch 0 0 0 s))
+
+-- ---- its parts: number, place and records, whose count is their length
+
+unfoldable pub number : Reading → ℕ
+number Done = 0
+number (Refused k p) = k
+number (r then q) = number q
+
+unfoldable pub place : Reading → ℕ
+place Done = 0
+place (Refused k p) = p
+place (r then q) = place q
+
+unfoldable pub listed : Reading → List Record
+listed Done = []
+listed (Refused k p) = []
+listed (r then q) = r ∷ listed q
+
+-- The room, of `stride` numbers a record, then holds `filled (stored (listed q)) room`.

@@ -1,0 +1,58 @@
+-- A record, and how lists of records stand in lent numbers. Assumes nothing: these are definitions.
+use Prim.Native.Nat.{ℕ, zero, suc, _+_}
+use mathlib.Core.List.{List, [], _∷_, _++_}
+use lib.ListN.{length, drop, getD}
+use lib.Dec.{ltb}
+use Rattle.spec.specs.Base.{if_then_else_}
+
+-- the six numbers of a record, and the place of its field's tag, which refusal 8 tells
+pub record Record : Type 0 where
+  pub depth : ℕ
+  pub number : ℕ
+  pub kind : ℕ
+  pub value : ℕ
+  pub start : ℕ
+  pub stop : ℕ
+  pub tag : ℕ
+
+abbrev pub row : (depth number kind value start stop tag : ℕ) → Record
+row d n k v a e t = record { depth = d; number = n; kind = k; value = v; start = a; stop = e; tag = t }
+
+-- how many records in front stand deeper than d
+unfoldable pub deeper : ℕ → List Record → ℕ
+deeper d [] = 0
+deeper d (r ∷ rs) =
+    let more = deeper d rs + 1 in
+    if ltb d (r .depth) then more else 0
+
+-- ---- as numbers, one record behind the other
+
+-- how many numbers a record has; those that are stored; the record that stands at the front of some numbers
+abbrev pub stride : ℕ
+stride = 6
+
+unfoldable pub numbers : Record → List ℕ
+numbers r = r .depth ∷ r .number ∷ r .kind ∷ r .value ∷ r .start ∷ r .stop ∷ []
+
+abbrev pub loaded : List ℕ → Record
+loaded ns = row (getD ns 0 0) (getD ns 1 0) (getD ns 2 0) (getD ns 3 0) (getD ns 4 0) (getD ns 5 0) 0
+
+unfoldable pub stored : List Record → List ℕ
+stored [] = []
+stored (r ∷ rs) = numbers r ++ stored rs
+
+-- A rest of fewer numbers than a record has is a broken record: of depth 0, so that a packed head before it has no record one deeper behind it,
+-- and of kind 0, which no list may have.
+abbrev pub broken : Record
+broken = row 0 0 0 0 0 0 0
+
+-- the records that some numbers are; k is no less than the count of the numbers
+unfoldable pub recordsUpTo : ℕ → List ℕ → List Record
+recordsUpTo zero ns = []
+recordsUpTo (suc k) [] = []
+recordsUpTo (suc k) (n ∷ ns) =
+    let more = loaded (n ∷ ns) ∷ recordsUpTo k (drop stride (n ∷ ns)) in
+    if ltb (length (n ∷ ns)) stride then broken ∷ [] else more
+
+unfoldable pub recordsOf : List ℕ → List Record
+recordsOf ns = recordsUpTo (length ns) ns

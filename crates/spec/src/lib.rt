@@ -1,0 +1,10 @@
+// The definitions are in specs/ and the laws about them in proofs/; the only code is what a schema is made of.
+
+// A schema's entry: the field `number` of the message type `owner` has this kind; `child` is the type of a message (kind 11), else 0.
+pub struct Entry {
+    pub owner: u32,
+    pub number: u32,
+    pub kind: u32,
+    pub repeated: bool,
+    pub child: u32,
+}
