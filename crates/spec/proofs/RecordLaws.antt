@@ -1,13 +1,14 @@
 -- Laws of the list of records: one reading behind another, records put before one, and the room for them.
 -- Assumes nothing.
-use Prim.Native.Nat.{ℕ, zero, suc, _+_, _-_, _≤_, _<_}
+use Prim.Native.Nat.{ℕ, zero, suc, _+_, _-_, _*_, _/_, _≤_, _<_}
 use native.Mathlib.Omega.{arith}
 use native.Mathlib.Nat.{suc-sub-suc, le-of-suc-le-suc, not-suc-le-zero, sub-zero}
 use mathlib.Core.Path.{_≡_, refl, sym, ap, _∙_}
 use mathlib.Core.List.{List, [], _∷_, _++_}
-use lib.ListN.{length}
-use Rattle.spec.specs.Record.{Record, numbers, stored}
-use Rattle.spec.specs.Reading.{Reading, Done, Refused, _then_, _followed-by_, within, number, place, listed, after}
+use lib.ListN.{length, take, drop, length-append, length-drop}
+use lib.Seq.{drop-at}
+use Rattle.spec.specs.Record.{Record, stride, numbers, stored}
+use Rattle.spec.specs.Reading.{Reading, Done, Refused, _then_, _followed-by_, within, number, place, listed, after, roomAfter}
 
 pub followed-assoc : (p q r : Reading) → ((p followed-by q) followed-by r) ≡ (p followed-by (q followed-by r))
 unfolding _followed-by_
@@ -57,3 +58,32 @@ pub within-full : (rs : List Record) (r : Record) (q : Reading) → within (leng
 unfolding after within
 within-full [] r q = refl
 within-full (x ∷ rs) r q = ap (_then_ x) (within-full rs r q)
+
+-- ---- the room: what is stored fits it, and nothing behind the records is touched
+
+pub within-fits : (n : ℕ) (q : Reading) → length (listed (within n q)) ≤ n
+unfolding within listed
+within-fits n Done = omega arith
+within-fits n (Refused k p) = omega arith
+within-fits zero (r then q) = omega arith
+within-fits (suc n) (r then q) = omega (arith, within-fits n q)
+
+pub stored-length : (rs : List Record) → length (stored rs) ≡ stride * length rs
+unfolding stored numbers
+stored-length [] = refl
+stored-length (r ∷ rs) = omega (arith, stored-length rs)
+
+module _ (q : Reading) (room : List ℕ) (fits : length (listed q) ≤ length room / stride) where
+  pub room-kept : length (roomAfter q room) ≡ length room
+  room-kept =
+      omega (
+        arith,
+        length-append (stored (listed q)) (drop (length (stored (listed q))) room),
+        length-drop (length (stored (listed q))) room,
+        stored-length (listed q),
+      )
+
+  pub room-behind : drop (stride * length (listed q)) (roomAfter q room) ≡ drop (stride * length (listed q)) room
+  room-behind =
+      drop-at (stored (listed q)) (drop (length (stored (listed q))) room) (stride * length (listed q)) (stored-length (listed q))
+      ∙ ap (λ (n : ℕ). drop n room) (stored-length (listed q))

@@ -5,13 +5,13 @@ use mathlib.Core.List.{List, [], _∷_, _++_}
 use mathlib.Core.Option.{Option, none, some}
 use lib.ListN.{length, drop}
 use lib.Dec.{leb, ltb, eqb}
-use Rattle.spec.specs.Base.{if_then_else_, part, limit, Read, Took, No}
+use Rattle.spec.specs.Base.{if_then_else_, part, filled, limit, Read, Took, No}
 use Rattle.spec.specs.Varint.{varint32, varint64, tag}
 use Rattle.spec.specs.Utf8.{utf8}
 use Rattle.spec.specs.Kind.{Scalar, Shape, one, other, string, bytes, message, packed, startGroup, endGroup, nothing, shape, scalar}
 use Rattle.spec.specs.Schema.{Schema, badSchema, lookup, kindOf}
 use Rattle.spec.specs.Skip.{content, outerGroup}
-use Rattle.spec.specs.Record.{Record, row}
+use Rattle.spec.specs.Record.{Record, row, stored}
 use Rattle.spec.specs.declared.Entry.{Entry}
 
 -- ---- one field
@@ -156,4 +156,6 @@ listed Done = []
 listed (Refused k p) = []
 listed (r then q) = r ∷ listed q
 
--- The room, of `stride` numbers a record, then holds `filled (stored (listed q)) room`.
+-- what the lent room, of `stride` numbers a record, then holds: the records, and behind them what it held
+abbrev pub roomAfter : Reading → List ℕ → List ℕ
+roomAfter q room = filled (stored (listed q)) room
