@@ -10,14 +10,14 @@ use mathlib.Core.Option.{Option, none, some}
 use lib.ListN.{length, take, drop, getD, length-append, length-take, length-drop}
 use lib.Seq.{take-length, drop-length}
 use lib.Dec.{leb, ltb, eqb}
-use borrow.Author.Tests.{le-leb, lt-leb, leb-true, ltb-true, ltb-false}
-use Rattle.spec.specs.Base.{if_then_else_, part, limit, Took, No, limited}
+use borrow.Author.Tests.{le-ltb, le-leb, lt-leb, leb-true, ltb-true, ltb-false}
+use Rattle.spec.specs.Base.{if_then_else_, between, part, limit, Took, No, limited}
 use Rattle.spec.specs.Varint.{encode, tagSize, zigzag}
 use Rattle.spec.specs.Utf8.{utf8}
 use Rattle.spec.specs.Kind.{Scalar, int32, uint32, uint64, bool, sint32, sint64, fixed32, sfixed32, fixed64, Shape, one, other, string, bytes, message, packed, startGroup, endGroup, nothing, wires, wire, shape, encoded, fits}
 use Rattle.spec.specs.Schema.{Schema, badSchema}
 use Rattle.spec.specs.Record.{Record, row, deeper}
-use Rattle.spec.specs.Sizes.{scalarSize, prefixedSize, valueSize, fieldSize, valuesSize, packedSize, bodySize, sizeUpTo, sizeOf}
+use Rattle.spec.specs.Sizes.{scalarSize, prefixedSize, valueSize, fieldSize, valuesSize, packedSize, bodySize, unknownsSize, unknownFieldsSize, sizeUpTo, sizeOf}
 use Rattle.spec.specs.Writing.{prefixed, body, tagOf, bytesOf, written, Place, Fields, expected, lies, fitting, nextDeeper, around, inside, recordFault, Verdict, Fine, Faulty, orElse, listFault, schemaFirst, listCheck, Writing, Wrote, Failed, number, size, output, judged, sized, writing, sizing}
 use Rattle.spec.proofs.Laws.{either-way, chosen}
 use Rattle.spec.proofs.VarintLaws.{length-encode, size-one, size-ten, length-tag, length-little}
@@ -351,3 +351,29 @@ module _ (kind m : ℕ) (c : Scalar) (sh : shape kind ≡ one c) where
       ap (λ (x : Shape). limited (tagSize m + prefixedSize (valuesSize x (v ∷ vs)))) sh
       ∙ ap limited (sym (size-head (v ∷ vs))
       ∙ size-bytes (length whole) true [] whole (held-cons (λ k. absurd (false≢true (sym (ap hasContent shape-20) ∙ k))) (elements-held (v ∷ vs))))
+
+-- records of the unknown kinds, at one depth
+pub data Unknowns (payload : List ℕ) (d : ℕ) : List Record → Type 0 where
+  no-unknown : Unknowns payload d []
+  unknown : {r : Record} {rs : List Record} → r .depth ≡ d → between 21 24 (r .kind) ≡ true
+      → (hasContent (shape (r .kind)) ≡ true → lies payload r ≡ true) → Unknowns payload d rs → Unknowns payload d (r ∷ rs)
+
+unknowns-held : {payload : List ℕ} {d : ℕ} {rs : List Record} → Unknowns payload d rs → Held payload rs
+unknowns-held no-unknown = held-nil
+unknowns-held (unknown dep kin l rest) = held-cons l (unknowns-held rest)
+
+unknowns-level : {payload : List ℕ} {d : ℕ} {rs : List Record} → Unknowns payload d rs → deeper d rs ≡ 0
+unfolding deeper
+unknowns-level no-unknown = refl
+unknowns-level {d = d} (unknown {r} {rs} dep kin l rest) = ap (λ (b : Bool). if b then deeper d rs + 1 else 0) (le-ltb d (r .depth) (omega arith))
+
+unknowns-size : {payload : List ℕ} {d : ℕ} {rs : List Record} → Unknowns payload d rs → unknownsSize rs ≡ sizeIn true rs
+unfolding unknownsSize sizeUpTo
+unknowns-size no-unknown = refl
+unknowns-size (unknown {r} {rs} dep kin l rest) =
+    ap₂ (λ (b : Bool) (n : ℕ). (if b then tagSize (r .number) + bodySize (shape (r .kind)) r 0 else 0) + n) kin (unknowns-size rest)
+    ∙ sym (size-cons true r rs ∙ rw (ap (λ (k : ℕ). deeper k rs) dep ∙ unknowns-level rest) refl)
+
+pub size-unknowns : {payload : List ℕ} {d : ℕ} {rs : List Record} → Unknowns payload d rs → unknownFieldsSize rs ≡ limited (length (written payload rs))
+unfolding unknownFieldsSize written
+size-unknowns {payload} {rs = rs} u = ap limited (unknowns-size u ∙ size-bytes (length rs) true payload rs (unknowns-held u))
