@@ -1,6 +1,6 @@
 -- Sizes are the lengths of what is written: of a value, a tag, a field and a list, level by level. No bound on them is asked for, so that a
--- list's size tells what is above the size limit as well. Assumes nothing.
-use Prim.Native.Nat.{ℕ, zero, suc, _+_, _-_, _*_, _^_, _≤_, _<_}
+-- list's size tells what is above the size limit as well. Then what the calls that write and that tell sizes answer. Assumes nothing.
+use Prim.Native.Nat.{ℕ, zero, suc, _+_, _-_, _^_, _≤_, _<_}
 use native.Mathlib.Omega.{arith}
 use mathlib.Core.Path.{_≡_, refl, sym, ap, ap₂, _∙_}
 use mathlib.Core.Logic.{_≢_}
