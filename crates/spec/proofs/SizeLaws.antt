@@ -247,6 +247,21 @@ module _ {room : ℕ} {b : List ℕ} where
   size-short (above h) e = absurd (omega arith)
   size-short (faulty h j) e = absurd (omega arith)
 
+-- so the answer for a list without fault can be told from its size, before a byte is written
+after-schema : (bad : Option ℕ) (v : Verdict) → schemaFirst bad v ≡ Fine → v ≡ Fine
+unfolding schemaFirst
+after-schema none v e = e
+after-schema (some i) v e = let z : _≡_ {A = ℕ} 0 1 = cc in absurd (omega arith)
+
+pub writing-by-size : (sch : Schema) (room : ℕ) (payload : List ℕ) (rs : List Record) → listCheck sch payload rs ≡ Fine
+    → writing sch room payload rs
+    ≡ (if ltb limit (sizeOf rs) then Failed 11 0 0 else if ltb room (sizeOf rs) then Failed 12 (sizeOf rs) 0 else Wrote (written payload rs))
+unfolding writing listCheck judged sized
+writing-by-size sch room payload rs e =
+    ap (λ (v : Verdict). judged v (sized room (written payload rs))) e
+    ∙ ap (λ (n : ℕ). if ltb limit n then Failed 11 0 0 else if ltb room n then Failed 12 n 0 else Wrote (written payload rs))
+    (sym (size-written sch payload rs (after-schema (badSchema sch) (listFault sch payload 0 (Fields 0 ∷ []) rs) e)))
+
 -- the size call never lacks room
 pub sizing-roomy : (sch : Schema) (payload : List ℕ) (rs : List Record) → number (sizing sch payload rs) ≢ 12
 unfolding sizing
