@@ -11,4 +11,5 @@ pub mod FlatLaws
 pub mod RoundTrip
 pub mod ListLaws
 pub mod TreeLaws
+pub mod SizeLaws
 pub mod Cases

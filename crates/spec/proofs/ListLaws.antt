@@ -149,14 +149,14 @@ bytes-run tags payload r xs ys o l =
 -- ---- what a record without fault says
 
 module _ (sch : Schema) (payload : List ℕ) where
-  record Sound (here : Place) (r : Record) (rs : List Record) : Type 0 where
+  pub record Sound (here : Place) (r : Record) (rs : List Record) : Type 0 where
     is-expected : expected sch here r ≡ true
-    is-fitting : fitting (shape (r .kind)) payload r ≡ true
+    pub is-fitting : fitting (shape (r .kind)) payload r ≡ true
     followed : eqb (r .kind) 20 ≡ true → nextDeeper r rs ≡ true
     shallow : eqb (r .kind) 11 ≡ true → r .depth < 100
     is-text : eqb (r .kind) 9 ≡ true → utf8 (part (r .start) (r .stop) payload) ≡ true
 
-  sound-record : (here : Place) (out : List Place) (r : Record) (rs : List Record) → recordFault sch payload (here ∷ out) r rs ≡ 0 → Sound here r rs
+  pub sound-record : (here : Place) (out : List Place) (r : Record) (rs : List Record) → recordFault sch payload (here ∷ out) r rs ≡ 0 → Sound here r rs
   unfolding recordFault
   sound-record here out r rs e =
       let a = pass (expected sch here r) 9 _ e in
@@ -194,7 +194,7 @@ module _ (sch : Schema) (payload : List ℕ) where
       }
 
   -- the first record's verdict, and the later ones'
-  first-fine : (k i : ℕ) (later : Verdict) → orElse k i later ≡ Fine → (k ≡ 0) × (later ≡ Fine)
+  pub first-fine : (k i : ℕ) (later : Verdict) → orElse k i later ≡ Fine → (k ≡ 0) × (later ≡ Fine)
   first-fine zero i later e = (refl, e)
   first-fine (suc k) i later e = let z : _≡_ {A = ℕ} 0 1 = cc in absurd (omega arith)
 
