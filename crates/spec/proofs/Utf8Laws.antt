@@ -5,11 +5,11 @@ use native.Mathlib.Omega.{arith}
 use mathlib.Core.Path.{_≡_, refl, sym, ap, _∙_, subst}
 use mathlib.Core.Bool.{Bool, true, false, _&&_, false≢true}
 use mathlib.Core.List.{List, [], _∷_}
-use lib.ListN.{length, drop, length-drop}
+use lib.ListN.{length, take, drop, getD, length-drop}
 use lib.Dec.{leb, ltb, eqb}
-use borrow.Author.Tests.{eqb-true, eqb-false}
+use borrow.Author.Tests.{eqb-true, eqb-false, ne-eqb, eq-eqb, le-leb}
 use Rattle.spec.specs.Base.{if_then_else_, between}
-use Rattle.spec.specs.Utf8.{Lead, Follow, NoLead, lead, followers, behind, char, chars, validPrefix}
+use Rattle.spec.specs.Utf8.{Lead, Follow, NoLead, lead, followers, behind, char, chars, validPrefix, utf8}
 use Rattle.spec.proofs.Laws.{chosen}
 
 and-right : (a b : Bool) → (a && b) ≡ true → b ≡ true
@@ -65,3 +65,39 @@ chars-enough (suc f) (suc g) s hf hg =
     positive : (n : ℕ) → (n ≡ 0 → ⊥) → 1 ≤ n
     positive zero h = absurd (h refl)
     positive (suc n) h = omega arith
+
+-- ---- the equations with no count, for a loop that goes over a slice character by character
+
+-- where the bytes end, the loop has passed what was to be passed
+pub prefix-nil : validPrefix [] ≡ 0
+unfolding validPrefix chars
+prefix-nil = refl
+
+-- where no character stands, the valid prefix ends
+pub prefix-stop : (s : List ℕ) → char s ≡ 0 → validPrefix s ≡ 0
+unfolding validPrefix chars
+prefix-stop [] e = refl
+prefix-stop (b ∷ s) e = simp e
+
+-- a turn of the loop: a character is passed
+pub prefix-step : (s : List ℕ) → 0 < char s → validPrefix s ≡ char s + validPrefix (drop (char s) s)
+unfolding validPrefix chars
+prefix-step [] h = absurd (omega (arith, char-le []))
+prefix-step (b ∷ s) h =
+    rw (ne-eqb (char (b ∷ s)) 0 (λ e. omega arith))
+    (ap (λ (n : ℕ). char (b ∷ s) + n)
+    (chars-enough (length s) (length (drop (char (b ∷ s)) (b ∷ s))) (drop (char (b ∷ s)) (b ∷ s)) (omega (arith, length-drop (char (b ∷ s)) (b ∷ s))) (omega arith)))
+
+-- a byte of ASCII is a character, so that a loop may take it without a look at what follows
+pub char-ascii : (b : ℕ) (s : List ℕ) → b < 128 → char (b ∷ s) ≡ 1
+unfolding char lead behind followers
+char-ascii b s h = simp (le-leb b 0x7f (omega arith))
+
+-- a run of ASCII is passed at once, for a loop that tests several bytes in a turn
+pub prefix-ascii : (n : ℕ) (s : List ℕ) → n ≤ length s → ((k : ℕ) → k < n → getD s k 0 < 128) → validPrefix s ≡ n + validPrefix (drop n s)
+prefix-ascii zero s h low = omega arith
+prefix-ascii (suc n) [] h low = absurd (omega arith)
+prefix-ascii (suc n) (b ∷ s) h low =
+    let one : char (b ∷ s) ≡ 1 = char-ascii b s (low 0 (omega arith)) in
+    let step : validPrefix (b ∷ s) ≡ 1 + validPrefix s = rw one at (prefix-step (b ∷ s) (omega arith)) in
+    omega (arith, prefix-ascii n s (omega arith) (λ k l. low (suc k) (omega arith)))
