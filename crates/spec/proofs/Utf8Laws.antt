@@ -3,12 +3,12 @@
 -- Assumes nothing.
 use Prim.Native.Nat.{ℕ, zero, suc, _+_, _-_, _≤_, _<_}
 use native.Mathlib.Omega.{arith}
-use mathlib.Core.Path.{_≡_, refl, sym, ap, _∙_, subst}
+use mathlib.Core.Path.{_≡_, refl, sym, ap, _∙_}
 use mathlib.Core.Bool.{Bool, true, false, _&&_, false≢true}
 use mathlib.Core.List.{List, [], _∷_, _++_, append-assoc}
 use lib.ListN.{length, take, drop, getD, length-append, length-drop, take-append-drop}
 use lib.Seq.{length-take-le, take-add, drop-at}
-use lib.Dec.{leb, ltb, eqb}
+use lib.Dec.{eqb}
 use borrow.Author.Tests.{eqb-true, eqb-false, ne-eqb, eq-eqb, le-leb}
 use Rattle.spec.specs.Base.{if_then_else_, between}
 use Rattle.spec.specs.Utf8.{Lead, Follow, NoLead, lead, followers, behind, char, chars, validPrefix, utf8}
@@ -107,7 +107,7 @@ prefix-ascii (suc n) (b ∷ s) h low =
 -- ---- the name is right: the longest valid prefix is valid, and it is the longest
 
 -- what holds where no character stands, and before a character where it holds behind it, holds of all bytes
-pub by-chars {ℓ} : (P : List ℕ → Type ℓ) → ((s : List ℕ) → char s ≡ 0 → P s)
+by-chars {ℓ} : (P : List ℕ → Type ℓ) → ((s : List ℕ) → char s ≡ 0 → P s)
     → ((n : ℕ) (s : List ℕ) → char s ≡ suc n → P (drop (suc n) s) → P s) → (s : List ℕ) → P s
 unfolding char
 by-chars P stop step s = go (length s) s (omega arith)
@@ -140,7 +140,7 @@ behind-front (Follow m lo hi) n s t e = go (followers m lo hi s) refl e
         rw g e
 
 -- a character is told by its own bytes, whatever stands behind them
-pub char-front : (n : ℕ) (s t : List ℕ) → char s ≡ suc n → char (take (suc n) s ++ t) ≡ suc n
+char-front : (n : ℕ) (s t : List ℕ) → char s ≡ suc n → char (take (suc n) s ++ t) ≡ suc n
 unfolding char
 char-front n [] t e = absurd (omega arith)
 char-front n (b ∷ s) t e = behind-front (lead b) n s t e
@@ -150,22 +150,30 @@ prefix-front n s t e =
     let c : char (take (suc n) s ++ t) ≡ suc n = char-front n s t e in
     rw (c, drop-at (take (suc n) s) t (suc n) (length-take-le (suc n) s (omega (arith, char-le s)))) at (prefix-step (take (suc n) s ++ t) (omega arith))
 
+-- what holds of no bytes, and before a character where it holds behind it, holds of valid bytes
+pub by-valid {ℓ} : (P : List ℕ → Type ℓ) → P [] → ((n : ℕ) (s : List ℕ) → char s ≡ suc n → P (drop (suc n) s) → P s)
+    → (s : List ℕ) → utf8 s ≡ true → P s
+by-valid P empty step =
+    by-chars (λ (s : List ℕ). utf8 s ≡ true → P s)
+    (λ s e u. none s (omega (arith, eqb-true (validPrefix s) (length s) u, prefix-stop s e)))
+    (λ n s e ih u.
+    let t : List ℕ = drop (suc n) s in
+    let st : validPrefix s ≡ suc n + validPrefix t = rw e at (prefix-step s (omega arith)) in
+    step n s e (ih (eq-eqb (validPrefix t) (length t) (omega (arith, eqb-true (validPrefix s) (length s) u, length-drop (suc n) s)))))
+  where
+    none : (s : List ℕ) → length s ≡ 0 → P s
+    none [] e = empty
+    none (b ∷ s) e = absurd (omega arith)
+
 -- valid bytes in front are passed whole, so that valid strings put together are valid
 pub prefix-append : (s t : List ℕ) → utf8 s ≡ true → validPrefix (s ++ t) ≡ length s + validPrefix t
 prefix-append s t =
-    by-chars (λ (s : List ℕ). utf8 s ≡ true → validPrefix (s ++ t) ≡ length s + validPrefix t)
-    (λ s e u. none s (omega (arith, eqb-true (validPrefix s) (length s) u, prefix-stop s e)))
-    (λ n s e ih u.
+    by-valid (λ (s : List ℕ). validPrefix (s ++ t) ≡ length s + validPrefix t) (omega arith)
+    (λ n s e ih.
     let d : List ℕ = drop (suc n) s in
-    let st : validPrefix s ≡ suc n + validPrefix d = rw e at (prefix-step s (omega arith)) in
     let back : take (suc n) s ++ (d ++ t) ≡ s ++ t = sym (append-assoc (take (suc n) s) d t) ∙ ap (λ (x : List ℕ). x ++ t) (take-append-drop (suc n) s) in
-    let rest : validPrefix (d ++ t) ≡ length d + validPrefix t = ih (eq-eqb (validPrefix d) (length d) (omega (arith, eqb-true (validPrefix s) (length s) u, length-drop (suc n) s))) in
     let whole : validPrefix (s ++ t) ≡ suc n + validPrefix (d ++ t) = rw back at (prefix-front n s (d ++ t) e) in
     omega (arith, length-drop (suc n) s, char-le s)) s
-  where
-    none : (s : List ℕ) → length s ≡ 0 → validPrefix (s ++ t) ≡ length s + validPrefix t
-    none [] e = omega arith
-    none (b ∷ s) e = absurd (omega arith)
 
 -- what `validPrefix` counts is a valid prefix
 pub prefix-valid : (s : List ℕ) → utf8 (take (validPrefix s) s) ≡ true
