@@ -48,7 +48,7 @@ spell-four v l = simp (lt-leb v 0x7f (omega arith), lt-leb v 0x7ff (omega arith)
 
 -- ---- section 4 as facts about numbers
 
--- `followers`
+-- `followers`, as orders that `omega` reads and proves
 abbrev Followed : ℕ → ℕ → ℕ → List ℕ → Type 0
 Followed zero lo hi s = Unit
 Followed (suc n) lo hi [] = ⊥
@@ -88,32 +88,35 @@ Fourth b x = (0x80 ≤ x) × (x ≤ 0xbf) × (0x10 ≤ joined (b - 0xf0) x) × (
 abbrev Bounds : ℕ → ℕ → (ℕ → Type 0) → Type 0
 Bounds lo hi P = (x : ℕ) → ((lo ≤ x) × (x ≤ hi) → P x) × (P x → (lo ≤ x) × (x ≤ hi))
 
+abbrev Three : ℕ → ℕ → ℕ → Type 0
+Three b lo hi = (0xe0 ≤ b) × (b ≤ 0xef) × Bounds lo hi (Third b)
+
+abbrev Four : ℕ → ℕ → ℕ → Type 0
+Four b lo hi = (0xf0 ≤ b) × (b ≤ 0xf4) × Bounds lo hi (Fourth b)
+
+-- what the table says of a lead byte, by how many octets there are
 data Row (b : ℕ) : Lead → Type 0 where
   one : b ≤ 0x7f → Row b (Follow 0 0x80 0xbf)
   two : 0xc2 ≤ b → b ≤ 0xdf → Row b (Follow 1 0x80 0xbf)
-  three : {lo hi : ℕ} → 0xe0 ≤ b → b ≤ 0xef → Bounds lo hi (Third b) → Row b (Follow 2 lo hi)
-  four : {lo hi : ℕ} → 0xf0 ≤ b → b ≤ 0xf4 → Bounds lo hi (Fourth b) → Row b (Follow 3 lo hi)
+  three : {lo hi : ℕ} → Three b lo hi → Row b (Follow 2 lo hi)
+  four : {lo hi : ℕ} → Four b lo hi → Row b (Follow 3 lo hi)
   none : (0xc2 ≤ b → 0xf4 < b) → Row b NoLead
 
+-- Row by row: from c2 on each begins where the one before it ends, which `n` carries along.
 row : (b : ℕ) → Row b (lead b)
 unfolding lead joined
 row b =
     chosen (Row b) (leb b 0x7f) (λ e. one (leb-true b 0x7f e)) λ e.
     span 0xc2 0xdf (λ h. h) (λ l h. two l h) λ n.
-    spot 0xe0 n (λ e. third (omega arith) (omega arith) (omega arith)) λ n.
-    span 0xe1 0xec n (λ l h. third (omega arith) (omega arith) (omega arith)) λ n.
-    spot 0xed n (λ e. third (omega arith) (omega arith) (omega arith)) λ n.
-    span 0xee 0xef n (λ l h. third (omega arith) (omega arith) (omega arith)) λ n.
-    spot 0xf0 n (λ e. fourth (omega arith) (omega arith) (omega arith)) λ n.
-    span 0xf1 0xf3 n (λ l h. fourth (omega arith) (omega arith) (omega arith)) λ n.
-    spot 0xf4 n (λ e. fourth (omega arith) (omega arith) (omega arith)) λ n. none n
+    spot 0xe0 n (λ e. three (omega arith)) λ n.
+    span 0xe1 0xec n (λ l h. three (omega arith)) λ n.
+    spot 0xed n (λ e. three (omega arith)) λ n.
+    span 0xee 0xef n (λ l h. three (omega arith)) λ n.
+    spot 0xf0 n (λ e. four (omega arith)) λ n.
+    span 0xf1 0xf3 n (λ l h. four (omega arith)) λ n.
+    spot 0xf4 n (λ e. four (omega arith)) λ n.
+    none n
   where
-    third : {lo hi : ℕ} → 0xe0 ≤ b → b ≤ 0xef → Bounds lo hi (Third b) → Row b (Follow 2 lo hi)
-    third l h p = three l h p
-
-    fourth : {lo hi : ℕ} → 0xf0 ≤ b → b ≤ 0xf4 → Bounds lo hi (Fourth b) → Row b (Follow 3 lo hi)
-    fourth l h p = four l h p
-
     span : (lo hi : ℕ) {x y : Lead} → (0xc2 ≤ b → lo ≤ b) → (lo ≤ b → b ≤ hi → Row b x) → ((0xc2 ≤ b → hi < b) → Row b y) → Row b (if between lo hi b then x else y)
     span lo hi from inner outer =
         chosen (Row b) (between lo hi b)
@@ -134,8 +137,8 @@ char-two b x s l h p q = go (row b)
     go : {r : Lead} → Row b r → behind r (x ∷ s) ≡ 2
     go (one i) = absurd (omega arith)
     go (two i j) = rw (follows 1 0x80 0xbf (x ∷ s) (omega arith))
-    go (three i j f) = absurd (omega arith)
-    go (four i j f) = absurd (omega arith)
+    go (three f) = absurd (omega arith)
+    go (four f) = absurd (omega arith)
     go (none n) = absurd (omega (arith, n l))
 
 char-three : (b x y : ℕ) (s : List ℕ) → 0xe0 ≤ b → b ≤ 0xef → Third b x → 0x80 ≤ y → y ≤ 0xbf → char (b ∷ x ∷ y ∷ s) ≡ 3
@@ -145,8 +148,8 @@ char-three b x y s l h t p q = go (row b)
     go : {r : Lead} → Row b r → behind r (x ∷ y ∷ s) ≡ 3
     go (one i) = absurd (omega arith)
     go (two i j) = absurd (omega arith)
-    go (three {lo} {hi} i j f) = rw (follows 2 lo hi (x ∷ y ∷ s) (omega (arith, f x .1 t)))
-    go (four i j f) = absurd (omega arith)
+    go (three {lo} {hi} f) = rw (follows 2 lo hi (x ∷ y ∷ s) (omega (arith, f .2 x .1 t)))
+    go (four f) = absurd (omega arith)
     go (none n) = absurd (omega (arith, n (omega arith)))
 
 char-four : (b x y z : ℕ) (s : List ℕ) → 0xf0 ≤ b → b ≤ 0xf4 → Fourth b x → 0x80 ≤ y → y ≤ 0xbf → 0x80 ≤ z → z ≤ 0xbf → char (b ∷ x ∷ y ∷ z ∷ s) ≡ 4
@@ -156,8 +159,8 @@ char-four b x y z s l h t p q v w = go (row b)
     go : {r : Lead} → Row b r → behind r (x ∷ y ∷ z ∷ s) ≡ 4
     go (one i) = absurd (omega arith)
     go (two i j) = absurd (omega arith)
-    go (three i j f) = absurd (omega arith)
-    go (four {lo} {hi} i j f) = rw (follows 3 lo hi (x ∷ y ∷ z ∷ s) (omega (arith, f x .1 t)))
+    go (three f) = absurd (omega arith)
+    go (four {lo} {hi} f) = rw (follows 3 lo hi (x ∷ y ∷ z ∷ s) (omega (arith, f .2 x .1 t)))
     go (none n) = absurd (omega (arith, n (omega arith)))
 
 pub char-spell : {v : ℕ} → ScalarValue v → (s : List ℕ) → char (spell v ++ s) ≡ length (spell v)
@@ -175,10 +178,12 @@ char-spell {v} sv s =
 
 -- ---- a character of the table is a scalar value's octets
 
+-- what stands in front of s where its character is n long
 data Front (s : List ℕ) : ℕ → Type 0 where
   no-char : Front s 0
   is-char : {n v : ℕ} → ScalarValue v → take n s ≡ spell v → Front s n
 
+-- the octets of a value whose six lowest bits stand in the last octet, and the rest, joined likewise, in those before it
 made-two : (b u x v : ℕ) (s : List ℕ) → 0xc0 + u ≡ b → v / 64 ≡ u → six v ≡ x → 2 ≤ u → u ≤ 0x1f → Front (b ∷ x ∷ s) 2
 made-two b u x v s eb eu ex l h = is-char {n = 2} (is-scalar v (omega arith) (omega arith)) (cc (spell-two v (omega arith) (omega arith)))
 
@@ -198,22 +203,22 @@ front-two b (x ∷ s) l h f =
     let j = joined-parts (b - 0xc0) x (f .0) (f .1) in
     made-two b (b - 0xc0) x (joined (b - 0xc0) x) s (omega arith) (j .0) (j .1) (omega arith) (omega arith)
 
-front-three : (b lo hi : ℕ) (s : List ℕ) → 0xe0 ≤ b → b ≤ 0xef → Bounds lo hi (Third b) → Followed 2 lo hi s → Front (b ∷ s) 3
-front-three b lo hi [] l h t f = absurd f
-front-three b lo hi (x ∷ []) l h t f = absurd (f .2)
-front-three b lo hi (x ∷ y ∷ s) l h t f =
-    let k = t x .0 (f .0, f .1) in
+front-three : (b lo hi : ℕ) (s : List ℕ) → Three b lo hi → Followed 2 lo hi s → Front (b ∷ s) 3
+front-three b lo hi [] t f = absurd f
+front-three b lo hi (x ∷ []) t f = absurd (f .2)
+front-three b lo hi (x ∷ y ∷ s) t f =
+    let k = t .2 x .0 (f .0, f .1) in
     let u : ℕ = joined (b - 0xe0) x in
     let j = joined-parts (b - 0xe0) x (k .0) (k .1) in
     let i = joined-parts u y (f .2 .0) (f .2 .1) in
     made-three b u x (joined u y) y s (omega arith) (j .1) (i .0) (i .1) (k .2) (omega arith) (k .3)
 
-front-four : (b lo hi : ℕ) (s : List ℕ) → 0xf0 ≤ b → b ≤ 0xf4 → Bounds lo hi (Fourth b) → Followed 3 lo hi s → Front (b ∷ s) 4
-front-four b lo hi [] l h t f = absurd f
-front-four b lo hi (x ∷ []) l h t f = absurd (f .2)
-front-four b lo hi (x ∷ y ∷ []) l h t f = absurd (f .2 .2)
-front-four b lo hi (x ∷ y ∷ z ∷ s) l h t f =
-    let k = t x .0 (f .0, f .1) in
+front-four : (b lo hi : ℕ) (s : List ℕ) → Four b lo hi → Followed 3 lo hi s → Front (b ∷ s) 4
+front-four b lo hi [] t f = absurd f
+front-four b lo hi (x ∷ []) t f = absurd (f .2)
+front-four b lo hi (x ∷ y ∷ []) t f = absurd (f .2 .2)
+front-four b lo hi (x ∷ y ∷ z ∷ s) t f =
+    let k = t .2 x .0 (f .0, f .1) in
     let u : ℕ = joined (b - 0xf0) x in
     let j = joined-parts (b - 0xf0) x (k .0) (k .1) in
     let i = joined-parts u y (f .2 .0) (f .2 .1) in
@@ -228,12 +233,13 @@ front (b ∷ s) = go (row b)
     go : {r : Lead} → Row b r → Front (b ∷ s) (behind r s)
     go (one h) = is-char (is-scalar b (omega arith) (omega arith)) (sym (spell-one b h))
     go (two l h) = chosen (Front (b ∷ s)) (followers 1 0x80 0xbf s) (λ e. front-two b s l h (followed 1 0x80 0xbf s e)) (λ e. no-char)
-    go (three {lo} {hi} l h t) = chosen (Front (b ∷ s)) (followers 2 lo hi s) (λ e. front-three b lo hi s l h t (followed 2 lo hi s e)) (λ e. no-char)
-    go (four {lo} {hi} l h t) = chosen (Front (b ∷ s)) (followers 3 lo hi s) (λ e. front-four b lo hi s l h t (followed 3 lo hi s e)) (λ e. no-char)
+    go (three {lo} {hi} t) = chosen (Front (b ∷ s)) (followers 2 lo hi s) (λ e. front-three b lo hi s t (followed 2 lo hi s e)) (λ e. no-char)
+    go (four {lo} {hi} t) = chosen (Front (b ∷ s)) (followers 3 lo hi s) (λ e. front-four b lo hi s t (followed 3 lo hi s e)) (λ e. no-char)
     go (none n) = no-char
 
 -- ---- so the two say the same of any bytes
 
+-- so that a step is made
 some-octet : (v : ℕ) → 0 < length (spell v)
 unfolding spell
 some-octet v =
