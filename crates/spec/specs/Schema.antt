@@ -71,6 +71,21 @@ kindOf e w =
     if e .repeated && isScalar (shape (e .kind)) && eqb w 2 then 20 else
     unknownKind w
 
+-- What a schema says of a field: the kind that it is read as, and what is in it, which is the type of a message's fields or the kind of a
+-- packed field's elements (else 0).
+pub record Says : Type 0 where
+  pub kind : ℕ
+  pub inner : ℕ
+
+unfoldable pub saysOf : Entry → ℕ → Says
+saysOf e w =
+    let k = kindOf e w in
+    record { kind = k; inner = if eqb k 20 then e .kind else if eqb k 11 then e .child else 0 }
+
+-- of a tag in a message of this type
+unfoldable pub says : Schema → (type tag : ℕ) → Says
+says sch type t = saysOf (lookup (sch .entries) type (t / 8)) (t % 8)
+
 -- ---- as numbers, five to an entry: owner, number, kind, repeated (0 or 1), child
 
 abbrev pub entryStride : ℕ
