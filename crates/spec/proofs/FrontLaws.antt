@@ -5,14 +5,15 @@ use native.Mathlib.Omega.{arith}
 use mathlib.Core.Path.{_≡_, refl, sym, ap, ap₂, _∙_, subst}
 use mathlib.Core.Bool.{Bool, true, false}
 use mathlib.Core.List.{List, [], _∷_, _++_, append-assoc, append-nil}
-use lib.ListN.{length, take, drop, length-append, length-take}
-use lib.Seq.{take-add, length-take-le, take-length}
+use lib.ListN.{length, take, drop, length-append, length-take, length-drop, drop-of-length-le}
+use lib.Seq.{take-add, length-take-le, take-length, drop-at, drop-drop}
 use lib.Dec.{leb, ltb, eqb}
 use borrow.Author.Tests.{leb-true, le-leb}
-use Rattle.spec.specs.Base.{if_then_else_, Read, Took, No, require, longer, _>>=_, digit}
+use Rattle.spec.specs.Base.{if_then_else_, Read, Took, No, refusal, meaning, require, longer, _>>=_, digit}
 use Rattle.spec.specs.Varint.{varint, fixed, tag, goodTag, varint32, varint64}
-use Rattle.spec.specs.Skip.{content, plain}
-use Rattle.spec.proofs.Laws.{either-way, chosen, Takes, took, none, takes-tag, takes-plain}
+use Rattle.spec.specs.Kind.{Scalar, int32, uint32, uint64, bool, sint32, sint64, fixed32, sfixed32, fixed64, signed32, scalar}
+use Rattle.spec.specs.Skip.{content, plain, skipField, skipGroup, innerGroup, outerGroup}
+use Rattle.spec.proofs.Laws.{chosen, Takes, took, none, takes-tag, takes-skipField, takes-skipGroup, next-cong, group-step}
 
 -- what p reads in s it reads again in the bytes that it took, with u behind them
 pub data Again (p : List ℕ → Read) (s u : List ℕ) : Read → Type 0 where
@@ -29,6 +30,11 @@ module _ (s u : List ℕ) where
       chosen (Again (λ x. require k ok (p x)) s u) (ok v)
       (λ t. again (ap (require k ok) e ∙ ap (λ (b : Bool). if b then Took v n else No k) t)) (λ t. not-read)
   again-require k ok p not-read = not-read
+
+  again-meaning : (f : ℕ → ℕ) (p : List ℕ → Read) {r : Read} → Again p s u r → Again (λ x. meaning f (p x)) s u (meaning f r)
+  unfolding meaning
+  again-meaning f p (again e) = again (ap (meaning f) e)
+  again-meaning f p not-read = not-read
 
   again-choice : (b : Bool) (p q : List ℕ → Read) → Again p s u (p s) → Again q s u (q s) → Again (λ x. if b then p x else q x) s u (if b then p s else q s)
   again-choice true p q f g = f
@@ -62,25 +68,52 @@ pub again-tag : (s u : List ℕ) → Again tag s u (tag s)
 unfolding tag
 again-tag s u = again-require s u 3 goodTag varint32 (again-varint 4 15 s u)
 
-pub again-content : (k last : ℕ) (s u : List ℕ) → Again (content (varint k last)) s u (content (varint k last) s)
+pub again-scalar : (c : Scalar) (s u : List ℕ) → Again (scalar c) s u (scalar c s)
+unfolding scalar
+again-scalar int32 s u = again-require s u 5 signed32 varint64 (again-varint 9 1 s u)
+again-scalar uint32 s u = again-varint 4 15 s u
+again-scalar uint64 s u = again-varint 9 1 s u
+again-scalar bool s u = again-meaning s u _ varint64 (again-varint 9 1 s u)
+again-scalar sint32 s u = again-meaning s u _ varint32 (again-varint 4 15 s u)
+again-scalar sint64 s u = again-meaning s u _ varint64 (again-varint 9 1 s u)
+again-scalar fixed32 s u = again-fixed 4 s u
+again-scalar sfixed32 s u = again-meaning s u _ (fixed 4) (again-fixed 4 s u)
+again-scalar fixed64 s u = again-fixed 8 s u
+
+front-parts : (n m : ℕ) (s u : List ℕ) → take (n + m) s ++ u ≡ take n s ++ (take m (drop n s) ++ u)
+front-parts n m s u = ap (λ (x : List ℕ). x ++ u) (take-add n m s) ∙ append-assoc (take n s) (take m (drop n s)) u
+
+-- A content is found by its length: behind that, any bytes will do that are enough.
+pub data Found (p : List ℕ → Read) (s : List ℕ) : Read → Type 0 where
+  found : {a m : ℕ} → a + m ≤ length s → ((y : List ℕ) → m ≤ length y → p (take a s ++ y) ≡ Took a (a + m)) → Found p s (Took a (a + m))
+  not-found : {k : ℕ} → Found p s (No k)
+
+pub content-found : (k last : ℕ) (s : List ℕ) → Found (content (varint k last)) s (content (varint k last) s)
 unfolding content _>>=_ longer
-again-content k last s u = go (varint k last s) (λ t. again-varint k last s t)
+content-found k last s = go (varint k last s) (λ t. again-varint k last s t)
   where
     go : (r : Read) → ((t : List ℕ) → Again (varint k last) s t r)
-        → Again (content (varint k last)) s u (r >>= λ m n. if leb (n + m) (length s) then Took n m else No 1)
-    go (No j) f = not-read
+        → Found (content (varint k last)) s (r >>= λ m n. if leb (n + m) (length s) then Took n m else No 1)
+    go (No j) f = not-found
     go (Took m n) f =
-        chosen (λ (x : Read). Again (content (varint k last)) s u (longer n x)) (leb (n + m) (length s))
+        chosen (λ (x : Read). Found (content (varint k last)) s (longer n x)) (leb (n + m) (length s))
         (λ t.
-        let x : List ℕ = take (n + m) s ++ u in
         let h : n + m ≤ length s = leb-true (n + m) (length s) t in
-        let reads : varint k last x ≡ Took m n =
-        ap (varint k last) (ap (λ (y : List ℕ). y ++ u) (take-add n m s) ∙ append-assoc (take n s) (take m (drop n s)) u)
-        ∙ again-read (f (take m (drop n s) ++ u)) in
-        let fits : leb (n + m) (length x) ≡ true = le-leb (n + m) (length x) (omega (arith, length-append (take (n + m) s) u, length-take-le (n + m) s h)) in
-        again (ap (λ (y : Read). y >>= λ m n. if leb (n + m) (length x) then Took n m else No 1) reads
-        ∙ ap (λ (c : Bool). longer n (if c then Took n m else No 1)) fits))
-        (λ t. not-read)
+        found h λ y l.
+        let x : List ℕ = take n s ++ y in
+        ap (λ (r : Read). r >>= λ m n. if leb (n + m) (length x) then Took n m else No 1) (again-read (f y))
+        ∙ ap (λ (c : Bool). longer n (if c then Took n m else No 1))
+        (le-leb (n + m) (length x) (omega (arith, length-append (take n s) y, length-take-le n s (omega arith)))))
+        (λ t. not-found)
+
+again-found : (p : List ℕ → Read) (s u : List ℕ) {r : Read} → Found p s r → Again p s u r
+again-found p s u (found {a} {m} h f) =
+    let y : List ℕ = take m (drop a s) in
+    again (ap p (front-parts a m s u) ∙ f (y ++ u) (omega (arith, length-append y u, length-take m (drop a s), length-drop a s)))
+again-found p s u not-found = not-read
+
+pub again-content : (k last : ℕ) (s u : List ℕ) → Again (content (varint k last)) s u (content (varint k last) s)
+again-content k last s u = again-found _ s u (content-found k last s)
 
 pub again-plain : (w : ℕ) (s u : List ℕ) → Again (plain w) s u (plain w s)
 unfolding plain
@@ -89,6 +122,121 @@ again-plain w s u =
     (again-choice s u (eqb w 1) (fixed 8) _ (again-fixed 8 s u)
     (again-choice s u (eqb w 2) (content varint32) _ (again-content 4 15 s u)
     (again-choice s u (eqb w 5) (fixed 4) (λ x. No 4) (again-fixed 4 s u) not-read)))
+
+-- ---- groups
+
+-- A group that was read was closed by a tag: what it took is then read the same with anything behind it. Or the end of the bytes closed it,
+-- where that is no refusal: it then took them all.
+pub data Closed (atEnd : Read) (p : List ℕ → Read) (s : List ℕ) : Read → Type 0 where
+  by-tag : {v n : ℕ} → ((u : List ℕ) → p (take n s ++ u) ≡ Took v n) → Closed atEnd p s (Took v n)
+  by-end : {v n : ℕ} → refusal atEnd ≡ 0 → length s ≤ n → Closed atEnd p s (Took v n)
+  not-closed : {k : ℕ} → Closed atEnd p s (No k)
+
+-- the fields of a group, with no count, and what they are behind the first tag
+abbrev inGroup : Read → ℕ → List ℕ → Read
+inGroup atEnd level s = skipGroup (length s) atEnd level s
+
+abbrev behindTag : Read → (level t : ℕ) → List ℕ → Read
+behindTag atEnd level t s = if eqb (t % 8) 4 then Took 0 0 else (skipField innerGroup level (t % 8) s >>= λ v m. inGroup atEnd level (drop m s))
+
+group-tag : (atEnd : Read) (level : ℕ) (s : List ℕ) → 1 ≤ length s
+    → inGroup atEnd level s ≡ (tag s >>= λ t n. behindTag atEnd level t (drop n s))
+group-tag atEnd level [] h = absurd (omega arith)
+group-tag atEnd level (b ∷ s) h = group-step atEnd level b s ∙ simp drop-drop
+
+module _ (atEnd : Read) where
+  closed-again : {p : List ℕ → Read} {s : List ℕ} (r : Read) → ((u : List ℕ) → Again p s u r) → Closed atEnd p s r
+  closed-again (Took v n) f = by-tag λ u. again-read (f u)
+  closed-again (No k) f = not-closed
+
+  closed-choice : (s : List ℕ) (b : Bool) (p q : List ℕ → Read) → Closed atEnd p s (p s) → Closed atEnd q s (q s)
+      → Closed atEnd (λ x. if b then p x else q x) s (if b then p s else q s)
+  closed-choice s true p q f g = f
+  closed-choice s false p q f g = g
+
+  -- where p reads q behind the first n bytes
+  closed-behind : (p q : List ℕ → Read) (s : List ℕ) (n : ℕ) → ((y : List ℕ) → p (take n s ++ y) ≡ longer n (q y))
+      → {r : Read} → Closed atEnd q (drop n s) r → Closed atEnd p s (longer n r)
+  unfolding longer
+  closed-behind p q s n e (by-tag {n = m} f) = by-tag λ u. ap p (front-parts n m s u) ∙ e (take m (drop n s) ++ u) ∙ ap (longer n) (f u)
+  closed-behind p q s n e (by-end {n = m} c h) = by-end {n = n + m} c (omega (arith, length-drop n s))
+  closed-behind p q s n e not-closed = not-closed
+
+  -- the end of the bytes, and what took them all before it
+  closed-end : (p : List ℕ → Read) (r : Read) → atEnd ≡ r → Closed atEnd p [] r
+  unfolding refusal
+  closed-end p (Took v n) e = by-end {n = n} (ap refusal e) (omega arith)
+  closed-end p (No k) e = not-closed
+
+  closed-whole : (p : List ℕ → Read) (s : List ℕ) (m : ℕ) → length s ≤ m → (r : Read) → atEnd ≡ r → Closed atEnd p s (longer m r)
+  unfolding longer refusal
+  closed-whole p s m h (Took v n) e = by-end {n = m + n} (ap refusal e) (omega arith)
+  closed-whole p s m h (No k) e = not-closed
+
+  -- a field, and then the rest of the group
+  closed-next : (p : List ℕ → Read) (level : ℕ) (s : List ℕ) {r : Read} → Takes 0 (length s) r → Closed (Took 0 0) p s r
+      → ((m : ℕ) → Closed atEnd (inGroup atEnd level) (drop m s) (inGroup atEnd level (drop m s)))
+      → Closed atEnd (λ x. p x >>= λ v m. inGroup atEnd level (drop m x)) s (r >>= λ v m. inGroup atEnd level (drop m s))
+  unfolding _>>=_ skipGroup
+  closed-next p level s (took {n = m} h j) (by-tag e) f =
+      closed-behind _ (inGroup atEnd level) s m
+      (λ y. ap (λ (r : Read). r >>= λ v i. inGroup atEnd level (drop i (take m s ++ y))) (e y)
+      ∙ ap (λ (x : List ℕ). longer m (inGroup atEnd level x)) (drop-at (take m s) y m (length-take-le m s j)))
+      (f m)
+  closed-next p level s (took {n = m} h j) (by-end e l) f = rw (drop-of-length-le s l) (closed-whole _ s m l atEnd refl)
+  closed-next p level s none not-closed f = not-closed
+
+closed-field : (level w : ℕ) (s : List ℕ) → Closed (Took 0 0) (innerGroup (level + 1)) s (innerGroup (level + 1) s)
+    → Closed (Took 0 0) (skipField innerGroup level w) s (skipField innerGroup level w s)
+unfolding skipField
+closed-field level w s f =
+    closed-choice (Took 0 0) s (eqb w 3) _ _ (closed-choice (Took 0 0) s (leb 100 level) (λ x. No 7) _ not-closed f)
+    (closed-again (Took 0 0) (plain w s) (again-plain w s))
+
+takes-field : (level w : ℕ) (s : List ℕ) → Takes 0 (length s) (skipField innerGroup level w s)
+takes-field level w s = takes-skipField innerGroup level w s (takes-skipGroup (length s) (Took 0 0) (took (omega arith) (omega arith)) (level + 1) s)
+
+-- whatever the end of the bytes means, and at every level
+abbrev AllClosed : List ℕ → Type 0
+AllClosed s = (atEnd : Read) (level : ℕ) → Closed atEnd (inGroup atEnd level) s (inGroup atEnd level s)
+
+closed-tag : (s : List ℕ) → 1 ≤ length s → ((u : List ℕ) → length u < length s → AllClosed u) → AllClosed s
+unfolding _>>=_
+closed-tag s some shorter atEnd level = rw (group-tag atEnd level s some) (go (tag s) (takes-tag s) (again-tag s))
+  where
+    go : (r : Read) → Takes 1 (length s) r → ((u : List ℕ) → Again tag s u r)
+        → Closed atEnd (inGroup atEnd level) s (r >>= λ t n. behindTag atEnd level t (drop n s))
+    go (Took t n) (took h j) f =
+        let rest : List ℕ = drop n s in
+        let less : length rest < length s = omega (arith, length-drop n s) in
+        closed-behind atEnd (inGroup atEnd level) (behindTag atEnd level t) s n
+        (λ y. group-tag atEnd level (take n s ++ y) (omega (arith, length-append (take n s) y, length-take-le n s j))
+        ∙ ap (λ (r : Read). r >>= λ t i. behindTag atEnd level t (drop i (take n s ++ y))) (again-read (f y))
+        ∙ ap (λ (x : List ℕ). longer n (behindTag atEnd level t x)) (drop-at (take n s) y n (length-take-le n s j)))
+        (closed-choice atEnd rest (eqb (t % 8) 4) (λ x. Took 0 0) _ (by-tag λ u. refl)
+        (closed-next atEnd (skipField innerGroup level (t % 8)) level rest (takes-field level (t % 8) rest)
+        (closed-field level (t % 8) rest (shorter rest less (Took 0 0) (level + 1)))
+        (λ m. shorter (drop m rest) (omega (arith, length-drop m rest)) atEnd level)))
+    go (No i) none f = not-closed
+
+closed-upTo : (k : ℕ) (s : List ℕ) → length s ≤ k → AllClosed s
+unfolding skipGroup
+closed-upTo zero [] h = λ atEnd level. closed-end atEnd _ atEnd refl
+closed-upTo zero (b ∷ s) h = absurd (omega arith)
+closed-upTo (suc k) [] h = λ atEnd level. closed-end atEnd _ atEnd refl
+closed-upTo (suc k) (b ∷ s) h = closed-tag (b ∷ s) (omega arith) λ u l. closed-upTo k u (omega arith)
+
+pub group-closed : (s : List ℕ) → AllClosed s
+group-closed s = closed-upTo (length s) s (omega arith)
+
+pub again-outerGroup : (level : ℕ) (s u : List ℕ) → Again (outerGroup level) s u (outerGroup level s)
+unfolding refusal
+again-outerGroup level s u = go (group-closed s (No 1) level)
+  where
+    go : {r : Read} → Closed (No 1) (outerGroup level) s r → Again (outerGroup level) s u r
+    go (by-tag e) = again (e u)
+    go (by-end e h) = absurd (omega arith)
+    go not-closed = not-read
 
 -- The same for equations. A front part that was taken whole is read with anything behind it, and what was taken is read alone.
 module _ (p : List ℕ → Read) (law : (s u : List ℕ) → Again p s u (p s)) (bound : (s : List ℕ) → Takes 0 (length s) (p s)) where
