@@ -5,14 +5,18 @@ use native.Mathlib.Omega.{arith}
 use mathlib.Core.Path.{_≡_, refl, sym, ap, ap₂, _∙_, subst}
 use mathlib.Core.Bool.{Bool, true, false}
 use mathlib.Core.List.{List, [], _∷_, _++_, append-assoc, append-nil}
-use lib.ListN.{length, take, drop, length-append, length-take, length-drop, drop-of-length-le}
-use lib.Seq.{take-add, length-take-le, take-length, drop-at, drop-drop}
+use lib.ListN.{length, take, drop, length-append, length-take, length-drop, drop-of-length-le, take-append-drop}
+use lib.Seq.{take-add, length-take-le, take-length, take-append-le, drop-append-le, drop-at, drop-drop}
 use lib.Dec.{leb, ltb, eqb}
 use borrow.Author.Tests.{leb-true, le-leb}
-use Rattle.spec.specs.Base.{if_then_else_, Read, Took, No, refusal, meaning, require, longer, _>>=_, digit}
+use Rattle.spec.specs.Base.{if_then_else_, part, Read, Took, No, refusal, meaning, require, longer, _>>=_, digit}
 use Rattle.spec.specs.Varint.{varint, fixed, tag, goodTag, varint32, varint64}
-use Rattle.spec.specs.Kind.{Scalar, int32, uint32, uint64, bool, sint32, sint64, fixed32, sfixed32, fixed64, signed32, scalar}
+use Rattle.spec.specs.Utf8.{utf8}
+use Rattle.spec.specs.Kind.{Scalar, int32, uint32, uint64, bool, sint32, sint64, fixed32, sfixed32, fixed64, Shape, one, other, string, bytes, message, packed, startGroup, endGroup, nothing, shape, signed32, scalar}
+use Rattle.spec.specs.Schema.{Schema, lookup, kindOf}
 use Rattle.spec.specs.Skip.{content, plain, skipField, skipGroup, innerGroup, outerGroup}
+use Rattle.spec.specs.Reading.{Field, Value, Message, Packed, Dropped, Fault, given, shaped, field, used}
+use Rattle.spec.specs.declared.Entry.{Entry}
 use Rattle.spec.proofs.Laws.{chosen, Takes, took, none, takes-tag, takes-skipField, takes-skipGroup, next-cong, group-step}
 
 -- what p reads in s it reads again in the bytes that it took, with u behind them
@@ -253,3 +257,86 @@ module _ (p : List ℕ → Read) (law : (s u : List ℕ) → Again p s u (p s)) 
   alone s v n e =
       ap p (sym (append-nil (take n s))) ∙ again-read (subst (Again p s []) e (law s []))
       ∙ ap (Took v) (sym (length-take-le n s (taken-le s v n e)))
+
+-- ---- fields
+
+part-front : (a e n : ℕ) (s u : List ℕ) → a ≤ e → e ≤ n → n ≤ length s → part a e (take n s ++ u) ≡ part a e s
+part-front a e n s u h j l = in-front u ∙ sym (in-front (drop n s)) ∙ ap (part a e) (take-append-drop n s)
+  where
+    in-front : (y : List ℕ) → part a e (take n s ++ y) ≡ part a e (take n s)
+    in-front y =
+        let k : length (take n s) ≡ n = length-take-le n s l in
+        ap (take (e - a)) (drop-append-le a (take n s) y (omega arith))
+        ∙ take-append-le (e - a) (drop a (take n s)) y (omega (arith, length-drop a (take n s)))
+
+-- What g reads in s, behind a tag of n bytes, it reads again in the bytes that it took, with u behind them.
+data Kept (n : ℕ) (g : List ℕ → Field) (s u : List ℕ) : Field → Type 0 where
+  kept : {x : Field} (l : ℕ) → used x ≡ n + l → g (take l s ++ u) ≡ x → Kept n g s u x
+  faulty : {k p : ℕ} → Kept n g s u (Fault k p)
+
+module _ (n : ℕ) (s u : List ℕ) where
+  kept-given : (p : List ℕ → Read) (f : ℕ → ℕ → Field) → ((v l : ℕ) → used (f v l) ≡ n + l) → {r : Read} → Again p s u r
+      → Kept n (λ x. given (p x) f) s u (given r f)
+  unfolding given
+  kept-given p f h (again {v} {n = l} e) = kept l (h v l) (ap (λ (r : Read). given r f) e)
+  kept-given p f h not-read = faulty
+
+  kept-string : (p : List ℕ → Read) (good : List ℕ → Bool) (f : ℕ → ℕ → Field) → ((a z : ℕ) → used (f a z) ≡ n + z) → {r : Read} → Found p s r
+      → Kept n (λ x. given (p x) λ a z. if good (part a z x) then f a z else Fault 6 0) s u (given r λ a z. if good (part a z s) then f a z else Fault 6 0)
+  unfolding given
+  kept-string p good f h (found {a} {m} j reads) =
+      chosen (Kept n _ s u) (good (part a (a + m) s))
+      (λ t. kept (a + m) (h a (a + m))
+      (ap (λ (r : Read). given r λ b z. if good (part b z (take (a + m) s ++ u)) then f b z else Fault 6 0) (again-read (again-found p s u (found {a = a} {m = m} j reads)))
+      ∙ ap (λ (b : Bool). if b then f a (a + m) else Fault 6 0) (ap good (part-front a (a + m) (a + m) s u (omega arith) (omega arith) j) ∙ t)))
+      (λ t. faulty)
+  kept-string p good f h not-found = faulty
+
+  kept-unless : (b : Bool) (k : ℕ) (g : List ℕ → Field) → Kept n g s u (g s) → Kept n (λ x. if b then Fault k 0 else g x) s u (if b then Fault k 0 else g s)
+  kept-unless true k g x = faulty
+  kept-unless false k g x = x
+
+kept-behind : (f g : List ℕ → Field) (n : ℕ) (s u : List ℕ) → ((y : List ℕ) → f (take n s ++ y) ≡ g y) → {x : Field} → Kept n g (drop n s) u x
+    → 1 ≤ used x → f (take (used x) s ++ u) ≡ x
+unfolding used
+kept-behind f g n s u h (kept l e q) some =
+    ap (λ (i : ℕ). f (take i s ++ u)) e ∙ ap f (front-parts n l s u) ∙ h (take l (drop n s) ++ u) ∙ q
+kept-behind f g n s u h faulty some = absurd (omega arith)
+
+shaped-kept : (x : Shape) (depth : ℕ) (e : Entry) (m kind n : ℕ) (s u : List ℕ) → Kept n (shaped x depth e m kind n) s u (shaped x depth e m kind n s)
+unfolding shaped used
+shaped-kept (one c) depth e m kind n s u = kept-given n s u (scalar c) _ (λ v l. refl) (again-scalar c s u)
+shaped-kept (other string) depth e m kind n s u = kept-string n s u (content varint32) utf8 _ (λ a z. refl) (content-found 4 15 s)
+shaped-kept (other bytes) depth e m kind n s u = kept-given n s u (content varint32) _ (λ a z. refl) (again-content 4 15 s u)
+shaped-kept (other message) depth e m kind n s u =
+    kept-unless n s u (leb 100 depth) 7 _ (kept-given n s u (content varint64) _ (λ a z. refl) (again-content 9 1 s u))
+shaped-kept (other packed) depth e m kind n s u = kept-given n s u (content varint64) _ (λ a z. refl) (again-content 9 1 s u)
+shaped-kept (other startGroup) depth e m kind n s u = kept-given n s u (outerGroup depth) _ (λ v l. refl) (again-outerGroup depth s u)
+shaped-kept (other endGroup) depth e m kind n s u = faulty
+shaped-kept (other nothing) depth e m kind n s u = faulty
+
+module _ (sch : Schema) (depth type : ℕ) where
+  -- the field behind a tag t of n bytes
+  abbrev behind : ℕ → ℕ → List ℕ → Field
+  behind t n s =
+      let e = lookup (sch .entries) type (t / 8) in
+      let kind = kindOf e (t % 8) in
+      shaped (shape kind) depth e (t / 8) kind n s
+
+  field-behind : (s : List ℕ) (t n : ℕ) → n ≤ length s → (y : List ℕ) → Again tag s y (Took t n) → field sch depth type (take n s ++ y) ≡ behind t n y
+  unfolding field given
+  field-behind s t n h y f =
+      ap (λ (r : Read). given r λ t i. behind t i (drop i (take n s ++ y))) (again-read f)
+      ∙ ap (behind t n) (drop-at (take n s) y n (length-take-le n s h))
+
+  -- A field that is no fault, and so takes some bytes, is the same with anything behind them.
+  pub again-field : (s u : List ℕ) → 1 ≤ used (field sch depth type s)
+      → field sch depth type (take (used (field sch depth type s)) s ++ u) ≡ field sch depth type s
+  unfolding field given used
+  again-field s u some = go (tag s) (takes-tag s) (again-tag s) some
+    where
+      go : (r : Read) → Takes 1 (length s) r → ((y : List ℕ) → Again tag s y r) → 1 ≤ used (given r λ t n. behind t n (drop n s))
+          → field sch depth type (take (used (given r λ t n. behind t n (drop n s))) s ++ u) ≡ given r (λ t n. behind t n (drop n s))
+      go (Took t n) (took h j) f =
+          kept-behind (field sch depth type) (behind t n) n s u (λ y. field-behind s t n j y (f y)) (shaped-kept _ depth _ (t / 8) _ n (drop n s) u)
+      go (No k) none f = λ h. absurd (omega arith)
