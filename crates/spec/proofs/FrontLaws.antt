@@ -1,8 +1,9 @@
--- What is read depends only on the bytes it takes: those bytes, with anything behind them, read the same.
+-- What is read depends only on the bytes it takes: those bytes, with anything behind them, read the same. So it is for numbers, for contents, for
+-- groups that a tag closed and for whole fields; and of a field of bytes, the content may be any of the same length.
 -- Assumes nothing.
-use Prim.Native.Nat.{ℕ, zero, suc, _+_, _-_, _*_, _/_, _%_, _≤_, _<_}
+use Prim.Native.Nat.{ℕ, zero, suc, _+_, _-_, _/_, _%_, _≤_, _<_}
 use native.Mathlib.Omega.{arith}
-use mathlib.Core.Path.{_≡_, refl, sym, ap, ap₂, _∙_, subst}
+use mathlib.Core.Path.{_≡_, refl, sym, ap, _∙_, subst}
 use mathlib.Core.Bool.{Bool, true, false}
 use mathlib.Core.List.{List, [], _∷_, _++_, append-assoc, append-nil}
 use lib.ListN.{length, take, drop, length-append, length-take, length-drop, drop-of-length-le, take-append-drop}
@@ -17,7 +18,8 @@ use Rattle.spec.specs.Schema.{Schema, lookup, kindOf}
 use Rattle.spec.specs.Skip.{content, plain, skipField, skipGroup, innerGroup, outerGroup}
 use Rattle.spec.specs.Reading.{Field, Value, Message, Packed, Dropped, Fault, given, shaped, field, used}
 use Rattle.spec.specs.declared.Entry.{Entry}
-use Rattle.spec.proofs.Laws.{chosen, Takes, took, none, takes-tag, takes-skipField, takes-skipGroup, next-cong, group-step}
+use Rattle.spec.proofs.Laws.{either-way, chosen, Takes, took, none, takes-tag}
+use Rattle.spec.proofs.Laws.{takes-skipField, takes-skipGroup, group-step}
 
 -- what p reads in s it reads again in the bytes that it took, with u behind them
 pub data Again (p : List ℕ → Read) (s u : List ℕ) : Read → Type 0 where
@@ -84,6 +86,7 @@ again-scalar fixed32 s u = again-fixed 4 s u
 again-scalar sfixed32 s u = again-meaning s u _ (fixed 4) (again-fixed 4 s u)
 again-scalar fixed64 s u = again-fixed 8 s u
 
+-- the front in two parts
 front-parts : (n m : ℕ) (s u : List ℕ) → take (n + m) s ++ u ≡ take n s ++ (take m (drop n s) ++ u)
 front-parts n m s u = ap (λ (x : List ℕ). x ++ u) (take-add n m s) ∙ append-assoc (take n s) (take m (drop n s)) u
 
@@ -143,10 +146,10 @@ inGroup atEnd level s = skipGroup (length s) atEnd level s
 abbrev behindTag : Read → (level t : ℕ) → List ℕ → Read
 behindTag atEnd level t s = if eqb (t % 8) 4 then Took 0 0 else (skipField innerGroup level (t % 8) s >>= λ v m. inGroup atEnd level (drop m s))
 
-group-tag : (atEnd : Read) (level : ℕ) (s : List ℕ) → 1 ≤ length s
+inGroup-step : (atEnd : Read) (level : ℕ) (s : List ℕ) → 1 ≤ length s
     → inGroup atEnd level s ≡ (tag s >>= λ t n. behindTag atEnd level t (drop n s))
-group-tag atEnd level [] h = absurd (omega arith)
-group-tag atEnd level (b ∷ s) h = group-step atEnd level b s ∙ simp drop-drop
+inGroup-step atEnd level [] h = absurd (omega arith)
+inGroup-step atEnd level (b ∷ s) h = group-step atEnd level b s ∙ simp drop-drop
 
 module _ (atEnd : Read) where
   closed-again : {p : List ℕ → Read} {s : List ℕ} (r : Read) → ((u : List ℕ) → Again p s u r) → Closed atEnd p s r
@@ -206,7 +209,7 @@ AllClosed s = (atEnd : Read) (level : ℕ) → Closed atEnd (inGroup atEnd level
 
 closed-tag : (s : List ℕ) → 1 ≤ length s → ((u : List ℕ) → length u < length s → AllClosed u) → AllClosed s
 unfolding _>>=_
-closed-tag s some shorter atEnd level = rw (group-tag atEnd level s some) (go (tag s) (takes-tag s) (again-tag s))
+closed-tag s some shorter atEnd level = rw (inGroup-step atEnd level s some) (go (tag s) (takes-tag s) (again-tag s))
   where
     go : (r : Read) → Takes 1 (length s) r → ((u : List ℕ) → Again tag s u r)
         → Closed atEnd (inGroup atEnd level) s (r >>= λ t n. behindTag atEnd level t (drop n s))
@@ -214,7 +217,7 @@ closed-tag s some shorter atEnd level = rw (group-tag atEnd level s some) (go (t
         let rest : List ℕ = drop n s in
         let less : length rest < length s = omega (arith, length-drop n s) in
         closed-behind atEnd (inGroup atEnd level) (behindTag atEnd level t) s n
-        (λ y. group-tag atEnd level (take n s ++ y) (omega (arith, length-append (take n s) y, length-take-le n s j))
+        (λ y. inGroup-step atEnd level (take n s ++ y) (omega (arith, length-append (take n s) y, length-take-le n s j))
         ∙ ap (λ (r : Read). r >>= λ t i. behindTag atEnd level t (drop i (take n s ++ y))) (again-read (f y))
         ∙ ap (λ (x : List ℕ). longer n (behindTag atEnd level t x)) (drop-at (take n s) y n (length-take-le n s j)))
         (closed-choice atEnd rest (eqb (t % 8) 4) (λ x. Took 0 0) _ (by-tag λ u. refl)
@@ -230,12 +233,13 @@ closed-upTo zero (b ∷ s) h = absurd (omega arith)
 closed-upTo (suc k) [] h = λ atEnd level. closed-end atEnd _ atEnd refl
 closed-upTo (suc k) (b ∷ s) h = closed-tag (b ∷ s) (omega arith) λ u l. closed-upTo k u (omega arith)
 
-pub group-closed : (s : List ℕ) → AllClosed s
-group-closed s = closed-upTo (length s) s (omega arith)
+-- `innerGroup` at Took 0 0, and `outerGroup` at No 1
+pub group-closed : (atEnd : Read) (level : ℕ) (s : List ℕ) → Closed atEnd (λ x. skipGroup (length x) atEnd level x) s (skipGroup (length s) atEnd level s)
+group-closed atEnd level s = closed-upTo (length s) s (omega arith) atEnd level
 
 pub again-outerGroup : (level : ℕ) (s u : List ℕ) → Again (outerGroup level) s u (outerGroup level s)
 unfolding refusal
-again-outerGroup level s u = go (group-closed s (No 1) level)
+again-outerGroup level s u = go (group-closed (No 1) level s)
   where
     go : {r : Read} → Closed (No 1) (outerGroup level) s r → Again (outerGroup level) s u r
     go (by-tag e) = again (e u)
@@ -260,7 +264,8 @@ module _ (p : List ℕ → Read) (law : (s u : List ℕ) → Again p s u (p s)) 
 
 -- ---- fields
 
-part-front : (a e n : ℕ) (s u : List ℕ) → a ≤ e → e ≤ n → n ≤ length s → part a e (take n s ++ u) ≡ part a e s
+-- a part of the first n bytes, with anything behind them
+pub part-front : (a e n : ℕ) (s u : List ℕ) → a ≤ e → e ≤ n → n ≤ length s → part a e (take n s ++ u) ≡ part a e s
 part-front a e n s u h j l = in-front u ∙ sym (in-front (drop n s)) ∙ ap (part a e) (take-append-drop n s)
   where
     in-front : (y : List ℕ) → part a e (take n s ++ y) ≡ part a e (take n s)
@@ -303,6 +308,7 @@ kept-behind f g n s u h (kept l e q) some =
     ap (λ (i : ℕ). f (take i s ++ u)) e ∙ ap f (front-parts n l s u) ∙ h (take l (drop n s) ++ u) ∙ q
 kept-behind f g n s u h faulty some = absurd (omega arith)
 
+-- by the shape of the field
 shaped-kept : (x : Shape) (depth : ℕ) (e : Entry) (m kind n : ℕ) (s u : List ℕ) → Kept n (shaped x depth e m kind n) s u (shaped x depth e m kind n s)
 unfolding shaped used
 shaped-kept (one c) depth e m kind n s u = kept-given n s u (scalar c) _ (λ v l. refl) (again-scalar c s u)
@@ -340,3 +346,70 @@ module _ (sch : Schema) (depth type : ℕ) where
       go (Took t n) (took h j) f =
           kept-behind (field sch depth type) (behind t n) n s u (λ y. field-behind s t n j y (f y)) (shaped-kept _ depth _ (t / 8) _ n (drop n s) u)
       go (No k) none f = λ h. absurd (omega arith)
+
+-- ---- a content of bytes
+
+-- a value is of this kind
+data Of (k : ℕ) : Field → Type 0 where
+  of-value : {m v a e : ℕ} → Of k (Value m k v a e)
+  of-message : {m c a e : ℕ} → Of k (Message m c a e)
+  of-packed : {m j a e : ℕ} → Of k (Packed m j a e)
+  of-dropped : {m e : ℕ} → Of k (Dropped m e)
+  of-fault : {n p : ℕ} → Of k (Fault n p)
+
+of-given : {k : ℕ} (r : Read) (f : ℕ → ℕ → Field) → ((v n : ℕ) → Of k (f v n)) → Of k (given r f)
+unfolding given
+of-given (Took v n) f h = h v n
+of-given (No j) f h = of-fault
+
+shaped-of : (x : Shape) (depth : ℕ) (e : Entry) (m k n : ℕ) (s : List ℕ) → Of k (shaped x depth e m k n s)
+unfolding shaped
+shaped-of (one c) depth e m k n s = of-given (scalar c s) _ λ v l. of-value
+shaped-of (other string) depth e m k n s = of-given (content varint32 s) _ λ a z. either-way (Of k) (utf8 (part a z s)) of-value of-fault
+shaped-of (other bytes) depth e m k n s = of-given (content varint32 s) _ λ a z. of-value
+shaped-of (other message) depth e m k n s = either-way (Of k) (leb 100 depth) of-fault (of-given (content varint64 s) _ λ a z. of-message)
+shaped-of (other packed) depth e m k n s = of-given (content varint64 s) _ λ a z. of-packed
+shaped-of (other startGroup) depth e m k n s = of-given (outerGroup depth s) _ λ v l. of-dropped
+shaped-of (other endGroup) depth e m k n s = of-fault
+shaped-of (other nothing) depth e m k n s = of-fault
+
+-- What g reads in s, behind a tag of n bytes, is a content that it does not look at: behind where that starts, any bytes will do that are enough.
+data Unseen (n : ℕ) (g : List ℕ → Field) (s : List ℕ) : Field → Type 0 where
+  unseen : {m k v : ℕ} (a l : ℕ) → ((y : List ℕ) → l ≤ length y → g (take a s ++ y) ≡ Value m k v (n + a) (n + (a + l)))
+      → Unseen n g s (Value m k v (n + a) (n + (a + l)))
+  faulty : {k p : ℕ} → Unseen n g s (Fault k p)
+
+bytes-unseen : (depth : ℕ) (e : Entry) (m k n : ℕ) (s : List ℕ) → Unseen n (shaped (other bytes) depth e m k n) s (shaped (other bytes) depth e m k n s)
+unfolding shaped given
+bytes-unseen depth e m k n s = go (content-found 4 15 s)
+  where
+    go : {r : Read} → Found (content varint32) s r
+        → Unseen n (λ x. given (content varint32 x) λ a z. Value m k 0 (n + a) (n + z)) s (given r λ a z. Value m k 0 (n + a) (n + z))
+    go (found {a} {m = l} h f) = unseen a l λ y j. ap (λ (r : Read). given r λ a z. Value m k 0 (n + a) (n + z)) (f y j)
+    go not-found = faulty
+
+unseen-behind : (f g : List ℕ → Field) (n : ℕ) (s : List ℕ) → ((y : List ℕ) → f (take n s ++ y) ≡ g y)
+    → {m k v a e : ℕ} → Unseen n g (drop n s) (Value m k v a e) → (y : List ℕ) → e - a ≤ length y → f (take a s ++ y) ≡ Value m k v a e
+unseen-behind f g n s h (unseen a l q) y j = ap f (front-parts n a s y) ∙ h (take a (drop n s) ++ y) ∙ q y (omega arith)
+
+same-kind : {m j k v a e : ℕ} → Of k (Value m j v a e) → k ≡ j
+same-kind of-value = refl
+
+module _ (sch : Schema) (depth type : ℕ) where
+  -- Where a field's kind is that of bytes, the bytes before its content say what it is: behind them, any bytes will do that are enough.
+  pub any-content : (s : List ℕ) (m kind v a e : ℕ) → field sch depth type s ≡ Value m kind v a e → shape kind ≡ other bytes
+      → (y : List ℕ) → e - a ≤ length y → field sch depth type (take a s ++ y) ≡ Value m kind v a e
+  unfolding field given
+  any-content s m kind v a e p q y l = go (tag s) (takes-tag s) (again-tag s) p
+    where
+      go : (r : Read) → Takes 1 (length s) r → ((x : List ℕ) → Again tag s x r) → given r (λ t n. behind sch depth type t n (drop n s)) ≡ Value m kind v a e
+          → field sch depth type (take a s ++ y) ≡ Value m kind v a e
+      go (Took t n) (took h j) f p =
+          let i : Entry = lookup (sch .entries) type (t / 8) in
+          let k : ℕ = kindOf i (t % 8) in
+          let g : Shape → List ℕ → Field = λ x. shaped x depth i (t / 8) k n in
+          let is : shape k ≡ other bytes = ap shape (same-kind (subst (Of k) p (shaped-of (shape k) depth i (t / 8) k n (drop n s)))) ∙ q in
+          unseen-behind (field sch depth type) (g (shape k)) n s (λ x. field-behind sch depth type s t n j x (f x))
+          (subst (Unseen n (g (shape k)) (drop n s)) p
+          (subst (λ (x : Shape). Unseen n (g x) (drop n s) (g x (drop n s))) (sym is) (bytes-unseen depth i (t / 8) k n (drop n s)))) y l
+      go (No k) none f p = cc
