@@ -11,9 +11,9 @@ use lib.Seq.{take-add, length-take-le, take-length, take-append-le, drop-append-
 use lib.Dec.{leb, ltb, eqb}
 use borrow.Author.Tests.{leb-true, le-leb}
 use Rattle.spec.specs.Base.{if_then_else_, part, Read, Took, No, refusal, meaning, require, longer, _>>=_, digit}
-use Rattle.spec.specs.Varint.{varint, fixed, tag, goodTag, varint32, varint64}
+use Rattle.spec.specs.Varint.{varint, fixed, tag, varint32, varint64}
 use Rattle.spec.specs.Utf8.{utf8}
-use Rattle.spec.specs.Kind.{Scalar, int32, uint32, uint64, bool, sint32, sint64, fixed32, sfixed32, fixed64, Shape, one, other, string, bytes, message, packed, startGroup, endGroup, nothing, shape, signed32, scalar}
+use Rattle.spec.specs.Kind.{Scalar, int32, uint32, uint64, bool, sint32, sint64, fixed32, sfixed32, fixed64, Shape, one, other, string, bytes, message, packed, startGroup, endGroup, nothing, shape, scalar}
 use Rattle.spec.specs.Schema.{Schema, lookup, kindOf}
 use Rattle.spec.specs.Skip.{content, plain, skipField, skipGroup, innerGroup, outerGroup}
 use Rattle.spec.specs.Reading.{Field, Value, Message, Packed, Dropped, Fault, given, shaped, field, used}
@@ -72,19 +72,19 @@ again-fixed (suc n) (b ∷ s) u = go (again-fixed n s u)
 
 pub again-tag : (s u : List ℕ) → Again tag s u (tag s)
 unfolding tag
-again-tag s u = again-require s u 3 goodTag varint32 (again-varint 4 15 s u)
+again-tag s u = again-require s u _ _ _ (again-varint _ _ s u)
 
 pub again-scalar : (c : Scalar) (s u : List ℕ) → Again (scalar c) s u (scalar c s)
 unfolding scalar
-again-scalar int32 s u = again-require s u 5 signed32 varint64 (again-varint 9 1 s u)
-again-scalar uint32 s u = again-varint 4 15 s u
-again-scalar uint64 s u = again-varint 9 1 s u
-again-scalar bool s u = again-meaning s u _ varint64 (again-varint 9 1 s u)
-again-scalar sint32 s u = again-meaning s u _ varint32 (again-varint 4 15 s u)
-again-scalar sint64 s u = again-meaning s u _ varint64 (again-varint 9 1 s u)
-again-scalar fixed32 s u = again-fixed 4 s u
-again-scalar sfixed32 s u = again-meaning s u _ (fixed 4) (again-fixed 4 s u)
-again-scalar fixed64 s u = again-fixed 8 s u
+again-scalar int32 s u = again-require s u _ _ _ (again-varint _ _ s u)
+again-scalar uint32 s u = again-varint _ _ s u
+again-scalar uint64 s u = again-varint _ _ s u
+again-scalar bool s u = again-meaning s u _ _ (again-varint _ _ s u)
+again-scalar sint32 s u = again-meaning s u _ _ (again-varint _ _ s u)
+again-scalar sint64 s u = again-meaning s u _ _ (again-varint _ _ s u)
+again-scalar fixed32 s u = again-fixed _ s u
+again-scalar sfixed32 s u = again-meaning s u _ _ (again-fixed _ s u)
+again-scalar fixed64 s u = again-fixed _ s u
 
 -- the front in two parts
 front-parts : (n m : ℕ) (s u : List ℕ) → take (n + m) s ++ u ≡ take n s ++ (take m (drop n s) ++ u)
@@ -125,10 +125,10 @@ again-content k last s u = again-found _ s u (content-found k last s)
 pub again-plain : (w : ℕ) (s u : List ℕ) → Again (plain w) s u (plain w s)
 unfolding plain
 again-plain w s u =
-    again-choice s u (eqb w 0) varint64 _ (again-varint 9 1 s u)
-    (again-choice s u (eqb w 1) (fixed 8) _ (again-fixed 8 s u)
-    (again-choice s u (eqb w 2) (content varint32) _ (again-content 4 15 s u)
-    (again-choice s u (eqb w 5) (fixed 4) (λ x. No 4) (again-fixed 4 s u) not-read)))
+    again-choice s u (eqb w 0) varint64 _ (again-varint _ _ s u)
+    (again-choice s u (eqb w 1) (fixed 8) _ (again-fixed _ s u)
+    (again-choice s u (eqb w 2) (content varint32) _ (again-content _ _ s u)
+    (again-choice s u (eqb w 5) (fixed 4) (λ x. No 4) (again-fixed _ s u) not-read)))
 
 -- ---- groups
 
@@ -311,13 +311,13 @@ kept-behind f g n s u h faulty some = absurd (omega arith)
 -- by the shape of the field
 shaped-kept : (x : Shape) (depth : ℕ) (e : Entry) (m kind n : ℕ) (s u : List ℕ) → Kept n (shaped x depth e m kind n) s u (shaped x depth e m kind n s)
 unfolding shaped used
-shaped-kept (one c) depth e m kind n s u = kept-given n s u (scalar c) _ (λ v l. refl) (again-scalar c s u)
-shaped-kept (other string) depth e m kind n s u = kept-string n s u (content varint32) utf8 _ (λ a z. refl) (content-found 4 15 s)
-shaped-kept (other bytes) depth e m kind n s u = kept-given n s u (content varint32) _ (λ a z. refl) (again-content 4 15 s u)
+shaped-kept (one c) depth e m kind n s u = kept-given n s u _ _ (λ v l. refl) (again-scalar c s u)
+shaped-kept (other string) depth e m kind n s u = kept-string n s u _ utf8 _ (λ a z. refl) (content-found _ _ s)
+shaped-kept (other bytes) depth e m kind n s u = kept-given n s u _ _ (λ a z. refl) (again-content _ _ s u)
 shaped-kept (other message) depth e m kind n s u =
-    kept-unless n s u (leb 100 depth) 7 _ (kept-given n s u (content varint64) _ (λ a z. refl) (again-content 9 1 s u))
-shaped-kept (other packed) depth e m kind n s u = kept-given n s u (content varint64) _ (λ a z. refl) (again-content 9 1 s u)
-shaped-kept (other startGroup) depth e m kind n s u = kept-given n s u (outerGroup depth) _ (λ v l. refl) (again-outerGroup depth s u)
+    kept-unless n s u (leb 100 depth) 7 _ (kept-given n s u _ _ (λ a z. refl) (again-content _ _ s u))
+shaped-kept (other packed) depth e m kind n s u = kept-given n s u _ _ (λ a z. refl) (again-content _ _ s u)
+shaped-kept (other startGroup) depth e m kind n s u = kept-given n s u _ _ (λ v l. refl) (again-outerGroup depth s u)
 shaped-kept (other endGroup) depth e m kind n s u = faulty
 shaped-kept (other nothing) depth e m kind n s u = faulty
 
@@ -364,12 +364,12 @@ of-given (No j) f h = of-fault
 
 shaped-of : (x : Shape) (depth : ℕ) (e : Entry) (m k n : ℕ) (s : List ℕ) → Of k (shaped x depth e m k n s)
 unfolding shaped
-shaped-of (one c) depth e m k n s = of-given (scalar c s) _ λ v l. of-value
-shaped-of (other string) depth e m k n s = of-given (content varint32 s) _ λ a z. either-way (Of k) (utf8 (part a z s)) of-value of-fault
-shaped-of (other bytes) depth e m k n s = of-given (content varint32 s) _ λ a z. of-value
-shaped-of (other message) depth e m k n s = either-way (Of k) (leb 100 depth) of-fault (of-given (content varint64 s) _ λ a z. of-message)
-shaped-of (other packed) depth e m k n s = of-given (content varint64 s) _ λ a z. of-packed
-shaped-of (other startGroup) depth e m k n s = of-given (outerGroup depth s) _ λ v l. of-dropped
+shaped-of (one c) depth e m k n s = of-given _ _ λ v l. of-value
+shaped-of (other string) depth e m k n s = of-given _ _ λ a z. either-way (Of k) (utf8 (part a z s)) of-value of-fault
+shaped-of (other bytes) depth e m k n s = of-given _ _ λ a z. of-value
+shaped-of (other message) depth e m k n s = either-way (Of k) (leb 100 depth) of-fault (of-given _ _ λ a z. of-message)
+shaped-of (other packed) depth e m k n s = of-given _ _ λ a z. of-packed
+shaped-of (other startGroup) depth e m k n s = of-given _ _ λ v l. of-dropped
 shaped-of (other endGroup) depth e m k n s = of-fault
 shaped-of (other nothing) depth e m k n s = of-fault
 
@@ -381,7 +381,7 @@ data Unseen (n : ℕ) (g : List ℕ → Field) (s : List ℕ) : Field → Type 0
 
 bytes-unseen : (depth : ℕ) (e : Entry) (m k n : ℕ) (s : List ℕ) → Unseen n (shaped (other bytes) depth e m k n) s (shaped (other bytes) depth e m k n s)
 unfolding shaped given
-bytes-unseen depth e m k n s = go (content-found 4 15 s)
+bytes-unseen depth e m k n s = go (content-found _ _ s)
   where
     go : {r : Read} → Found (content varint32) s r
         → Unseen n (λ x. given (content varint32 x) λ a z. Value m k 0 (n + a) (n + z)) s (given r λ a z. Value m k 0 (n + a) (n + z))
