@@ -1,4 +1,5 @@
 pub mod Laws
+pub mod SchemaLaws
 pub mod VarintLaws
 pub mod Utf8Laws
 pub mod KindLaws
