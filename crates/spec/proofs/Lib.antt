@@ -5,6 +5,7 @@ pub mod VarintLaws
 pub mod Utf8Laws
 pub mod KindLaws
 pub mod FrontLaws
+pub mod PullLaws
 pub mod ReadingLaws
 pub mod RecordLaws
 pub mod DocumentLaws
