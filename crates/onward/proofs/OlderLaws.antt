@@ -8,11 +8,11 @@ use mathlib.Core.List.{List, _∷_}
 use mathlib.Core.Option.{none, some}
 use lib.ListN.{length}
 use lib.Dec.{ltb, eqb}
-use borrow.Author.Tests.{ltb-true, leb-true, le-leb, eq-eqb, ne-eqb, lt-ltb}
+use borrow.Author.Tests.{ltb-true, leb-true, le-leb, eq-eqb, lt-ltb}
 use Rattle.spec.specs.Base.{if_then_else_, between}
 use Rattle.spec.specs.Varint.{zigzag, little}
-use Rattle.spec.specs.Kind.{Scalar, int32, uint32, uint64, bool, sint32, sint64, fixed32, sfixed32, fixed64, one, other, bytes, wires, wire, shapes, shape, isScalar, encoded, fits}
-use Rattle.spec.specs.Schema.{Schema, rises, badEntry, badSchema, noEntry, lookup, unknownKind, kindOf}
+use Rattle.spec.specs.Kind.{Scalar, int32, uint32, uint64, bool, sint32, sint64, fixed32, sfixed32, fixed64, one, other, bytes, wires, wire, shapes, shape, encoded, fits}
+use Rattle.spec.specs.Schema.{Schema, rises, badEntry, badSchema, noEntry, lookup, unknownKind}
 use Rattle.onward.specs.Onward.{Fewer, end, keep, leave-out, Older, rawOf}
 use Rattle.spec.proofs.KindLaws.{signed-of, signed-below, zigzag-below, zigzag-below64, wireOne, wireOf, wire-shape}
 use Rattle.spec.proofs.Laws.{both-true}
@@ -98,17 +98,6 @@ older-valid old new o h =
     ∙ ap (λ (n : ℕ). badEntry n 0 0 0 (old .entries)) (o .same-types) ∙ fewer-good (o .fewer-entries) (new .types) 0 0 0 (v .2) 0 0 0 (λ x y c. c)
 
 -- ---- a field with no entry
-
-pub kindOf-lacking : (e : Entry) (w : ℕ) → e .kind ≡ 0 → w ≤ 5 → kindOf e w ≡ unknownKind w
-unfolding kindOf wire wires shape shapes isScalar
-kindOf-lacking e w k h =
-    ap (λ (k : ℕ). if eqb w (wire k) then k else if e .repeated && isScalar (shape k) && eqb w 2 then 20 else unknownKind w) k
-    ∙ ap (λ (b : Bool). if b then 0 else if e .repeated && false && eqb w 2 then 20 else unknownKind w) (ne-eqb w 7 (λ p. omega arith))
-    ∙ go (e .repeated)
-  where
-    go : (b : Bool) → (if b && false && eqb w 2 then 20 else unknownKind w) ≡ unknownKind w
-    go true = refl
-    go false = refl
 
 -- the scalar that an unknown value of this wire type is
 unfoldable pub bare : Scalar → Scalar

@@ -6,6 +6,7 @@ pub mod Utf8Laws
 pub mod KindLaws
 pub mod FrontLaws
 pub mod PullLaws
+pub mod FieldLaws
 pub mod ReadingLaws
 pub mod RecordLaws
 pub mod DocumentLaws

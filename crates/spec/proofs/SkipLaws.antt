@@ -7,11 +7,11 @@ use mathlib.Core.Bool.{Bool, true, false, _&&_}
 use mathlib.Core.List.{List, [], _∷_}
 use lib.ListN.{length, drop, length-drop}
 use lib.Dec.{leb, ltb, eqb}
-use borrow.Author.Tests.{le-leb, lt-leb, lt-ltb, le-ltb, eqb-true, eqb-false, eq-eqb, ne-eqb}
+use borrow.Author.Tests.{leb-true, le-leb, lt-leb, lt-ltb, le-ltb, eqb-true, eqb-false, eq-eqb, ne-eqb}
 use Rattle.spec.specs.Base.{if_then_else_, limit, Read, Took, No, require, longer, _>>=_}
 use Rattle.spec.specs.Varint.{varint, varint32, varint64, fixed, tag, goodTag}
 use Rattle.spec.specs.Skip.{content, plain, skipField, skipGroup, innerGroup, outerGroup, checked, skipFieldForTag, readUnknownOrSkipGroup}
-use Rattle.spec.proofs.Laws.{either-way, by-test, both-true, Takes, took, none, takes-weaker, takes-next, takes-tag, takes-plain, next-cong, next-took, next-no, longer-longer}
+use Rattle.spec.proofs.Laws.{either-way, by-test, both, both-true, Takes, took, none, takes-weaker, takes-next, takes-tag, takes-plain, next-cong, next-took, next-no, longer-longer}
 use Rattle.spec.proofs.VarintLaws.{lower-or-not}
 
 -- ---- a field, by its wire type
@@ -177,6 +177,24 @@ bad-number t h = ap (λ (b : Bool). leb (t % 8) 5 && b) (lt-leb 1 (t / 8) (omega
     go : (b : Bool) → (b && false) ≡ false
     go true = refl
     go false = refl
+
+-- a tag that was read is a varint32 of a wire type up to 5 and a number from 1 on
+pub tag-read : (s : List ℕ) (t n : ℕ) → tag s ≡ Took t n → (varint32 s ≡ Took t n) × (t % 8 ≤ 5) × (1 ≤ t / 8)
+unfolding tag require
+tag-read s t n e = go (varint32 s) e
+  where
+    go : (r : Read) → require 3 goodTag r ≡ Took t n → (r ≡ Took t n) × (t % 8 ≤ 5) × (1 ≤ t / 8)
+    go (No k) x = let z : _≡_ {A = ℕ} 0 1 = cc in absurd (omega arith)
+    go (Took v m) x =
+        by-test (goodTag v)
+        (λ g.
+        let y : Took v m ≡ Took t n = ap (λ (b : Bool). if b then Took v m else No 3) (sym g) ∙ x in
+        let z : v ≡ t = cc in
+        let h = both (leb (t % 8) 5) (leb 1 (t / 8)) (ap goodTag (sym z) ∙ g) in
+        (y, leb-true (t % 8) 5 (h .0), leb-true 1 (t / 8) (h .1)))
+        (λ g.
+        let y : No 3 ≡ Took t n = ap (λ (b : Bool). if b then Took v m else No 3) (sym g) ∙ x in
+        let z : _≡_ {A = ℕ} 0 1 = cc in absurd (omega arith))
 
 -- ---- the two calls: 11, then 3, then what the field says
 
