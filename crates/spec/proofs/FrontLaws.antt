@@ -19,7 +19,7 @@ use Rattle.spec.specs.Skip.{content, plain, skipField, skipGroup, innerG
 use Rattle.spec.specs.Reading.{Field, Value, Message, Packed, Dropped, Fault, given, shaped, field, used}
 use Rattle.spec.specs.declared.Entry.{Entry}
 use Rattle.spec.proofs.Laws.{either-way, chosen, Takes, took, none, takes-tag}
-use Rattle.spec.proofs.Laws.{takes-skipField, takes-skipGroup, group-step}
+use Rattle.spec.proofs.SkipLaws.{takes-skipField, takes-skipGroup, group-step}
 
 -- what p reads in s it reads again in the bytes that it took, with u behind them
 pub data Again (p : List ℕ → Read) (s u : List ℕ) : Read → Type 0 where
