@@ -13,7 +13,7 @@ use Rattle.spec.specs.Base.{if_then_else_, between, part}
 use Rattle.spec.specs.Utf8.{utf8}
 use Rattle.spec.specs.Kind.{Scalar, Shape, Special, one, other, string, bytes, message, packed, startGroup, endGroup, nothing, shapes, shape, wire, isScalar, encoded, fits}
 use mathlib.Core.Option.{none}
-use Rattle.spec.specs.Schema.{Schema, badSchema, lookup, unknownKind, kindOf}
+use Rattle.spec.specs.Schema.{Schema, badSchema, lookup, unknownKind, kindOf, says}
 use Rattle.spec.proofs.Laws.{both, by-test}
 use Rattle.spec.specs.Record.{Record, deeper}
 use Rattle.spec.specs.declared.Entry.{Entry}
@@ -478,6 +478,6 @@ module _ (sch : Schema) (payload : List ℕ) where
 
 pub round-trip : (sch : Schema) (payload : List ℕ) (rs : List Record) → badSchema sch ≡ none → listFault sch payload 0 (Fields 0 ∷ []) rs ≡ Fine
     → length (written payload rs) ≤ 2147483647
-    → (qs : List Record) × (read sch 0 0 0 (written payload rs) ≡ after qs Done) × Alike (written payload rs) payload qs rs × Tree sch (written payload rs) 0 0 qs (written payload rs)
+    → (qs : List Record) × (read (says sch) 0 0 0 (written payload rs) ≡ after qs Done) × Alike (written payload rs) payload qs rs × Tree sch (written payload rs) 0 0 qs (written payload rs)
 round-trip sch payload rs valid fine small =
     back sch payload (written payload rs) (valid-tree sch payload (schema-kinds sch valid) rs fine) 0 (stands-self sch payload (written payload rs) (written payload rs)) small
