@@ -6,8 +6,8 @@ use mathlib.Core.Path.{_≡_, refl, sym, ap, _∙_}
 use mathlib.Core.Bool.{Bool, true, false, _&&_, false≢true}
 use mathlib.Core.List.{List, _∷_}
 use lib.ListN.{length, drop}
-use lib.Dec.{eqb}
-use borrow.Author.Tests.{le-leb, lt-leb, eq-eqb, ne-eqb}
+use lib.Dec.{leb, eqb}
+use borrow.Author.Tests.{leb-true, leb-false, le-leb, eq-eqb, ne-eqb}
 use Rattle.spec.specs.Base.{if_then_else_, part, Read, Took, No, longer, _>>=_, digit}
 use Rattle.spec.specs.Varint.{varint, varint32, varint64, fixed, tag}
 use Rattle.spec.specs.Utf8.{utf8}
@@ -16,6 +16,7 @@ use Rattle.spec.specs.Schema.{Schema, lookup, unknownKind, kindOf}
 use Rattle.spec.specs.Skip.{content, skipField, innerGroup, outerGroup}
 use Rattle.spec.specs.Record.{row}
 use Rattle.spec.specs.Reading.{Field, Value, Message, Packed, Dropped, Fault, given, shaped, field, Reading, Done, _then_, contents, records}
+use Rattle.spec.proofs.Laws.{if-so, if-not}
 use Rattle.spec.proofs.KindLaws.{wireOne, wireOf, wire-shape}
 use Rattle.spec.proofs.SkipLaws.{group-too-deep, group-closes, group-field-refused, tag-read}
 use Rattle.spec.specs.declared.Entry.{Entry}
@@ -65,12 +66,12 @@ module _ (depth : ℕ) (e : Entry) (m kind n : ℕ) (s : List ℕ) where
   -- a message head stands below depth 100, whatever is behind its tag
   pub message-too-deep : 100 ≤ depth → shaped (other message) depth e m kind n s ≡ Fault 7 0
   unfolding shaped
-  message-too-deep h = simp (le-leb 100 depth h)
+  message-too-deep h = if-so (leb _ depth) _ (λ e. omega (arith, leb-false _ depth e))
 
   -- the length of a message and of a packed field is a varint64; a packed field's head may stand at every depth
   pub message-head : depth < 100 → shaped (other message) depth e m kind n s ≡ given (content varint64 s) λ a z. Message m (e .child) (n + a) (n + z)
   unfolding shaped
-  message-head h = simp (lt-leb 100 depth h)
+  message-head h = if-not (leb _ depth) _ (λ e. omega (arith, leb-true _ depth e))
 
   pub packed-head : shaped (other packed) depth e m kind n s ≡ given (content varint64 s) λ a z. Packed m (e .kind) (n + a) (n + z)
   unfolding shaped
