@@ -62,6 +62,15 @@ kind-lacking e w k h = kind-unknown e w (λ p. omega (arith, p ∙ ap wire k)) (
 
 -- ---- what stands behind the tag, by its shape
 
+-- with what was read
+pub given-took : {r : Read} {v n : ℕ} (f : ℕ → ℕ → Field) → r ≡ Took v n → given r f ≡ f v n
+unfolding given
+given-took f e = ap (λ (r : Read). given r f) e
+
+pub given-no : {r : Read} {k : ℕ} (f : ℕ → ℕ → Field) → r ≡ No k → given r f ≡ Fault k 0
+unfolding given
+given-no f e = ap (λ (r : Read). given r f) e
+
 module _ (depth : ℕ) (e : Entry) (m kind n : ℕ) (s : List ℕ) where
   -- a message head stands below depth 100, whatever is behind its tag
   pub message-too-deep : 100 ≤ depth → shaped (other message) depth e m kind n s ≡ Fault 7 0
@@ -101,31 +110,18 @@ module _ (s : List ℕ) where
 
   module _ (depth : ℕ) (e : Entry) (m kind n : ℕ) where
     pub message-six : depth < 100 → shaped (other message) depth e m kind n (zeroInSix s) ≡ Message m (e .child) (n + 6) (n + 6)
-    unfolding given
-    message-six h = message-head depth e m kind n (zeroInSix s) h ∙ ap (λ (r : Read). given r λ a z. Message m (e .child) (n + a) (n + z)) six-64
+    message-six h = message-head depth e m kind n (zeroInSix s) h ∙ given-took _ six-64
 
     pub packed-six : shaped (other packed) depth e m kind n (zeroInSix s) ≡ Packed m (e .kind) (n + 6) (n + 6)
-    unfolding given
-    packed-six = packed-head depth e m kind n (zeroInSix s) ∙ ap (λ (r : Read). given r λ a z. Packed m (e .kind) (n + a) (n + z)) six-64
+    packed-six = packed-head depth e m kind n (zeroInSix s) ∙ given-took _ six-64
 
     pub string-six : shaped (other string) depth e m kind n (zeroInSix s) ≡ Fault 2 0
-    unfolding given
-    string-six = string-value depth e m kind n (zeroInSix s)
-        ∙ ap (λ (r : Read). given r λ a z. if utf8 (part a z (zeroInSix s)) then Value m kind 0 (n + a) (n + z) else Fault 6 0) six-32
+    string-six = string-value depth e m kind n (zeroInSix s) ∙ given-no _ six-32
 
     pub bytes-six : shaped (other bytes) depth e m kind n (zeroInSix s) ≡ Fault 2 0
-    unfolding given
-    bytes-six = bytes-value depth e m kind n (zeroInSix s) ∙ ap (λ (r : Read). given r λ a z. Value m kind 0 (n + a) (n + z)) six-32
+    bytes-six = bytes-value depth e m kind n (zeroInSix s) ∙ given-no _ six-32
 
 -- ---- the field at the front of some bytes, by its tag
-
-given-took : {r : Read} {v n : ℕ} (f : ℕ → ℕ → Field) → r ≡ Took v n → given r f ≡ f v n
-unfolding given
-given-took f e = ap (λ (r : Read). given r f) e
-
-given-no : {r : Read} {k : ℕ} (f : ℕ → ℕ → Field) → r ≡ No k → given r f ≡ Fault k 0
-unfolding given
-given-no f e = ap (λ (r : Read). given r f) e
 
 pub bad-tag-fault : (sch : Schema) (depth type : ℕ) (s : List ℕ) (k : ℕ) → tag s ≡ No k → field sch depth type s ≡ Fault k 0
 unfolding field
