@@ -20,6 +20,8 @@ use Rattle.spec.specs.Reading.{Look, Field, Value, Message, Packed, Drop
 use Rattle.spec.specs.declared.Entry.{Entry}
 use Rattle.spec.proofs.Laws.{either-way, chosen, Takes, took, none, takes-tag}
 use Rattle.spec.proofs.SkipLaws.{takes-skipField, takes-skipGroup, group-step}
+use Rattle.spec.proofs.VarintLaws.{lower-or-not}
+use Rattle.spec.proofs.FieldLaws.{message-head, message-too-deep}
 
 -- what p reads in s it reads again in the bytes that it took, with u behind them
 pub data Again (p : List ℕ → Read) (s u : List ℕ) : Read → Type 0 where
@@ -297,9 +299,13 @@ module _ (n : ℕ) (s u : List ℕ) where
       (λ t. faulty)
   kept-string p good f h not-found = faulty
 
-  kept-unless : (b : Bool) (k : ℕ) (g : List ℕ → Field) → Kept n g s u (g s) → Kept n (λ x. if b then Fault k 0 else g x) s u (if b then Fault k 0 else g s)
-  kept-unless true k g x = faulty
-  kept-unless false k g x = x
+  -- of two that read alike
+  kept-same : (f g : List ℕ → Field) → ((x : List ℕ) → f x ≡ g x) → Kept n g s u (g s) → Kept n f s u (f s)
+  kept-same f g h k = subst (Kept n f s u) (sym (h s)) (go k)
+    where
+      go : {x : Field} → Kept n g s u x → Kept n f s u x
+      go (kept l e q) = kept l e (h _ ∙ q)
+      go faulty = faulty
 
 kept-behind : (f g : List ℕ → Field) (n : ℕ) (s u : List ℕ) → ((y : List ℕ) → f (take n s ++ y) ≡ g y) → {x : Field} → Kept n g (drop n s) u x
     → 1 ≤ used x → f (take (used x) s ++ u) ≡ x
@@ -315,7 +321,9 @@ shaped-kept (one c) depth inner m kind n s u = kept-given n s u _ _ (λ v l. ref
 shaped-kept (other string) depth inner m kind n s u = kept-string n s u _ utf8 _ (λ a z. refl) (content-found _ _ s)
 shaped-kept (other bytes) depth inner m kind n s u = kept-given n s u _ _ (λ a z. refl) (again-content _ _ s u)
 shaped-kept (other message) depth inner m kind n s u =
-    kept-unless n s u (leb 100 depth) 7 _ (kept-given n s u _ _ (λ a z. refl) (again-content _ _ s u))
+    lower-or-not depth 100
+    (λ c. kept-same n s u _ _ (λ x. message-head depth inner m kind n x c) (kept-given n s u _ _ (λ a z. refl) (again-content _ _ s u)))
+    (λ c. subst (Kept n _ s u) (sym (message-too-deep depth inner m kind n s c)) faulty)
 shaped-kept (other packed) depth inner m kind n s u = kept-given n s u _ _ (λ a z. refl) (again-content _ _ s u)
 shaped-kept (other startGroup) depth inner m kind n s u = kept-given n s u _ _ (λ v l. refl) (again-outerGroup depth s u)
 shaped-kept (other endGroup) depth inner m kind n s u = faulty
@@ -365,7 +373,10 @@ unfolding shaped
 shaped-of (one c) depth inner m k n s = of-given _ _ λ v l. of-value
 shaped-of (other string) depth inner m k n s = of-given _ _ λ a z. either-way (Of k) (utf8 (part a z s)) of-value of-fault
 shaped-of (other bytes) depth inner m k n s = of-given _ _ λ a z. of-value
-shaped-of (other message) depth inner m k n s = either-way (Of k) (leb 100 depth) of-fault (of-given _ _ λ a z. of-message)
+shaped-of (other message) depth inner m k n s =
+    lower-or-not depth 100
+    (λ c. subst (Of k) (sym (message-head depth inner m k n s c)) (of-given _ _ λ a z. of-message))
+    (λ c. subst (Of k) (sym (message-too-deep depth inner m k n s c)) of-fault)
 shaped-of (other packed) depth inner m k n s = of-given _ _ λ a z. of-packed
 shaped-of (other startGroup) depth inner m k n s = of-given _ _ λ v l. of-dropped
 shaped-of (other endGroup) depth inner m k n s = of-fault

@@ -8,7 +8,7 @@ use mathlib.Core.Bool.{Bool, true, false}
 use mathlib.Core.List.{List, [], _∷_}
 use lib.ListN.{length, drop, length-drop}
 use lib.Dec.{leb, ltb}
-use borrow.Author.Tests.{leb-true, leb-false, le-leb, lt-leb, lt-ltb, le-ltb}
+use borrow.Author.Tests.{leb-true, leb-false, le-leb, lt-leb, ltb-true, ltb-false}
 use Rattle.spec.specs.Base.{if_then_else_, part, Read, Took, No, refusal, digit}
 use Rattle.spec.specs.Varint.{varint, varint32, varint64}
 use Rattle.spec.specs.Utf8.{utf8}
@@ -218,8 +218,8 @@ module _ (r : Reader) where
 -- a reader opens at position 0 and level 0, and over more bytes than may be read not at all
 pub opened-long : (s : List ℕ) → 2147483647 < length s → opened s ≡ record { number = 11; reader = reader [] 0 0 }
 unfolding opened
-opened-long s h = simp (lt-ltb 2147483647 (length s) h)
+opened-long s h = if-so (ltb _ (length s)) _ (λ e. omega (arith, ltb-false _ (length s) e))
 
 pub opened-well : (s : List ℕ) → length s ≤ 2147483647 → opened s ≡ record { number = 0; reader = reader s 0 0 }
 unfolding opened
-opened-well s h = simp (le-ltb 2147483647 (length s) h)
+opened-well s h = if-not (ltb _ (length s)) _ (λ e. omega (arith, ltb-true _ (length s) e))

@@ -7,7 +7,7 @@ use mathlib.Core.Bool.{Bool, true, false, _&&_}
 use mathlib.Core.List.{List, [], _∷_}
 use lib.ListN.{length, drop, length-drop}
 use lib.Dec.{leb, ltb, eqb}
-use borrow.Author.Tests.{leb-true, leb-false, le-leb, lt-leb, lt-ltb, le-ltb, eqb-true, eqb-false, eq-eqb, ne-eqb}
+use borrow.Author.Tests.{leb-true, leb-false, le-leb, lt-leb, ltb-true, ltb-false, eqb-true, eqb-false, eq-eqb, ne-eqb}
 use Rattle.spec.specs.Base.{if_then_else_, limit, Read, Took, No, require, longer, _>>=_}
 use Rattle.spec.specs.Varint.{varint, varint32, varint64, fixed, tag, goodTag}
 use Rattle.spec.specs.Skip.{content, plain, skipField, skipGroup, innerGroup, outerGroup, checked, skipFieldForTag, readUnknownOrSkipGroup}
@@ -200,13 +200,13 @@ tag-read s t n e = go (varint32 s) e
 
 module _ (t : ℕ) (s : List ℕ) where
   checked-long : (r : Read) → 2147483647 < length s → checked t s r ≡ No 11
-  checked-long r h = simp (lt-ltb 2147483647 (length s) h)
+  checked-long r h = if-so (ltb _ (length s)) _ (λ e. omega (arith, ltb-false _ (length s) e))
 
   checked-bad : (r : Read) → length s ≤ 2147483647 → goodTag t ≡ false → checked t s r ≡ No 3
-  checked-bad r h g = simp (le-ltb 2147483647 (length s) h, g)
+  checked-bad r h g = if-not (ltb _ (length s)) _ (λ e. omega (arith, ltb-true _ (length s) e)) ∙ simp g
 
   checked-good : (r : Read) → length s ≤ 2147483647 → goodTag t ≡ true → checked t s r ≡ r
-  checked-good r h g = simp (le-ltb 2147483647 (length s) h, g)
+  checked-good r h g = if-not (ltb _ (length s)) _ (λ e. omega (arith, ltb-true _ (length s) e)) ∙ simp g
 
 module _ (t level : ℕ) (s : List ℕ) where
   pub skip-long : 2147483647 < length s → skipFieldForTag t level s ≡ No 11
