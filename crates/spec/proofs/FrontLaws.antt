@@ -14,10 +14,8 @@ use Rattle.spec.specs.Base.{if_then_else_, part, Read, Took, No, refusal
 use Rattle.spec.specs.Varint.{varint, fixed, tag, varint32, varint64}
 use Rattle.spec.specs.Utf8.{utf8}
 use Rattle.spec.specs.Kind.{Scalar, int32, uint32, uint64, bool, sint32, sint64, fixed32, sfixed32, fixed64, Shape, one, other, string, bytes, message, packed, startGroup, endGroup, nothing, shape, scalar}
-use Rattle.spec.specs.Schema.{Schema, lookup, kindOf, says}
 use Rattle.spec.specs.Skip.{content, plain, skipField, skipGroup, innerGroup, outerGroup}
 use Rattle.spec.specs.Reading.{Look, Field, Value, Message, Packed, Dropped, Fault, given, shaped, field, used}
-use Rattle.spec.specs.declared.Entry.{Entry}
 use Rattle.spec.proofs.Laws.{either-way, chosen, Takes, took, none, takes-tag}
 use Rattle.spec.proofs.SkipLaws.{takes-skipField, takes-skipGroup, group-step}
 use Rattle.spec.proofs.VarintLaws.{lower-or-not}

@@ -1,24 +1,19 @@
 -- Laws of reading: a field takes at least one byte and lies in the bytes, and a message is its first field's records, followed by the rest's.
 -- Assumes nothing.
-use Prim.Native.Nat.{ℕ, zero, suc, _+_, _-_, _*_, _/_, _%_, _≤_, _<_, zero-le, suc-le-suc}
+use Prim.Native.Nat.{ℕ, zero, suc, _+_, _-_, _/_, _≤_, _<_}
 use native.Mathlib.Omega.{arith}
 use mathlib.Core.Path.{_≡_, refl, sym, ap, ap₂, _∙_, subst}
-use mathlib.Core.Bool.{Bool, true, false}
-use mathlib.Core.List.{List, [], _∷_, _++_}
-use lib.ListN.{length, take, drop, length-drop, length-take}
-use Rattle.spec.specs.Base.{if_then_else_, part, Read, Took, No}
-use Rattle.spec.specs.Varint.{tag}
+use mathlib.Core.List.{List, [], _∷_}
+use lib.ListN.{length, drop, length-drop, length-take}
+use Rattle.spec.specs.Base.{part, Read, No}
 use Rattle.spec.specs.Utf8.{utf8}
 use Rattle.spec.specs.Kind.{Scalar, Shape, one, other, string, bytes, message, packed, startGroup, endGroup, nothing, shape, scalar}
-use Rattle.spec.specs.Schema.{Schema, lookup, kindOf}
-use Rattle.spec.specs.Skip.{content, outerGroup}
-use Rattle.spec.specs.Reading.{Look, Field, Value, Message, Packed, Dropped, Fault, given, shaped, field, used, Reading, Done, Refused, _then_, _followed-by_, element, elements, contents, records, fields, read}
+use Rattle.spec.specs.Reading.{Look, Field, Value, Message, Packed, Dropped, Fault, given, shaped, field, used, Reading, Done, Refused, _then_, _followed-by_, element, elements, records, fields, read}
 use Rattle.spec.specs.Record.{row}
 use Rattle.spec.proofs.Laws.{either-way, Takes, took, none, takes-tag, takes-scalar, takes-varint, Holds, holds, content-holds}
 use Rattle.spec.proofs.VarintLaws.{lower-or-not}
 use Rattle.spec.proofs.SkipLaws.{takes-skipGroup}
 use Rattle.spec.proofs.FieldLaws.{message-head, message-too-deep}
-use Rattle.spec.specs.declared.Entry.{Entry}
 
 -- from a up to e, behind at least one byte, and in the first `most`
 abbrev pub In : ℕ → ℕ → ℕ → Type 0

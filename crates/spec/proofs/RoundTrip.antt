@@ -1,28 +1,28 @@
 -- Written bytes read back as the list: depths, numbers, kinds, values and contents. `Tree` is a valid list, by its nesting, with its bytes.
 -- Assumes nothing.
-use Prim.Native.Nat.{ℕ, zero, suc, _+_, _-_, _*_, _/_, _%_, _^_, _≤_, _<_}
+use Prim.Native.Nat.{ℕ, zero, suc, _+_, _-_, _*_, _≤_, _<_}
 use native.Mathlib.Omega.{arith}
 use mathlib.Core.Path.{_≡_, refl, sym, ap, ap₂, _∙_, subst}
-use mathlib.Core.Bool.{Bool, true, false, not, _&&_, false≢true}
+use mathlib.Core.Bool.{Bool, true, false, false≢true}
 use mathlib.Core.List.{List, [], _∷_, _++_, append-assoc, append-nil}
-use lib.ListN.{length, take, drop, length-append, length-take, length-drop}
-use lib.Seq.{drop-append-seam, take-append-seam, drop-drop, drop-at}
-use lib.Dec.{leb, ltb, eqb}
-use borrow.Author.Tests.{le-leb, lt-leb, leb-true, eqb-true, ne-eqb}
-use Rattle.spec.specs.Base.{if_then_else_, between, part, limit, Read, Took, No, require, longer, _>>=_}
-use Rattle.spec.specs.Varint.{varint, varint32, varint64, encode, shortest, tag}
+use lib.ListN.{length, take, drop, length-append}
+use lib.Seq.{drop-append-seam, take-append-seam, drop-at}
+use lib.Dec.{eqb}
+use borrow.Author.Tests.{le-leb, ne-eqb}
+use Rattle.spec.specs.Base.{if_then_else_, part, Read, Took, require}
+use Rattle.spec.specs.Varint.{varint, encode, shortest, tag}
 use Rattle.spec.specs.Record.{Record, row}
 use Rattle.spec.proofs.VarintLaws.{lower-or-not, shortest-ends, shortest-goes-on}
 use Rattle.spec.specs.Utf8.{utf8}
 use Rattle.spec.specs.Kind.{Scalar, Shape, Special, one, other, string, bytes, message, packed, startGroup, endGroup, nothing, shape, wire, scalar, encoded, fits}
 use Rattle.spec.specs.Schema.{Schema, lookup, kindOf, insideOf, saysOf, says}
-use Rattle.spec.specs.Reading.{Field, Value, Message, Packed, Fault, given, shaped, field, used, Reading, Done, Refused, _then_, _followed-by_, element, elements, contents, records, read, after}
+use Rattle.spec.specs.Reading.{Field, Value, Message, Packed, given, shaped, field, used, Reading, Done, _then_, _followed-by_, element, elements, contents, records, read, after}
 use Rattle.spec.specs.Writing.{prefixed, lies}
-use Rattle.spec.proofs.Laws.{both-true, Takes, took, none, takes-scalar}
+use Rattle.spec.proofs.Laws.{both-true, Takes, took, takes-scalar}
 use Rattle.spec.proofs.ReadingLaws.{read-nil, read-cons, elements-cons}
 use Rattle.spec.proofs.RecordLaws.{after-append, after-followed}
 use Rattle.spec.proofs.KindLaws.{scalar-encoded}
-use Rattle.spec.proofs.WritingLaws.{field-written, scalar-written, from, to, part-written, bytes-written, string-written, message-written, packed-written}
+use Rattle.spec.proofs.WritingLaws.{field-written, scalar-written, from, to, bytes-written, string-written, message-written, packed-written}
 use Rattle.spec.specs.declared.Entry.{Entry}
 
 -- ---- what is compared

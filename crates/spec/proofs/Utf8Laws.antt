@@ -1,7 +1,7 @@
 -- Laws of UTF-8: the longest valid prefix lies in the bytes, and is a character and the longest valid prefix of the rest; it is valid,
 -- and no valid prefix is longer.
 -- Assumes nothing.
-use Prim.Native.Nat.{ℕ, zero, suc, _+_, _-_, _≤_, _<_}
+use Prim.Native.Nat.{ℕ, zero, suc, _+_, _≤_, _<_}
 use native.Mathlib.Omega.{arith}
 use mathlib.Core.Path.{_≡_, refl, sym, ap, _∙_}
 use mathlib.Core.Bool.{Bool, true, false, _&&_, false≢true}

@@ -1,19 +1,19 @@
 -- A field that is written is read back, which is the step of the round trip; and the equation of the written bytes.
 -- Assumes nothing.
-use Prim.Native.Nat.{ℕ, zero, suc, _+_, _-_, _*_, _/_, _%_, _^_, _≤_, _<_}
+use Prim.Native.Nat.{ℕ, zero, suc, _+_, _-_, _*_, _/_, _%_, _≤_, _<_}
 use native.Mathlib.Omega.{arith}
-use mathlib.Core.Path.{_≡_, refl, sym, ap, ap₂, _∙_, subst}
+use mathlib.Core.Path.{_≡_, refl, sym, ap, ap₂, _∙_}
 use mathlib.Core.Bool.{Bool, true, not}
 use mathlib.Core.List.{List, [], _∷_, _++_, append-assoc}
 use lib.ListN.{length, take, drop, length-append, length-take, length-drop}
 use lib.Seq.{drop-append-seam, take-append-seam}
 use lib.Dec.{leb, ltb, eqb}
 use borrow.Author.Tests.{le-leb}
-use Rattle.spec.specs.Base.{if_then_else_, between, part, Read, Took, No, require, longer, _>>=_}
+use Rattle.spec.specs.Base.{if_then_else_, part, Read, Took, No, require, longer, _>>=_}
 use Rattle.spec.specs.Varint.{varint, encode, tag, goodTag}
 use Rattle.spec.specs.Utf8.{utf8}
-use Rattle.spec.specs.Kind.{Scalar, Shape, one, other, string, bytes, message, packed, shape, scalar, encoded, fits}
-use Rattle.spec.specs.Schema.{Schema, lookup, kindOf, Says, saysOf, says}
+use Rattle.spec.specs.Kind.{Scalar, one, other, string, bytes, message, packed, shape, encoded, fits}
+use Rattle.spec.specs.Schema.{Schema, lookup, Says, saysOf, says}
 use Rattle.spec.specs.Skip.{content}
 use Rattle.spec.specs.Reading.{Field, Value, Message, Packed, Fault, shaped, field}
 use Rattle.spec.specs.Record.{Record, deeper}
@@ -22,7 +22,6 @@ use Rattle.spec.specs.Writing.{prefixed, body, tagOf, bytesOf}
 use Rattle.spec.proofs.VarintLaws.{varint-shortest, top}
 use Rattle.spec.proofs.KindLaws.{scalar-encoded}
 use Rattle.spec.proofs.FieldLaws.{given-took, bytes-value, string-value, message-head, packed-head}
-use Rattle.spec.specs.declared.Entry.{Entry}
 
 pub tag-written : (m w : ℕ) (u : List ℕ) → 1 ≤ m → m ≤ 536870911 → w ≤ 5
     → tag (encode (m * 8 + w) ++ u) ≡ Took (m * 8 + w) (length (encode (m * 8 + w)))
