@@ -1,4 +1,4 @@
--- Schema B is older than A, and what it reads of document 01's listing. Assumes nothing.
+-- Schema B of the user's rules is older than A, and what it reads of a list with every way to be lacked. Assumes nothing.
 use Prim.Native.Nat.{ℕ}
 use mathlib.Core.Path.{_≡_, refl}
 use mathlib.Core.List.{List, [], _∷_, map}

@@ -1,4 +1,4 @@
--- Document 01's schemas A and B, and its starred cases, as one list under one statement.
+-- The schemas A and B of the user's rules, and the cases that the rules mark to be proved, as one list under one statement.
 -- Assumes nothing.
 use Prim.Native.Nat.{ℕ}
 use mathlib.Core.Path.{_≡_, refl}
