@@ -4,10 +4,19 @@ use Prim.Native.Nat.{ℕ, zero, suc, _+_, _*_, _/_, _%_, _<_}
 use mathlib.Core.Path.{_≡_, refl, ap, sym, _∙_}
 use mathlib.Core.List.{List}
 use native.Mathlib.Omega.{arith}
-use native.Mathlib.Nat.{add-zero, mod-eq-of-lt}
+use native.Mathlib.Nat.{add-zero, add-assoc, mod-eq-of-lt}
 use lib.Bits.{bitAnd, and-block, and-high}
 use lib.ListN.{getD}
 use Rattle.wire.specs.Text.{word, Low}
+
+-- the word, from its bytes and from its halves
+pub word-four : (s : List ℕ) (i : ℕ) → word 4 s i ≡ getD s i 0 + getD s (i + 1) 0 * 256 + getD s (i + 2) 0 * 65536 + getD s (i + 3) 0 * 16777216
+unfolding word
+word-four s i = simp add-assoc (omega arith)
+
+pub word-eight : (s : List ℕ) (i : ℕ) → word 8 s i ≡ word 4 s i + word 4 s (i + 4) * 4294967296
+unfolding word
+word-eight s i = simp add-assoc (omega arith)
 
 -- the highest bit of each of n bytes
 unfoldable pub highs : ℕ → ℕ

@@ -13,7 +13,6 @@ use borrow.Author.Tests.{le-leb, lt-leb, leb-true}
 use Rattle.spec.specs.Base.{if_then_else_, between}
 use Rattle.spec.specs.Utf8.{Lead, Follow, NoLead, lead, followers, behind, char, validPrefix}
 use Rattle.spec.proofs.Utf8Laws.{char-le, valid-le, prefix-stop, prefix-step, prefix-ascii}
-use Rattle.spec.proofs.Laws.{either-way}
 use Rattle.wire.specs.Text.{Low, Passed}
 
 -- a test of two bounds, from the bounds
@@ -33,12 +32,12 @@ short zero lo hi s h = absurd (omega arith)
 short (suc n) lo hi [] h = refl
 short (suc n) lo hi (b ∷ s) h = simp (short n 0x80 0xbf s (omega arith)) (and-false (between lo hi b))
 
+pub short-at : (s : List ℕ) (at n lo hi : ℕ) → length s - at < n → followers n lo hi (drop at s) ≡ false
+short-at s at n lo hi l = short n lo hi (drop at s) (omega (arith, length-drop at s))
+
 module _ (s : List ℕ) (at : ℕ) (h : at < length s) where
   front : drop at s ≡ getD s at 0 ∷ drop (at + 1) s
   front = rw (add-one, drop-cons s at 0)
-
-  pub short-at : (n lo hi : ℕ) → length s - at < n → followers n lo hi (drop at s) ≡ false
-  short-at n lo hi l = short n lo hi (drop at s) (omega (arith, length-drop at s))
 
   module _ (lo hi : ℕ) where
     pub last : between lo hi (getD s at 0) ≡ followers 1 lo hi (drop at s)
@@ -53,33 +52,34 @@ module _ (s : List ℕ) (at : ℕ) (h : at < length s) where
     unfolding followers
     good n e = rw (front, e)
 
-  pub char-at : char (drop at s) ≡ behind (lead (getD s at 0)) (drop (at + 1) s)
+  char-at : char (drop at s) ≡ behind (lead (getD s at 0)) (drop (at + 1) s)
   unfolding char
   char-at = rw front
 
--- a lead byte asks for three bytes at most
-pub data Few : Lead → Type 0 where
-  few : {n lo hi : ℕ} → n ≤ 3 → Few (Follow n lo hi)
-  none : Few NoLead
+  -- the character at a place, by what its lead byte says
+  module _ {n lo hi : ℕ} (e : lead (getD s at 0) ≡ Follow n lo hi) where
+    pub stands : followers n lo hi (drop (at + 1) s) ≡ true → n + 1 ≡ char (drop at s)
+    unfolding behind
+    stands f = rw (char-at, e, f)
 
-pub lead-few : (b : ℕ) → Few (lead b)
-unfolding lead
-lead-few b =
-    either-way Few _ (few {n = 0} (omega arith)) (either-way Few _ (few {n = 1} (omega arith)) (either-way Few _ (few {n = 2} (omega arith)) (either-way Few _ (few {n = 2} (omega arith))
-    (either-way Few _ (few {n = 2} (omega arith)) (either-way Few _ (few {n = 2} (omega arith)) (either-way Few _ (few {n = 3} (omega arith)) (either-way Few _ (few {n = 3} (omega arith))
-    (either-way Few _ (few {n = 3} (omega arith)) none))))))))
+    pub broken : followers n lo hi (drop (at + 1) s) ≡ false → 0 ≡ char (drop at s)
+    unfolding behind
+    broken f = rw (char-at, e, f)
+
+  pub no-lead : lead (getD s at 0) ≡ NoLead → 0 ≡ char (drop at s)
+  unfolding behind
+  no-lead e = rw (char-at, e)
 
 -- a character of two bytes
 pub lead-pair : (b : ℕ) → 0xc2 ≤ b → b ≤ 0xdf → lead b ≡ Follow 1 0x80 0xbf
 unfolding lead
 lead-pair b l h = simp (lt-leb b 0x7f (omega arith), le-leb 0xc2 b l, le-leb b 0xdf h)
 
-char-pair : (s : List ℕ) (j : ℕ) → j + 2 ≤ length s → between 0xc2 0xdf (getD s j 0) ≡ true → between 0x80 0xbf (getD s (j + 1) 0) ≡ true → char (drop j s) ≡ 2
-unfolding behind
+char-pair : (s : List ℕ) (j : ℕ) → j + 2 ≤ length s → between 0xc2 0xdf (getD s j 0) ≡ true → between 0x80 0xbf (getD s (j + 1) 0) ≡ true → 2 ≡ char (drop j s)
 char-pair s j h e f =
     let b = getD s j 0 in
     let (l, u) = and-eq-true-iff (leb 0xc2 b) (leb b 0xdf) .0 e in
-    rw (char-at s j (omega arith), lead-pair b (leb-true 0xc2 b l) (leb-true b 0xdf u), ← last s (j + 1) (omega arith), f)
+    stands s j (omega arith) (lead-pair b (leb-true 0xc2 b l) (leb-true b 0xdf u)) (sym (last s (j + 1) (omega arith) 0x80 0xbf) ∙ f)
 
 -- a run that has passed nothing
 pub stay : {s : List ℕ} (i : ℕ) → i ≤ length s → Passed s i i
@@ -100,9 +100,12 @@ module _ {s : List ℕ} {i j : ℕ} (p : Passed s i j) where
   pub ascii : (n : ℕ) → j + n ≤ length s → Low n s j → Passed s i (j + n)
   ascii n h low = past n h (prefix-ascii n (drop j s) (omega (arith, length-drop j s)) (λ k l. rw getD-drop (low k l)))
 
+  pub ascii-byte : j < length s → getD s j 0 < 128 → Passed s i (j + 1)
+  ascii-byte h low = ascii 1 (omega arith) (λ k l. let e : j + k ≡ j = omega arith in rw e low)
+
   -- a character of two bytes more
   pub pair : j + 2 ≤ length s → between 0xc2 0xdf (getD s j 0) ≡ true → between 0x80 0xbf (getD s (j + 1) 0) ≡ true → Passed s i (j + 2)
-  pair h e f = character 2 (sym (char-pair s j h e f)) (omega arith)
+  pair h e f = character 2 (char-pair s j h e f) (omega arith)
 
 -- where the bytes end, or no character stands, the run has passed all that is valid
 pub whole : {s : List ℕ} {i : ℕ} → Passed s 0 i → length s ≤ i → i ≡ validPrefix s

@@ -13,6 +13,11 @@ abbrev pub leadOf : Lead → spec.Lead
 leadOf (Follow n low high) = spec.Follow n low high
 leadOf NoLead = spec.NoLead
 
+-- how many bytes follow, by the enum
+abbrev pub countOf : Lead → ℕ
+countOf (Follow n low high) = n
+countOf NoLead = 0
+
 -- the n bytes from i on as one number, the first lowest
 unfoldable pub word : ℕ → List ℕ → ℕ → ℕ
 word zero s i = 0

@@ -5,7 +5,7 @@ ghost use Prim.Native.Nat.{_+_, _<_, _≤_};
 ghost use lib.ListN.{length, drop, getD};
 ghost use Rattle.spec.specs.Base.{between};
 ghost use Rattle.spec.specs.Utf8.{lead, followers, char, validPrefix, utf8};
-ghost use Rattle.wire.specs.Text.{leadOf, word, Low, Passed};
+ghost use Rattle.wire.specs.Text.{leadOf, countOf, word, Low, Passed};
 
 fn wide(b: u8) -> u64
     ensures { λ r. ⌜ (r ≡ b) × (r < 256) ⌝ }
@@ -122,7 +122,7 @@ enum Lead {
 }
 
 fn lead_of(b: u8) -> Lead
-    ensures { λ r. ⌜ leadOf r ≡ lead b ⌝ }
+    ensures { λ r. ⌜ (leadOf r ≡ lead b) × (countOf r ≤ 3) ⌝ }
 {
     match b {
         0..=127 => Lead::Follow { count: 0, low: 128, high: 191 },
