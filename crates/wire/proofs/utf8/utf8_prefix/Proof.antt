@@ -1,59 +1,43 @@
+-- `wire::utf8::utf8_prefix` meets its contract. The loop's invariant: up to i stand whole characters. The measure is what is left of the length.
+-- Assumes nothing.
+use Prim.Native.Nat.{_-_}
+use native.Mathlib.Omega.{arith}
+use mathlib.Core.Path.{sym, _∙_}
+use borrow.Author.Needs.{needs}
+use lib.ListN.{length}
+use Rattle.wire.specs.Text.{Passed}
+use Rattle.wire.proofs.Text.{stay, onward, character, whole, stopped}
 use Rattle.wire.proofs.utf8.utf8_prefix.Statement.{statement}
 use Rattle.wire.proofs.utf8.utf8_prefix.Tie as tie
-use Rattle.wire.proofs.utf8.utf8_prefix.Reads as reads
-use Rattle.wire.proofs.utf8.utf8_prefix.Lts as lts
-use Rattle.wire.proofs.utf8.char_at.Reads as char-at-reads
-use Rattle.wire.proofs.utf8.same_run.Reads as same-run-reads
 
 abbrev Inv-loop : tie.InvT-loop
-Inv-loop s i₀ i = ?
+Inv-loop s i₀ i = Passed s 0 i
 
 abbrev μ-loop : tie.MeasureT-loop
-μ-loop s i₀ i = ?
+μ-loop s i₀ i = length s - i
 
--- src/utf8.rt:213:5
 loop-holds : tie.Need-loop-holds Inv-loop μ-loop
-loop-holds c = ?
+loop-holds c = stay 0 (omega arith)
 
--- src/utf8.rt:214:13
-char-at-requires : tie.Need-char-at-requires Inv-loop μ-loop
-char-at-requires c κs = ?
-
--- src/utf8.rt:216:13
 returns : tie.Need-returns Inv-loop μ-loop
-returns c = ?
+returns c = stopped (c .before .before .before .loop .inv) (sym (c .if1 .taken) ∙ c .before .char-at .ensures)
 
--- src/utf8.rt:218:25
-add-same-run : tie.Need-add-same-run Inv-loop μ-loop
-add-same-run c = ?
-
--- src/utf8.rt:218:9
 same-run-requires : tie.Need-same-run-requires Inv-loop μ-loop
-same-run-requires c κs = ?
+same-run-requires c κs = character (c .before .before .before .loop .inv) _ (c .before .char-at .ensures) (omega arith) .within
 
--- src/utf8.rt:213:5
+add-same-run : tie.Need-add-same-run Inv-loop μ-loop
+add-same-run c = omega (arith, character (c .before .before .before .loop .inv) _ (c .before .char-at .ensures) (omega arith) .within)
+
 loop-less : tie.Need-loop-less Inv-loop μ-loop
-loop-less c = ?
+loop-less c = omega arith
 
--- src/utf8.rt:213:5
 loop-again : tie.Need-loop-again Inv-loop μ-loop
-loop-again c = ?
+loop-again c = onward (character (c .before .before .before .before .loop .inv) _ (c .before .before .char-at .ensures) (omega arith)) (c .same-run .ensures)
 
--- src/utf8.rt:209:1
 returns-2 : tie.Need-returns-2 Inv-loop μ-loop
-returns-2 c = ?
+returns-2 c = whole (c .before .loop .inv) (omega arith)
 
 pub utf8-prefix-spec : {M : Type 1} → statement M
 utf8-prefix-spec =
     tie.close
-    (tie.spec
-    Inv-loop
-    μ-loop
-    loop-holds
-    char-at-requires
-    returns
-    add-same-run
-    same-run-requires
-    loop-less
-    loop-again
-    returns-2)
+    (tie.spec Inv-loop μ-loop loop-holds (λ c κs. search needs) returns add-same-run same-run-requires loop-less loop-again returns-2)
