@@ -107,6 +107,14 @@ module _ {s : List ℕ} {i j : ℕ} (p : Passed s i j) where
   pub pair : j + 2 ≤ length s → between 0xc2 0xdf (getD s j 0) ≡ true → between 0x80 0xbf (getD s (j + 1) 0) ≡ true → Passed s i (j + 2)
   pair h e f = character 2 (char-pair s j h e f) (omega arith)
 
+-- at most eight bytes are left, and the last eight are ASCII
+pub ascii-last : (s : List ℕ) (i : ℕ) → i ≤ length s → length s ≤ i + 8 → Low 8 s (length s - 8) → Passed s i (length s)
+ascii-last s i h l low =
+    let there : (k : ℕ) → length s - 8 + (i + k - (length s - 8)) ≡ i + k = λ k. omega arith in
+    let rest : Low (length s - i) s i = λ k b. rw (there k) at (low (i + k - (length s - 8)) (omega arith)) in
+    let end : i + (length s - i) ≡ length s = omega arith in
+    rw end at (ascii {s = s} (stay i h) (length s - i) (omega arith) rest)
+
 -- where the bytes end, or no character stands, the run has passed all that is valid
 pub whole : {s : List ℕ} {i : ℕ} → Passed s 0 i → length s ≤ i → i ≡ validPrefix s
 whole {s} {i} p h = omega (arith, valid-le (drop i s), length-drop i s, p .same)

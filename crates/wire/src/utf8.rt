@@ -43,7 +43,21 @@ fn ascii8(s: &[u8], i: usize) -> bool
     w & 9259542123273814144 == 0
 }
 
-// Past ASCII, sixteen bytes in a turn.
+// Past the last bytes, at most eight, if they are ASCII. Fewer than eight are looked at together with those before them.
+fn ascii_end(s: &[u8], i: usize) -> usize
+    requires { ⌜ (i ≤ length (now s)) × (length (now s) ≤ i + 8) ⌝ }
+    ensures { λ r. ⌜ Passed (now (s .entry)) i r ⌝ }
+{
+    if s.len() < 8 {
+        return i;
+    }
+    if ascii8(s, s.len() - 8) {
+        return s.len();
+    }
+    i
+}
+
+// Past ASCII, as far as words go: sixteen bytes in a turn.
 fn ascii_words(s: &[u8], i: usize) -> usize
     requires { ⌜ i ≤ length (now s) ⌝ }
     ensures { λ r. ⌜ Passed (now (s .entry)) i r ⌝ }
@@ -58,7 +72,13 @@ fn ascii_words(s: &[u8], i: usize) -> usize
         }
         j += 16;
     }
-    j
+    if 8 <= s.len() - j {
+        if !ascii8(s, j) {
+            return j;
+        }
+        return ascii_end(s, j + 8);
+    }
+    ascii_end(s, j)
 }
 
 // Past all ASCII from i on.
@@ -209,7 +229,7 @@ fn char_at(s: &[u8], at: usize) -> usize
 pub fn utf8_prefix(s: &[u8]) -> usize
     ensures { λ r. ⌜ r ≡ validPrefix (now (s .entry)) ⌝ }
 {
-    let mut i = 0;
+    let mut i = ascii_run(s, 0);
     while i < s.len() {
         let n = char_at(s, i);
         if n == 0 {

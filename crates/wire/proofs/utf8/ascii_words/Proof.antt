@@ -7,7 +7,7 @@ use borrow.Author.Needs.{needs}
 use borrow.Author.Tests.{not-false}
 use lib.ListN.{length}
 use Rattle.wire.specs.Text.{Passed}
-use Rattle.wire.proofs.Text.{stay, ascii}
+use Rattle.wire.proofs.Text.{stay, onward, ascii}
 use Rattle.wire.proofs.utf8.ascii_words.Statement.{statement}
 use Rattle.wire.proofs.utf8.ascii_words.Tie as tie
 
@@ -31,8 +31,16 @@ loop-again c =
     let first = ascii (c .before .before .before .before .before .loop .inv) 8 (omega arith) (c .before .before .before .ascii8 .ensures (not-false _ (c .before .before .if1 .left))) in
     rw add-assoc at (ascii first 8 (omega arith) (c .before .ascii82 .ensures (not-false _ (c .if2 .left))))
 
+-- past the loop
 returns-3 : tie.Need-returns-3 Inv-loop μ-loop
-returns-3 c = c .before .loop .inv
+returns-3 c = c .before .before .before .before .loop .inv
+
+returns-4 : tie.Need-returns-4 Inv-loop μ-loop
+returns-4 c =
+    onward (ascii (c .before .before .before .before .before .loop .inv) 8 (omega arith) (c .before .before .ascii83 .ensures (not-false _ (c .before .if4 .left)))) (c .ascii-end .ensures)
+
+returns-5 : tie.Need-returns-5 Inv-loop μ-loop
+returns-5 c = onward (c .before .before .before .loop .inv) (c .ascii-end2 .ensures)
 
 pub ascii-words-spec : {M : Type 1} → statement M
 ascii-words-spec =
@@ -51,4 +59,11 @@ ascii-words-spec =
     (λ c. search needs)
     (λ c. search needs)
     loop-again
-    returns-3)
+    (λ c. search needs)
+    (λ c κs. search needs)
+    returns-3
+    (λ c. search needs)
+    (λ c κs. search needs)
+    returns-4
+    (λ c κs. search needs)
+    returns-5)

@@ -6,7 +6,7 @@ use mathlib.Core.Path.{sym, _∙_}
 use borrow.Author.Needs.{needs}
 use lib.ListN.{length}
 use Rattle.wire.specs.Text.{Passed}
-use Rattle.wire.proofs.Text.{stay, onward, character, whole, stopped}
+use Rattle.wire.proofs.Text.{onward, character, whole, stopped}
 use Rattle.wire.proofs.utf8.utf8_prefix.Statement.{statement}
 use Rattle.wire.proofs.utf8.utf8_prefix.Tie as tie
 
@@ -17,7 +17,7 @@ abbrev μ-loop : tie.MeasureT-loop
 μ-loop s i₀ i = length s - i
 
 loop-holds : tie.Need-loop-holds Inv-loop μ-loop
-loop-holds c = stay 0 (omega arith)
+loop-holds c = c .ascii-run .ensures
 
 returns : tie.Need-returns Inv-loop μ-loop
 returns c = stopped (c .before .before .before .loop .inv) (sym (c .if1 .taken) ∙ c .before .char-at .ensures)
@@ -40,4 +40,4 @@ returns-2 c = whole (c .before .loop .inv) (omega arith)
 pub utf8-prefix-spec : {M : Type 1} → statement M
 utf8-prefix-spec =
     tie.close
-    (tie.spec Inv-loop μ-loop loop-holds (λ c κs. search needs) returns add-same-run same-run-requires loop-less loop-again returns-2)
+    (tie.spec Inv-loop μ-loop (λ c κs. search needs) loop-holds (λ c κs. search needs) returns add-same-run same-run-requires loop-less loop-again returns-2)
