@@ -1,6 +1,7 @@
 pub mod Laws
 pub mod VarintLaws
 pub mod Utf8Laws
+pub mod UnicodeLaws
 pub mod KindLaws
 pub mod FrontLaws
 pub mod ReadingLaws

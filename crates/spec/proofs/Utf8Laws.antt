@@ -1,12 +1,14 @@
--- Laws of UTF-8: the longest valid prefix lies in the bytes, and is a character and the longest valid prefix of the rest.
+-- Laws of UTF-8: the longest valid prefix lies in the bytes, and is a character and the longest valid prefix of the rest; it is valid,
+-- and no valid prefix is longer.
 -- Assumes nothing.
 use Prim.Native.Nat.{ℕ, zero, suc, _+_, _-_, _≤_, _<_}
 use native.Mathlib.Omega.{arith}
-use mathlib.Core.Path.{_≡_, refl, sym, ap, _∙_, subst}
+use mathlib.Core.Path.{_≡_, refl, sym, ap, _∙_}
 use mathlib.Core.Bool.{Bool, true, false, _&&_, false≢true}
-use mathlib.Core.List.{List, [], _∷_}
-use lib.ListN.{length, take, drop, getD, length-drop}
-use lib.Dec.{leb, ltb, eqb}
+use mathlib.Core.List.{List, [], _∷_, _++_, append-assoc}
+use lib.ListN.{length, take, drop, getD, length-append, length-drop, take-append-drop}
+use lib.Seq.{length-take-le, take-add, drop-at}
+use lib.Dec.{eqb}
 use borrow.Author.Tests.{eqb-true, eqb-false, ne-eqb, eq-eqb, le-leb}
 use Rattle.spec.specs.Base.{if_then_else_, between}
 use Rattle.spec.specs.Utf8.{Lead, Follow, NoLead, lead, followers, behind, char, chars, validPrefix, utf8}
@@ -101,3 +103,93 @@ prefix-ascii (suc n) (b ∷ s) h low =
     let one : char (b ∷ s) ≡ 1 = char-ascii b s (low 0 (omega arith)) in
     let step : validPrefix (b ∷ s) ≡ 1 + validPrefix s = rw one at (prefix-step (b ∷ s) (omega arith)) in
     omega (arith, prefix-ascii n s (omega arith) (λ k l. low (suc k) (omega arith)))
+
+-- ---- the name is right: the longest valid prefix is valid, and it is the longest
+
+-- what holds where no character stands, and before a character where it holds behind it, holds of all bytes
+by-chars {ℓ} : (P : List ℕ → Type ℓ) → ((s : List ℕ) → char s ≡ 0 → P s)
+    → ((n : ℕ) (s : List ℕ) → char s ≡ suc n → P (drop (suc n) s) → P s) → (s : List ℕ) → P s
+unfolding char
+by-chars P stop step s = go (length s) s (omega arith)
+  where
+    split : (k : ℕ) → ((u : List ℕ) → length u ≤ k → P u) → (u : List ℕ) → length u ≤ suc k → (n : ℕ) → char u ≡ n → P u
+    split k ih u h zero e = stop u e
+    split k ih u h (suc n) e = step n u e (ih (drop (suc n) u) (omega (arith, length-drop (suc n) u)))
+
+    go : (k : ℕ) (u : List ℕ) → length u ≤ k → P u
+    go zero [] h = stop [] refl
+    go zero (b ∷ u) h = absurd (omega arith)
+    go (suc k) u h = split k (λ w l. go k w l) u h (char u) refl
+
+followers-front : (n lo hi : ℕ) (s t : List ℕ) → n ≤ length s → followers n lo hi (take n s ++ t) ≡ followers n lo hi s
+unfolding followers
+followers-front zero lo hi s t h = refl
+followers-front (suc n) lo hi [] t h = absurd (omega arith)
+followers-front (suc n) lo hi (b ∷ s) t h = ap (_&&_ (between lo hi b)) (followers-front n 0x80 0xbf s t (omega arith))
+
+behind-front : (l : Lead) (n : ℕ) (s t : List ℕ) → behind l s ≡ suc n → behind l (take n s ++ t) ≡ suc n
+unfolding behind
+behind-front NoLead n s t e = absurd (omega arith)
+behind-front (Follow m lo hi) n s t e = go (followers m lo hi s) refl e
+  where
+    go : (b : Bool) → followers m lo hi s ≡ b → (if b then m + 1 else 0) ≡ suc n → (if followers m lo hi (take n s ++ t) then m + 1 else 0) ≡ suc n
+    go false f e = absurd (omega arith)
+    go true f e =
+        let k : n ≡ m = omega arith in
+        let g : followers m lo hi (take n s ++ t) ≡ true = rw k (followers-front m lo hi s t (followers-le m lo hi s f) ∙ f) in
+        rw g e
+
+-- a character is told by its own bytes, whatever stands behind them
+char-front : (n : ℕ) (s t : List ℕ) → char s ≡ suc n → char (take (suc n) s ++ t) ≡ suc n
+unfolding char
+char-front n [] t e = absurd (omega arith)
+char-front n (b ∷ s) t e = behind-front (lead b) n s t e
+
+prefix-front : (n : ℕ) (s t : List ℕ) → char s ≡ suc n → validPrefix (take (suc n) s ++ t) ≡ suc n + validPrefix t
+prefix-front n s t e =
+    let c : char (take (suc n) s ++ t) ≡ suc n = char-front n s t e in
+    rw (c, drop-at (take (suc n) s) t (suc n) (length-take-le (suc n) s (omega (arith, char-le s)))) at (prefix-step (take (suc n) s ++ t) (omega arith))
+
+-- what holds of no bytes, and before a character where it holds behind it, holds of valid bytes
+pub by-valid {ℓ} : (P : List ℕ → Type ℓ) → P [] → ((n : ℕ) (s : List ℕ) → char s ≡ suc n → P (drop (suc n) s) → P s)
+    → (s : List ℕ) → utf8 s ≡ true → P s
+by-valid P empty step =
+    by-chars (λ (s : List ℕ). utf8 s ≡ true → P s)
+    (λ s e u. none s (omega (arith, eqb-true (validPrefix s) (length s) u, prefix-stop s e)))
+    (λ n s e ih u.
+    let t : List ℕ = drop (suc n) s in
+    let st : validPrefix s ≡ suc n + validPrefix t = rw e at (prefix-step s (omega arith)) in
+    step n s e (ih (eq-eqb (validPrefix t) (length t) (omega (arith, eqb-true (validPrefix s) (length s) u, length-drop (suc n) s)))))
+  where
+    none : (s : List ℕ) → length s ≡ 0 → P s
+    none [] e = empty
+    none (b ∷ s) e = absurd (omega arith)
+
+-- valid bytes in front are passed whole, so that valid strings put together are valid
+pub prefix-append : (s t : List ℕ) → utf8 s ≡ true → validPrefix (s ++ t) ≡ length s + validPrefix t
+prefix-append s t =
+    by-valid (λ (s : List ℕ). validPrefix (s ++ t) ≡ length s + validPrefix t) (omega arith)
+    (λ n s e ih.
+    let d : List ℕ = drop (suc n) s in
+    let back : take (suc n) s ++ (d ++ t) ≡ s ++ t = sym (append-assoc (take (suc n) s) d t) ∙ ap (λ (x : List ℕ). x ++ t) (take-append-drop (suc n) s) in
+    let whole : validPrefix (s ++ t) ≡ suc n + validPrefix (d ++ t) = rw back at (prefix-front n s (d ++ t) e) in
+    omega (arith, length-drop (suc n) s, char-le s)) s
+
+-- what `validPrefix` counts is a valid prefix
+pub prefix-valid : (s : List ℕ) → utf8 (take (validPrefix s) s) ≡ true
+prefix-valid =
+    by-chars (λ (s : List ℕ). utf8 (take (validPrefix s) s) ≡ true)
+    (λ s e. rw (prefix-stop s e, prefix-nil))
+    (λ n s e ih.
+    let m : ℕ = validPrefix (drop (suc n) s) in
+    let st : validPrefix s ≡ suc n + m = rw e at (prefix-step s (omega arith)) in
+    let t : List ℕ = take m (drop (suc n) s) in
+    let is : take (validPrefix s) s ≡ take (suc n) s ++ t = ap (λ (k : ℕ). take k s) st ∙ take-add (suc n) m s in
+    rw is (eq-eqb (validPrefix (take (suc n) s ++ t)) (length (take (suc n) s ++ t))
+    (omega (arith, prefix-front n s t e, eqb-true (validPrefix t) (length t) ih, length-append (take (suc n) s) t, length-take-le (suc n) s (omega (arith, char-le s))))))
+
+-- and every other valid prefix is within it, so that no other number has both properties
+pub prefix-longest : (n : ℕ) (s : List ℕ) → n ≤ length s → utf8 (take n s) ≡ true → n ≤ validPrefix s
+prefix-longest n s h u =
+    let p : validPrefix s ≡ length (take n s) + validPrefix (drop n s) = rw (take-append-drop n s) at (prefix-append (take n s) (drop n s) u) in
+    omega (arith, length-take-le n s h)

@@ -1,6 +1,7 @@
 pub mod Base
 pub mod Varint
 pub mod Utf8
+pub mod Unicode
 pub mod Kind
 pub mod Schema
 pub mod Record
