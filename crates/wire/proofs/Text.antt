@@ -4,10 +4,10 @@ use Prim.Native.Nat.{ℕ, zero, suc, _+_, _-_, _≤_, _<_}
 use native.Mathlib.Omega.{arith}
 use native.Mathlib.Numerals.{add-one}
 use mathlib.Core.Path.{_≡_, refl, sym, ap, _∙_}
-use mathlib.Core.Bool.{Bool, true, false, _&&_, and-true, and-false, and-eq-true-iff}
+use mathlib.Core.Bool.{Bool, true, false, and-true, and-false, and-eq-true-iff}
 use mathlib.Core.List.{List, [], _∷_}
 use lib.ListN.{length, drop, getD, length-drop}
-use lib.Seq.{drop-cons, drop-drop, drop-length, getD-drop}
+use lib.Seq.{drop-cons, drop-drop, getD-drop}
 use lib.Dec.{leb}
 use borrow.Author.Tests.{le-leb, lt-leb, leb-true}
 use Rattle.spec.specs.Base.{if_then_else_, between}
@@ -26,7 +26,7 @@ pub above : (lo hi b : ℕ) → hi < b → between lo hi b ≡ false
 above lo hi b h = simp (lt-leb _ _ h) (and-false (leb lo b))
 
 -- the bytes end before the followers
-pub short : (n lo hi : ℕ) (s : List ℕ) → length s < n → followers n lo hi s ≡ false
+short : (n lo hi : ℕ) (s : List ℕ) → length s < n → followers n lo hi s ≡ false
 unfolding followers
 short zero lo hi s h = absurd (omega arith)
 short (suc n) lo hi [] h = refl

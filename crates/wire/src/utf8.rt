@@ -2,7 +2,7 @@
 ghost use mathlib.Core.Path.{_≡_};
 ghost use mathlib.Core.Bool.{true};
 ghost use Prim.Native.Nat.{_+_, _<_, _≤_};
-ghost use lib.ListN.{length, drop, getD};
+ghost use lib.ListN.{length, drop};
 ghost use Rattle.spec.specs.Base.{between};
 ghost use Rattle.spec.specs.Utf8.{lead, followers, char, validPrefix, utf8};
 ghost use Rattle.wire.specs.Text.{leadOf, countOf, word, Low, Passed};
