@@ -1,0 +1,2 @@
+// The parts of the wire format.
+pub mod wire_format;
