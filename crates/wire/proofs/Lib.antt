@@ -1,2 +1,3 @@
-pub mod Upto
 pub mod FormatLaws
+pub mod Upto
+pub mod ValueSizes
