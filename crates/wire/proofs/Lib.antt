@@ -1,3 +1,5 @@
 pub mod FormatLaws
+pub mod PackedLaws
+pub mod Sums
 pub mod Upto
 pub mod ValueSizes
