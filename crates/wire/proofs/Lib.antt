@@ -1,5 +1,6 @@
 pub mod FormatLaws
 pub mod PackedLaws
 pub mod Sums
+pub mod UnknownLaws
 pub mod Upto
 pub mod ValueSizes

@@ -35,6 +35,7 @@ pub use self::singular::sint64_size;
 pub use self::singular::string_size;
 pub use self::singular::uint32_size;
 pub use self::singular::uint64_size;
+pub use self::unknown_or_group::unknown_fields_size;
 use crate::wire_format::MAX_MESSAGE_SIZE;
 use crate::wire_format::wire_of;
 
