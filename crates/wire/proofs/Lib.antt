@@ -1,4 +1,5 @@
 pub mod FormatLaws
+pub mod OneAnswer
 pub mod PackedLaws
 pub mod Sums
 pub mod UnknownLaws

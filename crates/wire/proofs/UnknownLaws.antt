@@ -38,9 +38,12 @@ other-record d n k v a e h = simp h
 
 -- ---- the list, from a place on
 
+-- the record at a place
+abbrev pub recordAt : List ℕ → ℕ → Record
+recordAt ns i = row (getD (drop i ns) 0 0) (getD ns (i + 1) 0) (getD ns (i + 2) 0) (getD ns (i + 3) 0) (getD ns (i + 4) 0) (getD ns (i + 5) 0) 0
+
 pub unknown-step : (ns : List ℕ) (i : ℕ) → i + 6 ≤ length ns
-    → unknownsSize (recordsOf (drop i ns))
-    ≡ unknownsSize (row (getD (drop i ns) 0 0) (getD ns (i + 1) 0) (getD ns (i + 2) 0) (getD ns (i + 3) 0) (getD ns (i + 4) 0) (getD ns (i + 5) 0) 0 ∷ []) + unknownsSize (recordsOf (drop (i + 6) ns))
+    → unknownsSize (recordsOf (drop i ns)) ≡ unknownsSize (recordAt ns i ∷ []) + unknownsSize (recordsOf (drop (i + 6) ns))
 unfolding unknownsSize
 unknown-step ns i h =
     rw (records-cons (drop i ns) (omega (arith, length-drop i ns)))
