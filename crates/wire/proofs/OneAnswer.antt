@@ -1,11 +1,10 @@
 -- Any two answers that a promise of this crate allows are equal: each promise says what the answer tells, and two that tell the same are one.
 -- Where a promise gives the answer itself there is nothing to prove. Assumes nothing.
-use Prim.Native.Nat.{ℕ, _+_, _*_}
+use Prim.Native.Nat.{ℕ}
 use mathlib.Core.Path.{_≡_, refl, sym, ap, ap₂, _∙_}
-use mathlib.Core.Bool.{true, false}
 use native.Mathlib.Omega.{arith}
 use lib.Dec.{leb}
-use Rattle.spec.specs.Base.{if_then_else_, Read, Took, No}
+use Rattle.spec.specs.Base.{if_then_else_, Read, Took}
 use Rattle.wire.specs.FormatTold.{wireNumber, wireTold, tagValue, tagTold, sizeTold}
 use Rattle.wire.specs.declared.wire_format.WireType.{WireType}
 use Rattle.wire.specs.declared.wire_format.WireType.the-variants.{Varint, Fixed64, LengthDelimited, StartGroup, EndGroup, Fixed32}

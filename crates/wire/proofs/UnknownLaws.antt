@@ -1,17 +1,17 @@
 -- Laws of unknown fields in a list of records: what a record takes, and the list as one record and the rest. Assumes nothing.
 use Prim.Native.Nat.{ℕ, zero, suc, _+_, _-_, _≤_, _<_}
-use mathlib.Core.Path.{_≡_, refl, sym, ap, ap₂, _∙_, subst}
-use mathlib.Core.Bool.{Bool, true, false}
+use mathlib.Core.Path.{_≡_, refl, ap, subst}
+use mathlib.Core.Bool.{false}
 use mathlib.Core.List.{List, [], _∷_}
 use native.Mathlib.Omega.{arith}
 use lib.Dec.{eqb}
 use lib.ListN.{length, drop, getD, length-drop}
 use lib.Seq.{getD-drop, drop-drop}
-use borrow.Author.Tests.{le-leb, lt-leb}
+use borrow.Author.Tests.{le-leb}
 use Rattle.spec.specs.Base.{if_then_else_, between}
 use Rattle.spec.specs.Varint.{tagSize}
 use Rattle.spec.specs.Kind.{shapes, shape}
-use Rattle.spec.specs.Record.{Record, row, loaded, broken, stride, recordsOf}
+use Rattle.spec.specs.Record.{Record, row, recordsOf}
 use Rattle.spec.specs.Sizes.{scalarSize, valueSize, bodySize, unknownsSize}
 use Rattle.spec.proofs.FlatLaws.{records-nil, records-broken, records-cons}
 

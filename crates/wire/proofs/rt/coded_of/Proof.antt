@@ -1,5 +1,4 @@
 -- `wire::rt::coded_of` meets its contract: the kinds 17 and 18 are those between them. Assumes nothing.
-use mathlib.Core.Path.{_∙_}
 use native.Mathlib.Omega.{arith}
 use borrow.Author.Needs.{needs}
 use borrow.Author.Tests.{le-leb, lt-leb}

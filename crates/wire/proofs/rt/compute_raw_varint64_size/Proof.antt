@@ -1,6 +1,6 @@
 -- `wire::rt::compute_raw_varint64_size` meets its contract: its formula and the definition's agree at each of the 65 counts of bits.
 -- Assumes nothing.
-use Prim.Native.Nat.{ℕ, _+_, _*_, _-_, _/_, max}
+use Prim.Native.Nat.{_+_, _*_, _-_, _/_, max}
 use native.Mathlib.Omega.{arith}
 use lib.Count.{leadingZeros, leading-le}
 use Rattle.spec.specs.Varint.{size}

@@ -1,7 +1,7 @@
 -- `wire::rt::pattern` meets its contract: the bits of a negative number, each turned over, are a number that is not negative, and turned over again
 -- they are its pattern. Assumes nothing.
 use Prim.Native.Nat.{ℕ, suc, _-_, _^_, _<_}
-use mathlib.Core.Path.{_≡_, refl, sym, ap, _∙_}
+use mathlib.Core.Path.{_≡_, ap, _∙_}
 use mathlib.Core.Bool.{true, false}
 use native.Mathlib.Omega.{arith}
 use borrow.Author.Tests.{ltb-true}

@@ -1,8 +1,8 @@
 -- `wire::rt::pattern32` meets its contract: the wider type has every number of the narrower one. Assumes nothing.
-use mathlib.Core.Path.{ap, _∙_}
+use mathlib.Core.Path.{_∙_}
 use borrow.Author.Needs.{needs}
 use mir.Syntax.{w32, w64}
-use mir.Val.{SFits, ofZ}
+use mir.Val.{SFits}
 use mir.Facts.{sfits-widen, toZ-ofZ}
 use Rattle.wire.proofs.rt.pattern32.Statement.{statement}
 use Rattle.wire.proofs.rt.pattern32.Tie as tie

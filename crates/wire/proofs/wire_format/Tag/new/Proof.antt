@@ -4,7 +4,7 @@ use mathlib.Core.Path.{_≡_, sym, ap, _∙_}
 use native.Mathlib.Omega.{arith}
 use borrow.Author.Needs.{needs}
 use borrow.Author.Tests.{le-leb, lt-leb}
-use Rattle.spec.specs.Base.{Read, Took, require}
+use Rattle.spec.specs.Base.{Took, require}
 use Rattle.wire.specs.FormatTold.{wireNumber, wireTold}
 use Rattle.wire.proofs.FormatLaws.{known, unknown}
 use Rattle.wire.proofs.wire_format.Tag.new.Statement.{statement}
