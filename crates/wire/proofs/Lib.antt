@@ -1,7 +1,7 @@
+pub mod Below
 pub mod FormatLaws
 pub mod OneAnswer
 pub mod PackedLaws
 pub mod Sums
 pub mod UnknownLaws
-pub mod Upto
 pub mod ValueSizes

@@ -4,7 +4,7 @@ use Prim.Native.Nat.{_+_, _*_, _-_, _/_, max}
 use native.Mathlib.Omega.{arith}
 use lib.Count.{leadingZeros, leading-le}
 use Rattle.spec.specs.Varint.{size}
-use Rattle.wire.proofs.Upto.{equal-below}
+use Rattle.wire.proofs.Below.{equal-below}
 use Rattle.wire.proofs.rt.compute_raw_varint64_size.Statement.{statement}
 use Rattle.wire.proofs.rt.compute_raw_varint64_size.Tie as tie
 

@@ -9,18 +9,6 @@ use Rattle.wire.proofs.ValueSizes.{value-by-wire, capped-varint}
 use Rattle.wire.proofs.rt.value_size.Statement.{statement}
 use Rattle.wire.proofs.rt.value_size.Tie as tie
 
-wire-of-requires : tie.Need-wire-of-requires
-wire-of-requires c κs = search needs
-
-coded-of-requires : tie.Need-coded-of-requires
-coded-of-requires c κs = search needs
-
-compute-raw-varint64-size-requires : tie.Need-compute-raw-varint64-size-requires
-compute-raw-varint64-size-requires c κs = search needs
-
-prefixed-size-requires : tie.Need-prefixed-size-requires
-prefixed-size-requires c κs = search needs
-
 returns : tie.Need-returns
 returns c =
     let k : ℕ = c .before .before .before .before .args .kind in
@@ -52,10 +40,10 @@ pub value-size-spec : {M : Type 1} → statement M
 value-size-spec =
     tie.close
     (tie.spec
-    wire-of-requires
-    coded-of-requires
-    compute-raw-varint64-size-requires
-    prefixed-size-requires
+    (λ c κs. search needs)
+    (λ c κs. search needs)
+    (λ c κs. search needs)
+    (λ c κs. search needs)
     returns
     returns-2
     returns-3

@@ -21,15 +21,6 @@ returns-2 c =
     let n : ℕ = c .before .before .args .number in
     simp (le-leb 1 n (omega arith), lt-leb n 536870911 (omega arith))
 
-new-requires : tie.Need-new-requires
-new-requires c κs = search needs
-
-enum-known-known : tie.Need-enum-known-known
-enum-known-known c = search needs
-
-enum-told : tie.Need-enum-told
-enum-told c = search needs
-
 returns-3 : tie.Need-returns-3
 unfolding makeTag
 returns-3 c =
@@ -49,4 +40,4 @@ returns-4 c =
 pub make-spec : {M : Type 1} → statement M
 make-spec =
     tie.close
-    (tie.spec returns returns-2 new-requires enum-known-known enum-told returns-3 returns-4)
+    (tie.spec returns returns-2 (λ c κs. search needs) (λ c. search needs) (λ c. search needs) returns-3 returns-4)
