@@ -1,2 +1,9 @@
+pub mod Below
+pub mod FormatLaws
 pub mod Mask
+pub mod OneAnswer
+pub mod PackedLaws
+pub mod Sums
 pub mod Text
+pub mod UnknownLaws
+pub mod ValueSizes

@@ -1,1 +1,3 @@
+pub mod FormatTold
+pub mod SizeParts
 pub mod Text

@@ -1,2 +1,4 @@
-// What a message is made of: varints, fixed numbers, tags, strings.
+// What a message is made of: varints, fixed numbers, tags, strings, and their sizes.
+pub mod rt;
 pub mod utf8;
+pub mod wire_format;
