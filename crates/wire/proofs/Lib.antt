@@ -1,3 +1,5 @@
+pub mod FixedLaws
 pub mod PutLaws
 pub mod VarintSteps
 pub mod VarintStores
+pub mod ZigzagLaws

@@ -66,7 +66,7 @@ module _ {more last : ℕ} {s : List ℕ} {at n value : ℕ} where
         let rest = varint left last (drop (at + (n + 1)) s) in
         let place : suc (at + n) ≡ at + (n + 1) = omega arith in
         let split : varint (suc left) last (drop (at + n) s) ≡ digit 128 (b % 128) rest =
-            rw (drop-cons s (at + n) 0 inside, place) (varint-goes-on left last b (drop (at + (n + 1)) s) big) in
+        rw (drop-cons s (at + n) 0 inside, place) (varint-goes-on left last b (drop (at + (n + 1)) s) big) in
         let group : b % 128 ≤ 127 = omega arith in
         record {
           same = h .same ∙ ap (λ (r : Read). longer n (meaning (λ v. value + v * 128 ^ n) r)) split ∙ passed n value (b % 128) rest;

@@ -68,3 +68,11 @@ module _ {value : ℕ} {before : List ℕ} {at : ℕ} {out : List ℕ} {v i : �
   stored-last small e =
       let one = encode-ends v small in
       (omega (arith, ap length one), rw one at (h .same))
+
+-- k + 1 groups of seven bits take at most k + 1 bytes
+pub bytes-within : (k v : ℕ) → v < 128 ^ suc k → v < 2 ^ 64 → length (encode v) ≤ suc k
+bytes-within zero v h below = rw (encode-ends v h) (omega arith)
+bytes-within (suc k) v h below =
+    lower-or-not v 128
+    (λ c. rw (encode-ends v c) (omega arith))
+    (λ c. rw (encode-goes-on v c below) (omega (arith, bytes-within k (v / 128) (omega (arith, pow-suc 128 (suc k))) (omega arith))))
