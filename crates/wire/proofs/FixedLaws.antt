@@ -1,17 +1,16 @@
 -- Fixed values: four bytes as one number, two halves as one value, and too few bytes.
 -- Assumes nothing.
-use Prim.Native.Nat.{ℕ, zero, suc, _+_, _-_, _*_, _/_, _%_, _^_, _≤_, _<_}
+use Prim.Native.Nat.{ℕ, zero, suc, _+_, _*_, _/_, _≤_, _<_}
 use native.Mathlib.Numerals.{add-one}
 use native.Mathlib.Omega.{arith}
 use mathlib.Core.Path.{_≡_, refl, sym, ap, ap₂, _∙_}
 use mathlib.Core.List.{List, [], _∷_, _++_}
 use lib.ListN.{length, getD, drop, length-drop, set}
 use lib.Seq.{drop-cons, sets}
-use Rattle.spec.specs.Base.{Read, Took, No, digit, found}
+use Rattle.spec.specs.Base.{Took, No, digit, found}
 use Rattle.spec.specs.Varint.{fixed, little}
 use Rattle.wire.specs.Answers.{told}
-use Rattle.wire.specs.declared.found.Found.{Found}
-use Rattle.wire.specs.declared.found.Found.the-variants.{Value, Refused}
+use Rattle.wire.specs.declared.found.Found.the-variants.{Refused}
 
 too-few : (n : ℕ) (s : List ℕ) → length s < n → fixed n s ≡ No 1
 unfolding fixed digit
@@ -28,7 +27,7 @@ unfolding fixed
 byte n s at j h e = rw (e, add-one, drop-cons s at 0 h)
 
 pub four-bytes : (s : List ℕ) (at : ℕ) → at + 4 ≤ length s
-    → fixed 4 (drop at s) ≡ Took (getD s at 0 + getD s (at + 1) 0 * 256 + getD s (at + 2) 0 * 0x1_0000 + getD s (at + 3) 0 * 0x100_0000) 4
+    → fixed 4 (drop at s) ≡ Took (getD s at 0 + 256 * (getD s (at + 1) 0 + 256 * (getD s (at + 2) 0 + 256 * getD s (at + 3) 0))) 4
 unfolding fixed digit
 four-bytes s at h =
     rw (

@@ -1,4 +1,5 @@
 pub mod FixedLaws
+pub mod FoundLaws
 pub mod PutLaws
 pub mod VarintSteps
 pub mod VarintStores

@@ -1,14 +1,14 @@
 -- Storing the shortest varint a byte at a time: its two equations with no bound on the bytes in them, and what each store leaves to be done.
 -- Assumes nothing.
-use Prim.Native.Nat.{ℕ, zero, suc, _+_, _-_, _*_, _/_, _%_, _^_, _≤_, _<_}
+use Prim.Native.Nat.{ℕ, zero, suc, _+_, _/_, _%_, _^_, _≤_, _<_}
 use native.Mathlib.Nat.{pow-suc, one-le-pow, zero-lt-suc}
 use native.Mathlib.Numerals.{add-one}
 use native.Mathlib.Omega.{arith}
-use mathlib.Core.Path.{_≡_, refl, sym, ap, _∙_, subst}
+use mathlib.Core.Path.{_≡_, refl, sym, ap, _∙_}
 use mathlib.Core.List.{List, [], _∷_}
 use lib.ListN.{length, set, length-set}
 use lib.Seq.{sets}
-use Rattle.spec.specs.Varint.{shortest, encode, size}
+use Rattle.spec.specs.Varint.{shortest, encode}
 use Rattle.spec.proofs.VarintLaws.{lower-or-not, shortest-ends, shortest-goes-on}
 
 -- one byte more than is needed changes nothing

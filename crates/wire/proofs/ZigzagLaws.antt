@@ -1,17 +1,15 @@
 -- Zigzag on the signed types, once over the width: what -1 - z is, and what stands for it.
 -- Assumes nothing.
-use Prim.Native.Nat.{ℕ, zero, suc, _+_, _-_, _*_, _/_, _%_, _^_, _≤_, _<_}
+use Prim.Native.Nat.{ℕ, zero, suc, _+_, _-_, _*_, _/_, _%_, _^_, _<_}
 use native.Mathlib.Omega.{arith}
-use mathlib.Core.Path.{_≡_, refl, sym, ap, _∙_}
-use mathlib.Core.Bool.{Bool, true, false}
-use lib.Dec.{eqb, ltb}
+use mathlib.Core.Path.{_≡_, refl, ap, _∙_}
+use mathlib.Core.Bool.{true, false}
 use lib.IntN.{ℤ, pos, negsuc, _-ℤ_}
 use lib.Signed.{ltZ}
 use borrow.Author.Tests.{lt-ltb, le-ltb, ltb-true, eq-eqb, ne-eqb}
 use mir.Syntax.{Width, w64}
 use mir.Val.{hbits, SFits, ofZ, toZ}
 use mir.ValLaws.{toZ-pos, toZ-ofZ}
-use Rattle.spec.specs.Base.{if_then_else_}
 use Rattle.spec.specs.Varint.{zigzag, unzigzag}
 
 -- -1 - z

@@ -1,6 +1,5 @@
 -- `wire::fixed::decode_fixed32` meets its contract: four bytes, or too few.
 -- Assumes nothing.
-use Prim.Native.Nat.{_+_}
 use native.Mathlib.Omega.{arith}
 use mathlib.Core.Path.{sym, ap, _∙_}
 use borrow.Author.Needs.{needs}

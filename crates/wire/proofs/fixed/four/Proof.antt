@@ -1,8 +1,10 @@
 -- `wire::fixed::four` meets its contract: what the bytes sum up to.
 -- Assumes nothing.
-use Prim.Native.Nat.{_+_}
+use Prim.Native.Nat.{ℕ, _+_}
 use native.Mathlib.Omega.{arith}
+use mathlib.Core.Path.{ap, _∙_}
 use borrow.Author.Needs.{needs}
+use Rattle.spec.specs.Base.{Took}
 use Rattle.wire.proofs.FixedLaws.{four-bytes}
 use Rattle.wire.proofs.fixed.four.Statement.{statement}
 use Rattle.wire.proofs.fixed.four.Tie as tie
@@ -45,7 +47,7 @@ returns : tie.Need-returns
 returns c =
     let a = c .before .before .before .before .args in
     let byte = c .shared-slice-known4 .given in
-    (omega (arith, byte (a .at), byte (a .at + 1), byte (a .at + 2), byte (a .at + 3)), four-bytes (a .s .now) (a .at) (c .before .before .before .before .pre))
+    (omega (arith, byte (a .at), byte (a .at + 1), byte (a .at + 2), byte (a .at + 3)), four-bytes (a .s .now) (a .at) (c .before .before .before .before .pre) ∙ ap (λ (x : ℕ). Took x 4) (omega arith))
 
 pub four-spec : {M : Type 1} → statement M
 four-spec =

@@ -3,7 +3,6 @@
 use native.Mathlib.Omega.{arith}
 use mathlib.Core.Path.{sym, ap, _∙_}
 use lib.IntN.{ℤ}
-use borrow.Author.Needs.{needs}
 use mir.Syntax.{w32, w64}
 use mir.Val.{ofZ}
 use Rattle.spec.specs.Varint.{zigzag}

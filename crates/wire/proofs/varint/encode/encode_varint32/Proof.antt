@@ -4,7 +4,6 @@ use Prim.Native.Nat.{_≤_}
 use native.Mathlib.Omega.{arith}
 use mathlib.Core.Path.{_∙_}
 use lib.ListN.{length}
-use borrow.Author.Needs.{needs}
 use Rattle.spec.specs.Varint.{encode}
 use Rattle.wire.proofs.VarintStores.{bytes-within}
 use Rattle.wire.proofs.PutLaws.{at-front}

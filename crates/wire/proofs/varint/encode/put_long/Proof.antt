@@ -2,13 +2,12 @@
 -- Assumes nothing.
 use Prim.Native.Nat.{_+_, _≤_}
 use native.Mathlib.Omega.{arith}
-use mathlib.Core.Path.{sym}
 use mathlib.Core.Logic.{⊎-elim}
 use lib.ListN.{length}
 use borrow.Author.Needs.{needs}
 use Rattle.spec.specs.Varint.{encode}
 use Rattle.spec.proofs.VarintLaws.{length-encode}
-use Rattle.wire.proofs.VarintStores.{bytes-beyond, bytes-within}
+use Rattle.wire.proofs.VarintStores.{bytes-within}
 use Rattle.wire.proofs.PutLaws.{no-room, in-place}
 use Rattle.wire.proofs.varint.encode.put_long.Statement.{statement}
 use Rattle.wire.proofs.varint.encode.put_long.Tie as tie

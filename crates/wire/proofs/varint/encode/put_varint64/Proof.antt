@@ -1,9 +1,8 @@
 -- `wire::varint::encode::put_varint64` meets its contract: one byte where there is room for one, and else what `put_long` does.
 -- Assumes nothing.
 use native.Mathlib.Omega.{arith}
-use mathlib.Core.Path.{refl, sym, ap}
+use mathlib.Core.Path.{refl}
 use borrow.Author.Needs.{needs}
-use lib.ListN.{length}
 use Rattle.wire.proofs.VarintStores.{encode-ends}
 use Rattle.wire.proofs.PutLaws.{no-room, in-place}
 use Rattle.wire.proofs.varint.encode.put_varint64.Statement.{statement}
