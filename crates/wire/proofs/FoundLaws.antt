@@ -96,21 +96,24 @@ pub record Placed (most : ℕ) (s : List ℕ) (at v next : ℕ) : Type 0 where
   pub inside : next ≤ length s
   pub small : v < most
 
-placed : {most at v next : ℕ} (s : List ℕ) {r : Read} → Takes 1 (length (drop at s)) r → Below most r → Took v (next - at) ≡ r → Placed most s at v next
-placed {at = at} s t b e =
-    let h = some-taken (rw (← e) at t) in
-    record { past = omega arith; inside = omega (arith, length-drop at s); small = lower (rw (← e) at b) }
+placed : {most at v next : ℕ} (s : List ℕ) {f : Found} {r : Read} → Takes 1 (length (drop at s)) r → Below most r → told at f ≡ r → f ≡ Value v next
+    → Placed most s at v next
+placed {at = at} {v} {next} s t b p e =
+    let q : Took v (next - at) ≡ _ = ap (told at) (sym e) ∙ p in
+    let h = some-taken (rw (← q) at t) in
+    record { past = omega arith; inside = omega (arith, length-drop at s); small = lower (rw (← q) at b) }
   where
     lower : {most v n : ℕ} → Below most (Took v n) → v < most
     lower (low h) = h
 
 -- a varint's, below 2 ^ 64 for 9 and 1, and below 2 ^ 32 for 4 and 15
-pub varint-placed : (k last : ℕ) (s : List ℕ) (at : ℕ) {v next : ℕ} → told at (Value v next) ≡ varint k last (drop at s) → Placed (top k last) s at v next
-varint-placed k last s at e = placed s (takes-varint k last (drop at s)) (varint-below k last (drop at s)) e
+pub varint-placed : (k last : ℕ) (s : List ℕ) (at : ℕ) {f : Found} {v next : ℕ} → told at f ≡ varint k last (drop at s) → f ≡ Value v next
+    → Placed (top k last) s at v next
+varint-placed k last s at p e = placed s (takes-varint k last (drop at s)) (varint-below k last (drop at s)) p e
 
 -- a fixed value's, of a slice of bytes
-pub fixed-placed : (n : ℕ) (s : List ℕ) (at : ℕ) → ((i : ℕ) → Fits w8 (getD s i 0)) → {v next : ℕ} → told at (Value v next) ≡ fixed (suc n) (drop at s)
-    → Placed (256 ^ suc n) s at v next
-fixed-placed n s at h e =
+pub fixed-placed : (n : ℕ) (s : List ℕ) (at : ℕ) → ((i : ℕ) → Fits w8 (getD s i 0)) → {f : Found} {v next : ℕ} → told at f ≡ fixed (suc n) (drop at s)
+    → f ≡ Value v next → Placed (256 ^ suc n) s at v next
+fixed-placed n s at h p e =
     placed s (takes-weaker (omega arith) (omega arith) (takes-fixed (suc n) (drop at s)))
-    (fixed-below (suc n) (drop at s) (λ i. rw getD-drop (h (at + i)))) e
+    (fixed-below (suc n) (drop at s) (λ i. rw getD-drop (h (at + i)))) p e

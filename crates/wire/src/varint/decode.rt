@@ -68,6 +68,7 @@ fn from_fifth(s: &[u8], at: usize, v4: u64) -> Found
     from_eighth(s, at, v7)
 }
 
+// The eighth to the tenth, likewise.
 fn from_eighth(s: &[u8], at: usize, v7: u64) -> Found
     requires { ⌜ (at + 10 ≤ length (now s)) × Reached 9 1 (now s) at 7 2 v7 ⌝ }
     ensures { λ r. ⌜ told at r ≡ varint64 (drop at (now (s .entry))) ⌝ }
@@ -151,6 +152,7 @@ fn long(s: &[u8], at: usize, narrow: bool) -> Found
     by_bytes(s, at, 9, 1)
 }
 
+// The width by a flag, so that both public functions are one body.
 fn decode(s: &[u8], at: usize, narrow: bool) -> Found
     ensures { λ r. ⌜ told at r ≡ varintOf narrow (drop at (now (s .entry))) ⌝ }
 {
