@@ -10,8 +10,8 @@ use lib.ListN.{length, drop, getD, length-drop}
 use lib.Seq.{drop-cons, drop-drop, getD-drop}
 use lib.Dec.{leb}
 use borrow.Author.Tests.{le-leb, lt-leb, leb-true}
-use Rattle.spec.specs.Base.{if_then_else_, between}
-use Rattle.spec.specs.Utf8.{Lead, Follow, NoLead, lead, followers, behind, char, validPrefix, utf8}
+use Rattle.spec.specs.Base.{between}
+use Rattle.spec.specs.Utf8.{Follow, NoLead, lead, followers, behind, char, validPrefix, utf8}
 use Rattle.spec.proofs.Utf8Laws.{char-le, valid-le, prefix-stop, prefix-step, prefix-ascii}
 use Rattle.wire.specs.Text.{Low, Passed}
 

@@ -13,9 +13,9 @@ use super::pattern;
 use super::pattern32;
 use super::tag_size;
 use super::value_size;
-use super::zigzag_of;
 use crate::wire_format::Sized;
 use crate::wire_format::check_message_size;
+use crate::zigzag::zigzag;
 
 // A tag and a varint.
 fn varint_size(number: u32, value: u64) -> u64
@@ -52,13 +52,13 @@ pub fn uint64_size(number: u32, value: u64) -> u64
 pub fn sint32_size(number: u32, value: i32) -> u64
     ensures { λ r. ⌜ Took r 0 ≡ fieldSize 17 number (ofZ w64 value) ⌝ }
 {
-    varint_size(number, zigzag_of(pattern32(value)))
+    varint_size(number, zigzag(pattern32(value)))
 }
 
 pub fn sint64_size(number: u32, value: i64) -> u64
     ensures { λ r. ⌜ Took r 0 ≡ fieldSize 18 number (ofZ w64 value) ⌝ }
 {
-    varint_size(number, zigzag_of(pattern(value)))
+    varint_size(number, zigzag(pattern(value)))
 }
 
 // A field of any kind; `value` is the pattern of a number, or the length of a content.

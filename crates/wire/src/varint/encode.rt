@@ -8,15 +8,13 @@ ghost use Rattle.spec.specs.Base.{filled};
 ghost use Rattle.spec.specs.Varint.{encode, size};
 ghost use Rattle.wire.specs.Answers.{Stored};
 
-// How many bytes the shortest varint of `value` has: its significant bits, at least 1, plus 6, divided by 7.
+// How many bytes the shortest varint of `value` has: its significant bits, at least 1, plus 6, divided by 7. That is (9 * bits + 64) / 64 for all 65
+// counts, with no branch and no division.
 pub fn encoded_varint64_len(value: u64) -> usize
     ensures { λ r. ⌜ r ≡ size value ⌝ }
 {
-    if value == 0 {
-        return 1;
-    }
-    let bits = 64 - u64::leading_zeros(value);
-    ((bits + 6) / 7) as usize
+    let zeros = u64::leading_zeros(value) as usize;
+    (640 - 9 * zeros) / 64
 }
 
 // Stores the varint from `at` on, where there is room for it, and returns the position behind it: four bytes a turn, then two, as most

@@ -7,7 +7,7 @@ use Rattle.wire.proofs.rt.coded_of.Tie as tie
 
 returns : tie.Need-returns
 returns c =
-    simp (le-leb 17 (c .before .before .before .args .kind) (omega arith), le-leb (c .before .before .before .args .kind) 18 (omega arith)) (c .zigzag-of .ensures)
+    simp (le-leb 17 (c .before .before .before .args .kind) (omega arith), le-leb (c .before .before .before .args .kind) 18 (omega arith)) (c .zigzag .ensures)
 
 returns-2 : tie.Need-returns-2
 returns-2 c = simp (lt-leb 17 (c .before .args .kind) (omega arith))

@@ -1,23 +1,23 @@
--- `wire::varint::encode::encoded_varint64_len` meets its contract: of a value that is not 0 some bit is significant.
+-- `wire::varint::encode::encoded_varint64_len` meets its contract: its formula and the definition's agree at each count of bits up to 64.
 -- Assumes nothing.
-use native.Mathlib.Nat.{pos-of-ne-zero}
 use native.Mathlib.Omega.{arith}
-use borrow.Author.Needs.{needs}
-use lib.Count.{leading-le, leading-top, leading-of-zero}
+use lib.Count.{leading-le}
 use Rattle.spec.specs.Varint.{size}
 use Rattle.wire.proofs.varint.encode.encoded_varint64_len.Statement.{statement}
 use Rattle.wire.proofs.varint.encode.encoded_varint64_len.Tie as tie
 
+cast-zeros : tie.Need-cast-zeros
+cast-zeros c = record { fits = omega (arith, leading-le 64 (c .args .value)) }
+
+mul-result : tie.Need-mul-result
+mul-result c = record { fits = omega (arith, leading-le 64 (c .args .value)) }
+
+sub-result : tie.Need-sub-result
+sub-result c = omega (arith, leading-le 64 (c .args .value))
+
 returns : tie.Need-returns
 unfolding size
-returns c = rw (c .if1 .taken, leading-of-zero 64)
-
-sub-bits : tie.Need-sub-bits
-sub-bits c = leading-le 64 (c .before .args .value)
-
-returns-2 : tie.Need-returns-2
-unfolding size
-returns-2 c = omega (arith, leading-top 64 (c .before .args .value) (pos-of-ne-zero (c .if1 .left)) (c .before .fits .value .fits) .1)
+returns c = omega (arith, leading-le 64 (c .args .value))
 
 pub encoded-varint64-len-spec : {M : Type 1} → statement M
-encoded-varint64-len-spec = tie.close (tie.spec returns sub-bits (λ c. search needs) (λ c. search needs) returns-2)
+encoded-varint64-len-spec = tie.close (tie.spec cast-zeros mul-result sub-result returns)
