@@ -1,4 +1,6 @@
 pub mod Laws
+pub mod SchemaLaws
+pub mod SkipLaws
 pub mod VarintLaws
 pub mod Utf8Laws
 pub mod KindLaws

@@ -15,7 +15,8 @@ use Rattle.spec.specs.Schema.{Schema, lookup, kindOf}
 use Rattle.spec.specs.Skip.{content, outerGroup}
 use Rattle.spec.specs.Reading.{Field, Value, Message, Packed, Dropped, Fault, given, shaped, field, used, Reading, Done, Refused, _then_, _followed-by_, element, elements, contents, records, fields, read}
 use Rattle.spec.specs.Record.{row}
-use Rattle.spec.proofs.Laws.{either-way, Takes, took, none, takes-tag, takes-scalar, takes-varint, takes-weaker, takes-skipGroup, Holds, holds, content-holds}
+use Rattle.spec.proofs.Laws.{either-way, Takes, took, none, takes-tag, takes-scalar, takes-varint, Holds, holds, content-holds}
+use Rattle.spec.proofs.SkipLaws.{takes-skipGroup}
 use Rattle.spec.specs.declared.Entry.{Entry}
 
 -- from a up to e, behind at least one byte, and in the first `most`
