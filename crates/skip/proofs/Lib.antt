@@ -1,0 +1,5 @@
+pub mod PastLaws
+pub mod GroupTurn
+pub mod SkipAnswers
+pub mod DocumentTurn
+pub mod DocumentAnswers
