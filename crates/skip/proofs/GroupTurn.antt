@@ -52,9 +52,6 @@ module _ {e : Read} {level : ℕ} {s : List ℕ} {from at : ℕ} (h : Here e lev
     pub tag-bounds : (at < next) × (next ≤ length s)
     tag-bounds = next-bounds at t next s r (takes-tag (drop at s))
 
-    abbrev Field : Past
-    Field = behind next (skipField innerGroup level (t % 8) (drop next s))
-
     pub closes : t % 8 ≡ 4 → To next ≡ groupFrom e level s from
     unfolding behind
     closes w =
@@ -66,33 +63,40 @@ module _ {e : Read} {level : ℕ} {s : List ℕ} {from at : ℕ} (h : Here e lev
     behind-tag : drop (next - at) (drop at s) ≡ drop next s
     behind-tag = let b = tag-bounds in drop-to at next s (omega arith)
 
-    pub lost : (k : ℕ) → (t % 8 ≡ 4 → ⊥) → Refused k ≡ Field → Refused k ≡ groupFrom e level s from
-    lost k w f =
-        let g = refused-of next k (skipField innerGroup level (t % 8) (drop next s)) f in
-        refused-behind at (group-field-refused e level (drop at s) t (next - at) k (sym r) w (rw behind-tag g)) ∙ sym (h .rest)
+    -- the field behind the tag was skipped
+    module _ (w : t % 8 ≡ 4 → ⊥) (p : Past) (f : p ≡ behind next (skipField innerGroup level (t % 8) (drop next s))) where
+      pub lost : (k : ℕ) → p ≡ Refused k → p ≡ groupFrom e level s from
+      lost k z =
+          let g = refused-of next k (skipField innerGroup level (t % 8) (drop next s)) (sym z ∙ f) in
+          z ∙ refused-behind at (group-field-refused e level (drop at s) t (next - at) k (sym r) w (rw behind-tag g)) ∙ sym (h .rest)
 
-    pub onward : (q : ℕ) → (t % 8 ≡ 4 → ⊥) → To q ≡ Field → (next ≤ q) × Here e level s from q
-    onward q w f = go (skipField innerGroup level (t % 8) (drop next s)) refl (placed-of next q _ f)
-      where
-        go : (x : Read) → skipField innerGroup level (t % 8) (drop next s) ≡ x → Placed next q x → (next ≤ q) × Here e level s from q
-        go (Took v n) g (placed p) =
-            let b = tag-bounds in
-            let p′ : next - at + n ≡ q - at = omega arith in
-            let p″ : at + (q - at) ≡ q = omega arith in (
-              omega arith,
-              record {
-                ahead = omega arith;
-                rest = h .rest
-                    ∙ ap (behind at) (group-goes-on e level (drop at s) t (next - at) v n (sym r) w (rw behind-tag g))
-                    ∙ behind-longer at (next - at + n) _
-                    ∙ rw (p′, p″, drop-to at q s (omega arith));
-              },
-            )
+      pub onward : (q : ℕ) → p ≡ To q → (next ≤ q) × Here e level s from q
+      onward q z = go (skipField innerGroup level (t % 8) (drop next s)) refl (placed-of next q _ (sym z ∙ f))
+        where
+          go : (x : Read) → skipField innerGroup level (t % 8) (drop next s) ≡ x → Placed next q x → (next ≤ q) × Here e level s from q
+          go (Took v n) g (placed j) =
+              let b = tag-bounds in
+              let j′ : next - at + n ≡ q - at = omega arith in
+              let j″ : at + (q - at) ≡ q = omega arith in (
+                omega arith,
+                record {
+                  ahead = omega arith;
+                  rest = h .rest
+                      ∙ ap (behind at) (group-goes-on e level (drop at s) t (next - at) v n (sym r) w (rw behind-tag g))
+                      ∙ behind-longer at (next - at + n) _
+                      ∙ rw (j′, j″, drop-to at q s (omega arith));
+                },
+              )
 
-    -- a value that is no group's
-    pub value : (q : ℕ) → To q ≡ behind next (plain (t % 8) (drop next s)) → (next ≤ q) × Here e level s from q
-    value q f =
-        onward q (λ w. no-value next q (t % 8) (drop next s) (inr w) f) (rw (no-group innerGroup level (drop next s) (t % 8) (λ w. no-value next q (t % 8) (drop next s) (inl w) f)) f)
+    -- and so was a value that is no group's
+    module _ (p : Past) (f : p ≡ behind next (plain (t % 8) (drop next s))) where
+      pub lost-value : (t % 8 ≡ 3 → ⊥) → (t % 8 ≡ 4 → ⊥) → (k : ℕ) → p ≡ Refused k → p ≡ groupFrom e level s from
+      lost-value a b k z = lost b p (f ∙ ap (behind next) (sym (no-group innerGroup level (drop next s) (t % 8) a))) k z
+
+      pub value : (q : ℕ) → p ≡ To q → (next ≤ q) × Here e level s from q
+      value q z =
+          let never : (t % 8 ≡ 3) ⊎ (t % 8 ≡ 4) → ⊥ = λ w. no-value next q (t % 8) (drop next s) w (sym z ∙ f) in
+          onward (λ w. never (inr w)) p (f ∙ ap (behind next) (sym (no-group innerGroup level (drop next s) (t % 8) (λ w. never (inl w))))) q z
 
 -- the end of the bytes, in the outermost group of an unknown field and in any other
 module _ {level : ℕ} {s : List ℕ} {from at : ℕ} {outer : Bool} (h : Here (atEnd outer) level s from at) (l : length s ≤ at) where

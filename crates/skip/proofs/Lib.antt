@@ -1,4 +1,5 @@
 pub mod PastLaws
+pub mod VarintTurn
 pub mod GroupTurn
 pub mod SkipAnswers
 pub mod DocumentTurn

@@ -17,8 +17,28 @@ pub enum Past {
     Refused(u32),
 }
 
-// The tag at a position.
-pub fn tag_at(s: &[u8], at: usize) -> Found
+// The tag at a position. Most have one byte: those are read in place.
+pub(crate) fn tag_at(s: &[u8], at: usize) -> Found
+    ensures { λ r. ⌜ told at r ≡ tag (drop at (now (s .entry))) ⌝ }
+{
+    if s.len() <= at {
+        return Found::Refused(1);
+    }
+    let b = s[at] as u64;
+    if 128 <= b {
+        return long_tag(s, at);
+    }
+    if 5 < b % 8 {
+        return Found::Refused(3);
+    }
+    if b < 8 {
+        return Found::Refused(3);
+    }
+    let next = at + 1;
+    Found::Value { value: b, next }
+}
+
+fn long_tag(s: &[u8], at: usize) -> Found
     ensures { λ r. ⌜ told at r ≡ tag (drop at (now (s .entry))) ⌝ }
 {
     let f = decode_varint32(s, at);
@@ -74,7 +94,7 @@ fn quick_bytes(s: &[u8], at: usize) -> usize
     at + 1 + n
 }
 
-pub fn quick_value(s: &[u8], at: usize, w: u64) -> usize
+pub(crate) fn quick_value(s: &[u8], at: usize, w: u64) -> usize
     requires { ⌜ at ≤ length (now s) ⌝ }
     ensures { λ r. ⌜ (at < r → To r ≡ behind at (plain w (drop at (now (s .entry))))) ⌝ }
 {
@@ -99,13 +119,29 @@ pub fn quick_value(s: &[u8], at: usize, w: u64) -> usize
 
 // Any value, by its wire type.
 
+// A varint's value is of no use here, so its bytes are only looked at.
 fn past_varint(s: &[u8], at: usize) -> Past
+    requires { ⌜ at ≤ length (now s) ⌝ }
     ensures { λ r. ⌜ r ≡ behind at (varint64 (drop at (now (s .entry)))) ⌝ }
 {
-    match decode_varint64(s, at) {
-        Found::Value { value: _, next } => Past::To(next),
-        Found::Refused(k) => Past::Refused(k),
+    let left = s.len() - at;
+    let mut n = 0;
+    while n < 9 {
+        if left <= n {
+            return Past::Refused(1);
+        }
+        if s[at + n] < 128 {
+            return Past::To(at + n + 1);
+        }
+        n = n + 1;
     }
+    if left <= n {
+        return Past::Refused(1);
+    }
+    if 1 < s[at + n] {
+        return Past::Refused(2);
+    }
+    Past::To(at + n + 1)
 }
 
 fn past_fixed(s: &[u8], at: usize, n: usize) -> Past
@@ -133,7 +169,7 @@ fn past_bytes(s: &[u8], at: usize) -> Past
     }
 }
 
-pub fn past_plain(s: &[u8], at: usize, w: u64) -> Past
+pub(crate) fn past_plain(s: &[u8], at: usize, w: u64) -> Past
     requires { ⌜ at ≤ length (now s) ⌝ }
     ensures { λ r. ⌜ r ≡ behind at (plain w (drop at (now (s .entry)))) ⌝ }
 {

@@ -12,7 +12,7 @@ use Rattle.spec.proofs.SkipLaws.{group-too-deep, group-entered, no-group}
 use Rattle.wire.specs.Answers.{told}
 use Rattle.skip.specs.Passed.{behind, atEnd}
 use Rattle.skip.proofs.PastLaws.{refused-behind}
-use Rattle.skip.proofs.GroupTurn.{Here, refused, tag-bounds, closes, lost, onward, value, ends-refused, ends-closed}
+use Rattle.skip.proofs.GroupTurn.{Here, refused, tag-bounds, closes, lost, lost-value, onward, value, ends-refused, ends-closed}
 use borrow.Fn.Kinds.{In}
 use borrow.Fn.PlainCycle.{Measures, is, falls, and}
 use Rattle.skip.proofs.unknown_or_group.skip_field.Reads as skip-field
@@ -109,7 +109,7 @@ skip-group-loop-less : (t : ℕ) → skip-group-lts.Need-loop-less (skip-group-c
 skip-group-loop-less t c = omega (arith, tag-bounds (here t (c .before .before)) _ _ (tagged t (c .before .before)))
 
 skip-group-loop-again : (t : ℕ) → skip-group-lts.Need-loop-again (skip-group-claims t) (skip-group-at t) skip-group.Post skip-group-Inv-loop skip-group-μ-loop
-skip-group-loop-again t c = let k = c .before .before in value (here t k) _ _ (tagged t k) _ (c .before .quick-value .ensures (c .if1 .taken)) .1
+skip-group-loop-again t c = let k = c .before .before in value (here t k) _ _ (tagged t k) _ (c .before .quick-value .ensures (c .if1 .taken)) _ refl .1
 
 skip-group-skip-field-requires : (t : ℕ) → skip-group-lts.Need-skip-field-requires (skip-group-claims t) (skip-group-at t) skip-group.Post skip-group-Inv-loop skip-group-μ-loop
 skip-group-skip-field-requires t c κs =
@@ -126,8 +126,7 @@ skip-group-returns : (t : ℕ) → skip-group-lts.Need-returns (skip-group-claim
 skip-group-returns t c =
     let f = c .before .before in
     let k = f .before .before .before .before in
-    c .enum-told .given .1
-    ∙ lost (here t k) _ _ (tagged t k) _ (λ w. omega (arith, f .before .match2 .keys1)) (sym (c .enum-told .given .1) ∙ f .skip-field .ensures)
+    lost (here t k) _ _ (tagged t k) (λ w. omega (arith, f .before .match2 .keys1)) _ (f .skip-field .ensures) _ (c .enum-told .given .1)
 
 -- behind a group within
 within : (t : ℕ) (c : skip-group-lts.After-known-told2 (skip-group-claims t) (skip-group-at t) skip-group.Post skip-group-Inv-loop skip-group-μ-loop) →
@@ -139,7 +138,7 @@ within : (t : ℕ) (c : skip-group-lts.After-known-told2 (skip-group-claims t) (
 within t c =
     let f = c .before .before .before in
     let k = f .before .before .before .before in
-    onward (here t k) _ _ (tagged t k) _ (λ w. omega (arith, f .before .match2 .keys1)) (sym (c .before .p .given .1) ∙ f .skip-field .ensures)
+    onward (here t k) _ _ (tagged t k) (λ w. omega (arith, f .before .match2 .keys1)) _ (f .skip-field .ensures) _ (c .before .p .given .1)
 
 skip-group-loop-less-2 : (t : ℕ) → skip-group-lts.Need-loop-less-2 (skip-group-claims t) (skip-group-at t) skip-group.Post skip-group-Inv-loop skip-group-μ-loop
 skip-group-loop-less-2 t c = let k = c .before .before .before .before .before .before .before in omega (arith, within t c .0, tag-bounds (here t k) _ _ (tagged t k))
@@ -164,8 +163,7 @@ skip-group-returns-3 t c =
     let f = c .before .before in
     let k = f .before .before .before .before in
     let r = f .before .match2 .rest in
-    c .enum-told2 .given .1
-    ∙ lost (here t k) _ _ (tagged t k) _ (r .1) (sym (c .enum-told2 .given .1) ∙ f .past-plain .ensures ∙ ap (behind _) (sym (no-group innerGroup _ _ _ (r .0 .1))))
+    lost-value (here t k) _ _ (tagged t k) _ (f .past-plain .ensures) (r .0 .1) (r .1) _ (c .enum-told2 .given .1)
 
 -- behind any other value
 beyond : (t : ℕ) (c : skip-group-lts.After-known-told3 (skip-group-claims t) (skip-group-at t) skip-group.Post skip-group-Inv-loop skip-group-μ-loop) →
@@ -177,7 +175,7 @@ beyond : (t : ℕ) (c : skip-group-lts.After-known-told3 (skip-group-claims t) (
 beyond t c =
     let f = c .before .before .before in
     let k = f .before .before .before .before in
-    value (here t k) _ _ (tagged t k) _ (sym (c .before .p2 .given .1) ∙ f .past-plain .ensures)
+    value (here t k) _ _ (tagged t k) _ (f .past-plain .ensures) _ (c .before .p2 .given .1)
 
 skip-group-loop-less-3 : (t : ℕ) → skip-group-lts.Need-loop-less-3 (skip-group-claims t) (skip-group-at t) skip-group.Post skip-group-Inv-loop skip-group-μ-loop
 skip-group-loop-less-3 t c = let k = c .before .before .before .before .before .before .before in omega (arith, beyond t c .0, tag-bounds (here t k) _ _ (tagged t k))
