@@ -11,10 +11,11 @@ use Rattle.spec.specs.Base.{if_then_else_, limit, Read, Took, No, refusal, take
 use Rattle.spec.specs.Varint.{tag, goodTag}
 use Rattle.spec.specs.Skip.{plain, skipField, skipGroup, innerGroup, outerGroup, skipFieldForTag, readUnknownOrSkipGroup}
 use Rattle.spec.proofs.Laws.{Takes, took, none, either-way, takes-tag, takes-weaker, takes-next}
-use Rattle.spec.proofs.SkipLaws.{takes-skipField, takes-skipGroup, group-step, outer-end, skip-plain}
+use Rattle.spec.proofs.SkipLaws.{takes-skipField, takes-skipGroup, group-step, outer-end, skip-long, skip-bad-tag, skip-plain, unknown-long, unknown-bad-tag}
 use Rattle.skip.specs.declared.field.Past.{Past}
 use Rattle.skip.specs.declared.field.Past.the-variants.{To, Refused}
 use Rattle.skip.specs.declared.unknown_or_group.Skipped.{Skipped}
+use Rattle.skip.specs.Checked.{Checked, long, bad, good}
 use Rattle.skip.specs.Passed.{past, behind}
 use Rattle.skip.proofs.PastLaws.{Placed, placed, placed-of}
 use Rattle.skip.proofs.GroupTurn.{no-value}
@@ -63,10 +64,37 @@ answer-to q r e = go r (placed-of 0 q r e)
     go : (x : Read) → Placed 0 q x → (0 ≡ refusal x) × (q ≡ taken x)
     go (Took v n) (placed p) = (refl, omega arith)
 
-pub answer-past : (p : Past) (r : Read) → p ≡ behind 0 r → (refusal (past 0 p) ≡ refusal r) × (taken (past 0 p) ≡ taken r)
+pub answer-past : (p : Past) (r : Read) {x y : ℕ} → p ≡ behind 0 r → (x ≡ refusal (past 0 p)) × (y ≡ taken (past 0 p)) → (x ≡ refusal r) × (y ≡ taken r)
 unfolding refusal taken behind
-answer-past p (Took v n) e = rw e (refl, omega arith)
-answer-past p (No k) e = rw e (refl, refl)
+answer-past p (Took v n) e q = let f = rw e at q in (f .0, omega arith)
+answer-past p (No k) e q = rw e at q
+
+-- ---- 11, then 3, then what the field says
+
+module _ {t : ℕ} {s : List ℕ} {k : ℕ} (c : Checked t s k) where
+  pub checked-skip : (level : ℕ) → 0 < k → skipFieldForTag t level s ≡ No k
+  checked-skip level h = go c h
+    where
+      go : {k : ℕ} → Checked t s k → 0 < k → skipFieldForTag t level s ≡ No k
+      go (long l) h = skip-long t level s l
+      go (bad l g) h = skip-bad-tag t level s l g
+      go (good l g) h = absurd (omega arith)
+
+  pub checked-unknown : (level : ℕ) → 0 < k → readUnknownOrSkipGroup t level s ≡ No k
+  checked-unknown level h = go c h
+    where
+      go : {k : ℕ} → Checked t s k → 0 < k → readUnknownOrSkipGroup t level s ≡ No k
+      go (long l) h = unknown-long t level s l
+      go (bad l g) h = unknown-bad-tag t level s l g
+      go (good l g) h = absurd (omega arith)
+
+  pub checked-good : k ≤ 0 → (length s ≤ limit) × (goodTag t ≡ true)
+  checked-good h = go c h
+    where
+      go : {k : ℕ} → Checked t s k → k ≤ 0 → (length s ≤ limit) × (goodTag t ≡ true)
+      go (long l) h = absurd (omega arith)
+      go (bad l g) h = absurd (omega arith)
+      go (good l g) h = (l, g)
 
 -- a value that is no group's, behind a good tag
 pub value-answer : (t level q : ℕ) (s : List ℕ) → length s ≤ limit → goodTag t ≡ true → To q ≡ behind 0 (plain (t % 8) s)

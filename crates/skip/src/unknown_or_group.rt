@@ -5,6 +5,7 @@ ghost use lib.ListN.{length, drop};
 ghost use Rattle.spec.specs.Base.{refusal, taken};
 ghost use Rattle.spec.specs.Skip.{skipField, skipGroup, innerGroup, outerGroup, skipFieldForTag, readUnknownOrSkipGroup};
 ghost use Rattle.skip.specs.Passed.{past, behind, atEnd};
+ghost use Rattle.skip.specs.Checked.{Checked};
 use crate::field::Past;
 use crate::field::past_plain;
 use crate::field::quick_value;
@@ -97,49 +98,49 @@ fn used_of(p: Past) -> Skipped
     }
 }
 
+// Before all else: 11 for more bytes than may be read, then 3 for a bad tag; 0 where neither is so.
+fn checked(tag: u32, s: &[u8]) -> u32
+    ensures { λ r. ⌜ Checked tag (now (s .entry)) r ⌝ }
+{
+    if 0x7fff_ffff < s.len() {
+        return 11;
+    }
+    if 5 < tag % 8 {
+        return 3;
+    }
+    if 8 <= tag {
+        return 0;
+    }
+    3
+}
+
 // Skips the field behind a tag. Every group counts, and the end of the bytes closes all open groups.
 pub fn skip_field_for_tag(tag: u32, s: &[u8], level: u32) -> Skipped
     ensures { λ r. ⌜ (r .number ≡ refusal (skipFieldForTag tag level (now (s .entry)))) × (r .used ≡ taken (skipFieldForTag tag level (now (s .entry)))) ⌝ }
 {
-    if 0x7fff_ffff < s.len() {
-        return Skipped {
-            number: 11,
-            used: 0,
-        };
+    let number = checked(tag, s);
+    if 0 < number {
+        return Skipped { number, used: 0 };
     }
-    let w = tag % 8;
-    if 5 < w {
-        return Skipped { number: 3, used: 0 };
-    }
-    if tag < 8 {
-        return Skipped { number: 3, used: 0 };
-    }
-    let q = quick_value(s, 0, w as u64);
+    let w = (tag % 8) as u64;
+    let q = quick_value(s, 0, w);
     if 0 < q {
         return Skipped { number: 0, used: q };
     }
-    used_of(skip_field(s, 0, w as u64, level))
+    used_of(skip_field(s, 0, w, level))
 }
 
 // Skips the field behind the tag of an unknown field, as the message loop does: its outermost group is not counted.
 pub fn read_unknown_or_skip_group(tag: u32, s: &[u8], level: u32) -> Skipped
     ensures { λ r. ⌜ (r .number ≡ refusal (readUnknownOrSkipGroup tag level (now (s .entry)))) × (r .used ≡ taken (readUnknownOrSkipGroup tag level (now (s .entry)))) ⌝ }
 {
-    if 0x7fff_ffff < s.len() {
-        return Skipped {
-            number: 11,
-            used: 0,
-        };
+    let number = checked(tag, s);
+    if 0 < number {
+        return Skipped { number, used: 0 };
     }
-    let w = tag % 8;
-    if 5 < w {
-        return Skipped { number: 3, used: 0 };
-    }
-    if tag < 8 {
-        return Skipped { number: 3, used: 0 };
-    }
+    let w = (tag % 8) as u64;
     if w == 3 {
         return used_of(skip_group(s, 0, level, true));
     }
-    used_of(past_plain(s, 0, w as u64))
+    used_of(past_plain(s, 0, w))
 }

@@ -49,7 +49,7 @@ loop-again : tie.Need-loop-again Inv-loop μ-loop
 loop-again c = let k = c .before .before in value (here k) _ _ (tagged k) _ (c .before .quick-value .ensures (c .if2 .taken)) .1
 
 returns-3 : tie.Need-returns-3 Inv-loop μ-loop
-returns-3 c = let k = c .before .before .before .before in too-many (here k) _ _ (tagged k) (c .before .match2 .keys1) (c .if3 .taken)
+returns-3 c = let k = c .before .before .before .before in too-many (here k) _ _ (tagged k) (c .before .match2 .keys1) (omega arith)
 
 cast-numbers : tie.Need-cast-numbers Inv-loop μ-loop
 cast-numbers c = let k = c .before .before .before .before in omega (arith, tag-low _ _ _ (tagged k))
@@ -67,10 +67,10 @@ loop-less-2 : tie.Need-loop-less-2 Inv-loop μ-loop
 loop-less-2 c = let k = c .before .before .before .before in omega (arith, tag-bounds (here k) _ _ (tagged k))
 
 loop-again-2 : tie.Need-loop-again-2 Inv-loop μ-loop
-loop-again-2 c = let k = c .before .before .before .before in opens (here k) _ _ (tagged k) (c .before .match2 .keys1) (c .if3 .left)
+loop-again-2 c = let k = c .before .before .before .before in opens (here k) _ _ (tagged k) (c .before .match2 .keys1) (omega arith)
 
 returns-4 : tie.Need-returns-4 Inv-loop μ-loop
-returns-4 c = let k = c .before .before .before .before in none-open (here k) _ _ (tagged k) (c .before .match2 .keys2) (c .if4 .taken)
+returns-4 c = let k = c .before .before .before .before in none-open (here k) _ _ (tagged k) (c .before .match2 .keys2) (omega arith)
 
 sub-n : tie.Need-sub-n Inv-loop μ-loop
 sub-n c = omega arith

@@ -19,19 +19,19 @@ returns : tie.Need-returns Inv-loop μ-loop
 returns c = ended (c .before .before .loop .inv) (omega arith)
 
 returns-2 : tie.Need-returns-2 Inv-loop μ-loop
-returns-2 c = let i = c .before .before .before in stopped (i .before .loop .inv) (omega arith) (i .loop-test .taken) (c .if2 .taken)
+returns-2 c = let i = c .before .before .before in stopped (i .before .loop .inv) (omega arith) (omega arith) (c .if2 .taken)
 
 loop-again : tie.Need-loop-again Inv-loop μ-loop
-loop-again c = let i = c .before .before .before in turned (i .before .loop .inv) (omega arith) (i .loop-test .taken) (c .if2 .left)
+loop-again c = let i = c .before .before .before in turned (i .before .loop .inv) (omega arith) (omega arith) (c .if2 .left)
 
 returns-3 : tie.Need-returns-3 Inv-loop μ-loop
 returns-3 c = ended (c .before .before .loop .inv) (omega arith)
 
 returns-4 : tie.Need-returns-4 Inv-loop μ-loop
-returns-4 c = let i = c .before .before .before in bad-last (i .before .loop .inv) (omega arith) (i .loop-test .left) (c .if4 .taken)
+returns-4 c = let i = c .before .before .before in bad-last (i .before .loop .inv) (omega arith) (omega arith) (omega arith)
 
 returns-5 : tie.Need-returns-5 Inv-loop μ-loop
-returns-5 c = let i = c .before .before .before in ends-last (i .before .loop .inv) (omega arith) (i .loop-test .left) (c .if4 .left)
+returns-5 c = let i = c .before .before .before in ends-last (i .before .loop .inv) (omega arith) (omega arith) (omega arith)
 
 pub past-varint-spec : {M : Type 1} → statement M
 past-varint-spec =

@@ -53,7 +53,7 @@ abbrev skip-field-claims : ℕ → skip-field-lts.Claims
 skip-field-claims t = (skip-group-below t, skip-group.Post, past-plain-reads.Asked, past-plain-reads.Learnt)
 
 skip-field-returns : (t : ℕ) → skip-field-lts.Need-returns (skip-field-claims t) (skip-field-at t) skip-field.Post
-skip-field-returns t c = rw (c .before .if1 .taken) (refused-behind _ (group-too-deep innerGroup _ _ (c .if2 .taken)))
+skip-field-returns t c = rw (c .before .if1 .taken) (refused-behind _ (group-too-deep innerGroup _ _ (omega arith)))
 
 skip-field-add-skip-group : (t : ℕ) → skip-field-lts.Need-add-skip-group (skip-field-claims t) (skip-field-at t) skip-field.Post
 skip-field-add-skip-group t c = search needs
@@ -62,7 +62,7 @@ skip-field-skip-group-requires : (t : ℕ) → skip-field-lts.Need-skip-group-re
 skip-field-skip-group-requires t c κs = search needs
 
 skip-field-returns-2 : (t : ℕ) → skip-field-lts.Need-returns-2 (skip-field-claims t) (skip-field-at t) skip-field.Post
-skip-field-returns-2 t c = rw (c .before .before .if1 .taken) (c .skip-group .ensures ∙ ap (behind _) (sym (group-entered innerGroup _ _ (c .before .if2 .left))))
+skip-field-returns-2 t c = rw (c .before .before .if1 .taken) (c .skip-group .ensures ∙ ap (behind _) (sym (group-entered innerGroup _ _ (omega arith))))
 
 skip-field-past-plain-requires : (t : ℕ) → skip-field-lts.Need-past-plain-requires (skip-field-claims t) (skip-field-at t) skip-field.Post
 skip-field-past-plain-requires t c κs = search needs
