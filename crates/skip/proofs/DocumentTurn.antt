@@ -1,19 +1,19 @@
 -- One turn of the document check, in plain values. Assumes nothing.
-use Prim.Native.Nat.{ℕ, zero, suc, _+_, _-_, _*_, _/_, _%_, _^_, _≤_, _<_}
+use Prim.Native.Nat.{ℕ, zero, suc, _+_, _-_, _/_, _%_, _≤_, _<_}
 use native.Mathlib.Omega.{arith}
 use native.Mathlib.Numerals.{add-one}
 use mathlib.Core.Path.{_≡_, refl, sym, ap, ap₂, _∙_}
-use mathlib.Core.Bool.{Bool, true, false, _&&_}
+use mathlib.Core.Bool.{Bool, false}
 use mathlib.Core.Logic.{inl, inr}
 use mathlib.Core.List.{List, [], _∷_}
 use lib.ListN.{length, drop, getD, set, length-drop, length-set, drop-of-length-le}
 use lib.Seq.{getD-set-same, getD-set-other}
-use lib.Dec.{leb, ltb, eqb}
+use lib.Dec.{eqb}
 use borrow.Author.Tests.{le-leb, lt-leb, le-ltb, eq-eqb, ne-eqb}
-use Rattle.spec.specs.Base.{if_then_else_, limit, Read, Took, No, longer}
+use Rattle.spec.specs.Base.{limit, Read, Took, No, longer}
 use Rattle.spec.specs.Varint.{tag}
 use Rattle.spec.specs.Skip.{plain}
-use Rattle.spec.specs.Document.{Step, Go, Stop, passed, closed, step, goOn, isNil, isRun, isDocument}
+use Rattle.spec.specs.Document.{Step, Stop, passed, closed, step, goOn, isNil, isRun, isDocument}
 use Rattle.spec.proofs.Laws.{takes-tag}
 use Rattle.spec.proofs.DocumentLaws.{walk, walk-step, step-start, step-end, step-value}
 use Rattle.skip.specs.declared.field.Past.the-variants.{To, Refused}
@@ -46,22 +46,22 @@ opened-less numbers (suc n) h = let q : suc n - 1 ≡ n = omega arith in rw q re
 
 -- ---- the loop is at the byte `at` with n groups open, and what is to be said of all is what is said from here
 
+-- what the walk says of all the bytes
+abbrev pub run : List ℕ → Bool
+run s = isRun (length s) [] s
+
 pub record Here (s numbers : List ℕ) (n at : ℕ) : Type 0 where
   pub room : length numbers ≡ 100
   pub few : n ≤ 100
-  pub rest : isDocument s ≡ walk (opened numbers n) (drop at s)
+  pub rest : run s ≡ walk (opened numbers n) (drop at s)
 
-pub too-long : (s : List ℕ) → limit < length s → false ≡ isDocument s
-unfolding isDocument
-too-long s h = rw (lt-leb (length s) limit h) refl
-
-pub start : (s numbers : List ℕ) → length s ≤ limit → length numbers ≡ 100 → Here s numbers 0 0
-unfolding isDocument opened
-start s numbers h r = record { room = r; few = omega arith; rest = rw (le-leb (length s) limit h) refl }
+pub start : (s numbers : List ℕ) → length numbers ≡ 100 → Here s numbers 0 0
+unfolding opened
+start s numbers r = record { room = r; few = omega arith; rest = refl }
 
 module _ {s numbers : List ℕ} {n at : ℕ} (h : Here s numbers n at) where
   -- no byte is left
-  pub finish : length s ≤ at → eqb n 0 ≡ isDocument s
+  pub finish : length s ≤ at → eqb n 0 ≡ run s
   unfolding isRun opened
   finish l = go n ∙ sym (h .rest ∙ ap (walk (opened numbers n)) (drop-of-length-le s l))
     where
@@ -70,7 +70,7 @@ module _ {s numbers : List ℕ} {n at : ℕ} (h : Here s numbers n at) where
       go (suc k) = ne-eqb (suc k) 0 (λ e. omega arith)
 
   -- no tag
-  pub bad-tag : (k : ℕ) → at < length s → No k ≡ tag (drop at s) → false ≡ isDocument s
+  pub bad-tag : (k : ℕ) → at < length s → No k ≡ tag (drop at s) → false ≡ run s
   unfolding isRun step goOn
   bad-tag k l r = sym (h .rest ∙ go (drop at s) (rw length-drop (omega arith)) (sym r))
     where
@@ -87,10 +87,10 @@ module _ {s numbers : List ℕ} {n at : ℕ} (h : Here s numbers n at) where
     behind-tag = let b = tag-bounds in drop-to at next s (omega arith)
 
     turned : (x : Step) → step (opened numbers n) (drop at s) (Took t (next - at)) ≡ x
-        → isDocument s ≡ goOn x (λ o m. walk o (drop m (drop at s)))
+        → run s ≡ goOn x (λ o m. walk o (drop m (drop at s)))
     turned x e = h .rest ∙ walk-step (opened numbers n) (drop at s) t (next - at) (sym r) ∙ ap (λ (y : Step). goOn y (λ o m. walk o (drop m (drop at s)))) e
 
-    stopped : step (opened numbers n) (drop at s) (Took t (next - at)) ≡ Stop → false ≡ isDocument s
+    stopped : step (opened numbers n) (drop at s) (Took t (next - at)) ≡ Stop → false ≡ run s
     unfolding goOn
     stopped e = sym (turned Stop e)
 
@@ -104,7 +104,7 @@ module _ {s numbers : List ℕ} {n at : ℕ} (h : Here s numbers n at) where
           ∙ ap₂ walk (sym (opened-more numbers (t / 8) n (omega (arith, h .room)))) behind-tag;
     }
 
-    pub too-many : t % 8 ≡ 3 → 100 ≤ n → false ≡ isDocument s
+    pub too-many : t % 8 ≡ 3 → 100 ≤ n → false ≡ run s
     unfolding step
     too-many w l = stopped (rw (eq-eqb (t % 8) 3 w, length-opened numbers n, le-ltb n 100 l) refl)
 
@@ -120,7 +120,7 @@ module _ {s numbers : List ℕ} {n at : ℕ} (h : Here s numbers n at) where
           ∙ ap (walk (opened numbers (n - 1))) behind-tag;
     }
 
-    pub none-open : t % 8 ≡ 4 → n ≡ 0 → false ≡ isDocument s
+    pub none-open : t % 8 ≡ 4 → n ≡ 0 → false ≡ run s
     unfolding step closed opened
     none-open w z = stopped (rw (ne-eqb (t % 8) 3 (λ e. omega arith), eq-eqb (t % 8) 4 w, z) refl)
 
@@ -149,6 +149,17 @@ module _ {s numbers : List ℕ} {n at : ℕ} (h : Here s numbers n at) where
               },
             )
 
-    pub lost : (k : ℕ) → (t % 8 ≡ 3 → ⊥) → (t % 8 ≡ 4 → ⊥) → Refused k ≡ behind next (plain (t % 8) (drop next s)) → false ≡ isDocument s
+    pub lost : (k : ℕ) → (t % 8 ≡ 3 → ⊥) → (t % 8 ≡ 4 → ⊥) → Refused k ≡ behind next (plain (t % 8) (drop next s)) → false ≡ run s
     unfolding passed longer
     lost k a b f = stopped (valued (No k) a b (refused-of next k _ f))
+
+-- ---- the check is the run, of input that is not above the size limit
+
+module _ (s : List ℕ) where
+  pub too-long : limit < length s → false ≡ isDocument s
+  unfolding isDocument
+  too-long h = rw (lt-leb (length s) limit h) refl
+
+  pub short-enough : length s ≤ limit → run s ≡ isDocument s
+  unfolding isDocument
+  short-enough h = rw (le-leb (length s) limit h) refl

@@ -6,7 +6,7 @@ use mathlib.Core.Bool.{Bool, true, false}
 use mathlib.Core.Logic.{_⊎_, inl, inr, ⊎-elim}
 use mathlib.Core.List.{List, [], _∷_}
 use lib.ListN.{length, drop, length-drop, drop-of-length-le}
-use Rattle.spec.specs.Base.{Read, Took, No, longer}
+use Rattle.spec.specs.Base.{Read, Took, No}
 use Rattle.spec.specs.Varint.{tag}
 use Rattle.spec.specs.Skip.{plain, skipField, skipGroup, innerGroup}
 use Rattle.spec.proofs.Laws.{takes-tag}

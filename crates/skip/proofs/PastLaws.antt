@@ -11,12 +11,11 @@ use lib.ListN.{length, drop, getD, length-drop}
 use lib.Seq.{drop-cons, drop-drop}
 use lib.Dec.{leb, ltb}
 use borrow.Author.Tests.{le-leb, lt-leb, leb-true, ltb-true}
-use Rattle.spec.specs.Base.{if_then_else_, Read, Took, No, longer, require, _>>=_, digit}
+use Rattle.spec.specs.Base.{Read, Took, No, longer, require, _>>=_, digit}
 use Rattle.spec.specs.Varint.{varint, varint32, fixed, tag, goodTag}
 use Rattle.spec.specs.Skip.{content}
 use Rattle.spec.proofs.Laws.{Takes, took, none, takes-varint, chosen}
 use Rattle.spec.proofs.VarintLaws.{top, varint-ends, varint-goes-on}
-use Rattle.skip.specs.declared.field.Past.{Past}
 use Rattle.skip.specs.declared.field.Past.the-variants.{To, Refused}
 use Rattle.skip.specs.Passed.{behind}
 

@@ -7,7 +7,7 @@ use mathlib.Core.Logic.{inl}
 use mathlib.Core.List.{List, [], _∷_}
 use lib.ListN.{length, drop, length-drop}
 use lib.Dec.{eqb}
-use Rattle.spec.specs.Base.{if_then_else_, limit, Read, Took, No, refusal, taken, longer, _>>=_}
+use Rattle.spec.specs.Base.{limit, Read, Took, No, refusal, taken, longer, _>>=_}
 use Rattle.spec.specs.Varint.{tag, goodTag}
 use Rattle.spec.specs.Skip.{plain, skipField, skipGroup, innerGroup, outerGroup, skipFieldForTag, readUnknownOrSkipGroup}
 use Rattle.spec.proofs.Laws.{Takes, took, none, either-way, takes-tag, takes-weaker, takes-next}

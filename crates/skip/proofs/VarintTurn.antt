@@ -3,12 +3,11 @@ use Prim.Native.Nat.{ℕ, zero, suc, _+_, _-_, _≤_, _<_}
 use native.Mathlib.Omega.{arith}
 use native.Mathlib.Numerals.{add-one}
 use mathlib.Core.Path.{_≡_, refl, sym, ap, _∙_}
-use mathlib.Core.List.{List, [], _∷_}
+use mathlib.Core.List.{List, []}
 use lib.ListN.{length, drop, getD, drop-of-length-le}
 use lib.Seq.{drop-cons}
-use lib.Dec.{leb}
 use borrow.Author.Tests.{le-leb, lt-leb}
-use Rattle.spec.specs.Base.{if_then_else_, Read, Took, No, digit}
+use Rattle.spec.specs.Base.{Read, Took, No, digit}
 use Rattle.spec.specs.Varint.{varint, varint64}
 use Rattle.spec.proofs.VarintLaws.{varint-goes-on}
 use Rattle.skip.specs.declared.field.Past.the-variants.{To, Refused}

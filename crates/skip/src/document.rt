@@ -1,6 +1,8 @@
 // The document check: whether bytes are a run of fields in which every group is closed.
 ghost use mathlib.Core.Path.{_≡_};
-ghost use Rattle.spec.specs.Document.{isDocument};
+ghost use mathlib.Core.List.{[]};
+ghost use lib.ListN.{length};
+ghost use Rattle.spec.specs.Document.{isRun, isDocument};
 use crate::field::Past;
 use crate::field::past_plain;
 use crate::field::quick_value;
@@ -8,12 +10,9 @@ use crate::field::tag_at;
 use wire::found::Found;
 
 // One pass. The numbers of the groups that are open are kept in the order in which they were opened.
-pub fn is_document(s: &[u8]) -> bool
-    ensures { λ r. ⌜ r ≡ isDocument (now (s .entry)) ⌝ }
+fn is_run(s: &[u8]) -> bool
+    ensures { λ r. ⌜ r ≡ isRun (length (now (s .entry))) [] (now (s .entry)) ⌝ }
 {
-    if 0x7fff_ffff < s.len() {
-        return false;
-    }
     let mut numbers: [u32; 100] = [0; 100];
     let mut n: usize = 0;
     let mut at: usize = 0;
@@ -52,4 +51,13 @@ pub fn is_document(s: &[u8]) -> bool
         }
     }
     n == 0
+}
+
+pub fn is_document(s: &[u8]) -> bool
+    ensures { λ r. ⌜ r ≡ isDocument (now (s .entry)) ⌝ }
+{
+    if 0x7fff_ffff < s.len() {
+        return false;
+    }
+    is_run(s)
 }

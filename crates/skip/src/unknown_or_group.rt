@@ -40,9 +40,7 @@ fn skip_group(s: &[u8], from: usize, level: u32, outer: bool) -> Past
                             };
                             at = e;
                         }
-                        4 => {
-                            return Past::To(next);
-                        }
+                        4 => return Past::To(next),
                         _ => {
                             let p = past_plain(s, next, w);
                             let Past::To(e) = p else {
@@ -53,9 +51,7 @@ fn skip_group(s: &[u8], from: usize, level: u32, outer: bool) -> Past
                     }
                 }
             }
-            Found::Refused(k) => {
-                return Past::Refused(k);
-            }
+            Found::Refused(k) => return Past::Refused(k),
         }
     }
     if outer {

@@ -1,9 +1,7 @@
 -- `skip::field::long_tag` meets its contract: the varint, and whether it is a good tag. Assumes nothing.
-use mathlib.Core.Path.{_≡_, sym, ap, _∙_}
+use mathlib.Core.Path.{sym, ap, _∙_}
 use native.Mathlib.Omega.{arith}
 use borrow.Author.Needs.{needs}
-use Rattle.spec.specs.Base.{Took, No}
-use Rattle.spec.specs.Varint.{varint32}
 use Rattle.spec.proofs.SkipLaws.{good-tag, bad-wire, bad-number}
 use Rattle.wire.specs.Answers.{told}
 use Rattle.skip.proofs.PastLaws.{tag-refused, tag-good, tag-bad}

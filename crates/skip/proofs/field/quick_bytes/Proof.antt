@@ -1,6 +1,4 @@
 -- `skip::field::quick_bytes` meets its contract. Assumes nothing.
-use mathlib.Core.Path.{sym}
-use Prim.Native.Nat.{_+_}
 use native.Mathlib.Omega.{arith}
 use borrow.Author.Needs.{needs}
 use native.Mathlib.Nat.{add-assoc}

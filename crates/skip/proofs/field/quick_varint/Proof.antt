@@ -1,5 +1,4 @@
 -- `skip::field::quick_varint` meets its contract: one law for each number of bytes. Assumes nothing.
-use Prim.Native.Nat.{_+_}
 use native.Mathlib.Omega.{arith}
 use borrow.Author.Needs.{needs}
 use Rattle.skip.proofs.PastLaws.{ends-behind, ends-here, ends-second, ends-third}

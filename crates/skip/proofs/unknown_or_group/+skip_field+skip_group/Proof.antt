@@ -1,6 +1,6 @@
 -- The cycle of calls {skip_field, skip_group}: the loop over the fields of a group calls skip_field for a group within, which calls
 -- skip_group for it, one level deeper. The measure is how many bytes are left: behind a tag they are fewer. Assumes nothing.
-use Prim.Native.Nat.{ℕ, _+_, _-_, _*_, _%_, _≤_, _<_}
+use Prim.Native.Nat.{ℕ, _+_, _-_, _*_, _≤_, _<_}
 use mathlib.Core.Path.{_≡_, refl, sym, ap, _∙_}
 use native.Mathlib.Omega.{arith}
 use borrow.Author.Needs.{needs}
