@@ -32,7 +32,12 @@ ends-digit : (base b : ℕ) {n : ℕ} {r : Read} → Ends n r → Ends (suc n) (
 unfolding digit
 ends-digit base b ends = ends
 
--- a varint: its last byte is below 128, and the bytes before it are not
+behind-digit : (at base b : ℕ) (r : Read) → behind at (digit base b r) ≡ behind (at + 1) r
+unfolding behind digit
+behind-digit at base b (Took v n) = ap To (omega arith)
+behind-digit at base b (No k) = refl
+
+-- a varint: its last byte is below 128
 module _ (k last at : ℕ) (s : List ℕ) (inside : at < length s) where
   pub one-byte : getD s at 0 < 128 → varint (suc k) last (drop at s) ≡ Took (getD s at 0) 1
   one-byte h = rw (drop-cons s at 0) (varint-ends k last (getD s at 0) (drop (suc at) s) h)
@@ -40,19 +45,25 @@ module _ (k last at : ℕ) (s : List ℕ) (inside : at < length s) where
   pub ends-here : getD s at 0 < 128 → Ends 1 (varint (suc k) last (drop at s))
   ends-here h = rw (one-byte h) ends
 
-  pub ends-later : {n : ℕ} → 128 ≤ getD s at 0 → Ends n (varint k last (drop (at + 1) s)) → Ends (suc n) (varint (suc k) last (drop at s))
-  ends-later h e = rw (drop-cons s at 0, varint-goes-on k last (getD s at 0) (drop (suc at) s) h) (ends-digit _ _ (rw add-one at e))
+  -- and behind a byte that is not, the rest
+  pub behind-byte : 128 ≤ getD s at 0 → behind at (varint (suc k) last (drop at s)) ≡ behind (at + 1) (varint k last (drop (at + 1) s))
+  behind-byte h =
+      rw (drop-cons s at 0, varint-goes-on k last (getD s at 0) (drop (suc at) s) h) (behind-digit at 128 _ _ ∙ rw add-one refl)
 
 -- two and three bytes
 module _ (k last at : ℕ) (s : List ℕ) (first : 128 ≤ getD s at 0) where
-  pub ends-second : at + 1 < length s → getD s (at + 1) 0 < 128 → Ends 2 (varint (suc (suc k)) last (drop at s))
-  ends-second h b = ends-later (suc k) last at s (omega arith) first (ends-here k last (at + 1) s h b)
-
-  pub ends-third : at + 2 < length s → 128 ≤ getD s (at + 1) 0 → getD s (at + 2) 0 < 128 → Ends 3 (varint (suc (suc (suc k))) last (drop at s))
-  ends-third h b c =
+  pub two-bytes : at + 1 < length s → getD s (at + 1) 0 < 128 → To (at + 2) ≡ behind at (varint (suc (suc k)) last (drop at s))
+  two-bytes h b =
       let e : at + 2 ≡ at + 1 + 1 = omega arith in
-      ends-later (suc (suc k)) last at s (omega arith) first
-      (ends-later (suc k) last (at + 1) s (omega arith) b (ends-here k last (at + 1 + 1) s (omega arith) (rw e at c)))
+      rw e (ends-behind (at + 1) 1 (ends-here k last (at + 1) s h b) ∙ sym (behind-byte (suc k) last at s (omega arith) first))
+
+  pub three-bytes : at + 2 < length s → 128 ≤ getD s (at + 1) 0 → getD s (at + 2) 0 < 128 → To (at + 3) ≡ behind at (varint (suc (suc (suc k))) last (drop at s))
+  three-bytes h b c =
+      let e : at + 2 ≡ at + 1 + 1 = omega arith in
+      let e′ : at + 3 ≡ at + 1 + 1 + 1 = omega arith in
+      rw e′
+      (ends-behind (at + 1 + 1) 1 (ends-here k last (at + 1 + 1) s (omega arith) (rw e at c))
+      ∙ sym (behind-byte (suc (suc k)) last at s (omega arith) first ∙ behind-byte (suc k) last (at + 1) s (omega arith) b))
 
 -- a fixed value: as many bytes as it has, where they are there
 pub fixed-ends : (n : ℕ) (s : List ℕ) → n ≤ length s → Ends n (fixed n s)
@@ -74,7 +85,7 @@ module _ (len : List ℕ → Read) (s : List ℕ) where
     unfolding content _>>=_ longer
     content-ends h = rw (e, le-leb (n + m) (length s) h) ends
 
-    pub content-short : length s < n + m → content len s ≡ No 1
+    content-short : length s < n + m → content len s ≡ No 1
     unfolding content _>>=_ longer
     content-short h = rw (e, lt-leb (n + m) (length s) h) refl
 
@@ -103,12 +114,6 @@ module _ (s : List ℕ) where
 pub refused-behind : (at : ℕ) {k : ℕ} {r : Read} → r ≡ No k → Refused k ≡ behind at r
 unfolding behind
 refused-behind at e = rw e refl
-
--- the position that a reading told is the one behind it
-pub next-behind : (at v next : ℕ) {most : ℕ} {r : Read} → Took v (next - at) ≡ r → Takes 1 most r → To next ≡ behind at r
-unfolding behind
-next-behind at v next e (took {n = n} h j) = let q : next - at ≡ n = cc in ap To (omega arith)
-next-behind at v next e none = let z : _≡_ {A = ℕ} 0 1 = cc in absurd (omega arith)
 
 pub behind-longer : (at n : ℕ) (r : Read) → behind at (longer n r) ≡ behind (at + n) r
 unfolding behind longer

@@ -57,7 +57,7 @@ pub answer-no : {k : ℕ} {r : Read} → r ≡ No k → (k ≡ refusal r) × (0 
 unfolding refusal taken
 answer-no e = rw e (refl, refl)
 
-pub answer-to : (q : ℕ) (r : Read) → To q ≡ behind 0 r → (0 ≡ refusal r) × (q ≡ taken r)
+answer-to : (q : ℕ) (r : Read) → To q ≡ behind 0 r → (0 ≡ refusal r) × (q ≡ taken r)
 unfolding refusal taken
 answer-to q r e = go r (placed-of 0 q r e)
   where

@@ -1,18 +1,16 @@
 -- One turn of the loop over the bytes of a varint, of which only the position behind it is asked. Assumes nothing.
 use Prim.Native.Nat.{ℕ, zero, suc, _+_, _-_, _≤_, _<_}
 use native.Mathlib.Omega.{arith}
-use native.Mathlib.Numerals.{add-one}
 use mathlib.Core.Path.{_≡_, refl, sym, ap, _∙_}
 use mathlib.Core.List.{List, []}
 use lib.ListN.{length, drop, getD, drop-of-length-le}
 use lib.Seq.{drop-cons}
 use borrow.Author.Tests.{le-leb, lt-leb}
-use Rattle.spec.specs.Base.{Read, Took, No, digit}
+use Rattle.spec.specs.Base.{No}
 use Rattle.spec.specs.Varint.{varint, varint64}
-use Rattle.spec.proofs.VarintLaws.{varint-goes-on}
 use Rattle.skip.specs.declared.field.Past.the-variants.{To, Refused}
 use Rattle.skip.specs.Passed.{behind}
-use Rattle.skip.proofs.PastLaws.{ends-behind, ends-here, refused-behind}
+use Rattle.skip.proofs.PastLaws.{ends-behind, ends-here, behind-byte, refused-behind}
 
 -- n bytes are passed, and each said that another follows: what is behind all is what is behind the rest
 pub record Along (s : List ℕ) (at n : ℕ) : Type 0 where
@@ -26,16 +24,6 @@ pub no-byte : (k last : ℕ) → varint k last [] ≡ No 1
 unfolding varint
 no-byte zero last = refl
 no-byte (suc k) last = refl
-
-behind-digit : (at base b : ℕ) (r : Read) → behind at (digit base b r) ≡ behind (at + 1) r
-unfolding behind digit
-behind-digit at base b (Took v n) = ap To (omega arith)
-behind-digit at base b (No k) = refl
-
-later : (k last at : ℕ) (s : List ℕ) → at < length s → 128 ≤ getD s at 0
-    → behind at (varint (suc k) last (drop at s)) ≡ behind (at + 1) (varint k last (drop (at + 1) s))
-later k last at s l h =
-    rw (drop-cons s at 0, varint-goes-on k last (getD s at 0) (drop (suc at) s) h, add-one at) (behind-digit at 128 _ _ ∙ rw add-one refl)
 
 module _ {s : List ℕ} {at n : ℕ} (h : Along s at n) where
   pub ended : length s ≤ at + n → Refused 1 ≡ behind at (varint64 (drop at s))
@@ -53,7 +41,7 @@ module _ {s : List ℕ} {at n : ℕ} (h : Along s at n) where
       turned b =
           let q : at + n + 1 ≡ at + (n + 1) = omega arith in
           let p : 9 - (n + 1) ≡ 8 - n = omega arith in
-          record { few = omega arith; rest = h .rest ∙ rw (left, p, ← q) (later (8 - n) 1 (at + n) s l b) }
+          record { few = omega arith; rest = h .rest ∙ rw (left, p, ← q) (behind-byte (8 - n) 1 (at + n) s l b) }
 
     -- the tenth byte
     module _ (m : 9 ≤ n) where
