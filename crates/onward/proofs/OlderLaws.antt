@@ -1,64 +1,25 @@
 -- What an older schema says of a field: the same as the newer one, or nothing; and then the field's raw value is written as its value was.
 -- Assumes nothing.
-use Prim.Native.Nat.{ℕ, _+_, _%_, _^_, _≤_, _<_}
+use Prim.Native.Nat.{ℕ, _+_, _%_, _^_, _≤_}
 use native.Mathlib.Omega.{arith}
 use mathlib.Core.Path.{_≡_, refl, sym, ap, ap₂, _∙_, subst}
-use mathlib.Core.Bool.{Bool, true, false, _&&_, _||_, false≢true}
+use mathlib.Core.Bool.{Bool, true, false, _&&_, _||_}
 use mathlib.Core.List.{List, _∷_}
 use mathlib.Core.Option.{none, some}
 use lib.ListN.{length}
-use lib.Dec.{leb, ltb, eqb}
-use borrow.Author.Tests.{ltb-true, leb-true, le-leb, eqb-true, eq-eqb, ne-eqb, lt-ltb}
+use lib.Dec.{ltb, eqb}
+use borrow.Author.Tests.{ltb-true, leb-true, le-leb, eq-eqb, lt-ltb}
 use Rattle.spec.specs.Base.{if_then_else_, between}
 use Rattle.spec.specs.Varint.{zigzag, little}
-use Rattle.spec.specs.Kind.{Scalar, int32, uint32, uint64, bool, sint32, sint64, fixed32, sfixed32, fixed64, one, other, bytes, wires, wire, shapes, shape, isScalar, encoded, fits}
-use Rattle.spec.specs.Schema.{Schema, rises, goodEntry, badEntry, badSchema, noEntry, lookup, unknownKind, kindOf}
+use Rattle.spec.specs.Kind.{Scalar, int32, uint32, uint64, bool, sint32, sint64, fixed32, sfixed32, fixed64, one, other, bytes, wires, wire, shapes, shape, encoded, fits}
+use Rattle.spec.specs.Schema.{Schema, rises, badEntry, badSchema, noEntry, lookup, unknownKind}
 use Rattle.onward.specs.Onward.{Fewer, end, keep, leave-out, Older, rawOf}
 use Rattle.spec.proofs.KindLaws.{signed-of, signed-below, zigzag-below, zigzag-below64, wireOne, wireOf, wire-shape}
-use Rattle.spec.proofs.WritingLaws.{both-true}
-use Rattle.spec.proofs.ListLaws.{both, by-test}
+use Rattle.spec.proofs.Laws.{both-true}
+use Rattle.spec.proofs.SchemaLaws.{lookup-later, is-or-not, Before, type-before, number-before, before-after, before-not, first-entry, valid-entries}
 use Rattle.spec.specs.declared.Entry.{Entry}
 
 -- ---- entries
-
--- the field n of the type o stands before the field m of the type t
-data Before (o n t m : ℕ) : Type 0 where
-  type-before : o < t → Before o n t m
-  number-before : o ≡ t → n < m → Before o n t m
-
-before-after : {a b o n t m : ℕ} → Before a b o n → Before o n t m → Before a b t m
-before-after (type-before h) (type-before j) = type-before (omega arith)
-before-after (type-before h) (number-before e j) = type-before (omega arith)
-before-after (number-before e h) (type-before j) = type-before (omega arith)
-before-after (number-before e h) (number-before f j) = number-before (omega arith) (omega arith)
-
-before-not : {o n t m : ℕ} → Before o n t m → (eqb t o && eqb m n) ≡ false
-before-not {o} {n} {t} {m} (type-before h) = ap (λ (b : Bool). b && eqb m n) (ne-eqb t o (λ e. omega arith))
-before-not {o} {n} {t} {m} (number-before e h) = go (eqb t o) (eqb m n) (ne-eqb m n (λ e. omega arith))
-  where
-    go : (a b : Bool) → b ≡ false → (a && b) ≡ false
-    go true b p = p
-    go false b p = refl
-
-rises-before : (o n : ℕ) (e : Entry) → rises o n e ≡ true → Before o n (e .owner) (e .number)
-rises-before o n e h = go (ltb o (e .owner)) (eqb o (e .owner)) (ltb n (e .number)) refl refl refl h
-  where
-    go : (a b c : Bool) → ltb o (e .owner) ≡ a → eqb o (e .owner) ≡ b → ltb n (e .number) ≡ c → (a || b && c) ≡ true → Before o n (e .owner) (e .number)
-    go true b c p q r h = type-before (ltb-true o (e .owner) p)
-    go false true true p q r h = number-before (eqb-true o (e .owner) q) (ltb-true n (e .number) r)
-    go false true false p q r h = absurd (false≢true h)
-    go false false c p q r h = absurd (false≢true h)
-
--- a valid list of entries: the first rises, and the rest is valid behind it
-first-entry : (types o n i : ℕ) (e : Entry) (es : List Entry) → badEntry types o n i (e ∷ es) ≡ none
-    → Before o n (e .owner) (e .number) × (badEntry types (e .owner) (e .number) (i + 1) es ≡ none) × (goodEntry types e ≡ true)
-unfolding badEntry
-first-entry types o n i e es h = go (rises o n e && goodEntry types e) refl h
-  where
-    go : (b : Bool) → (rises o n e && goodEntry types e) ≡ b → (if b then badEntry types (e .owner) (e .number) (i + 1) es else some i) ≡ none
-        → Before o n (e .owner) (e .number) × (badEntry types (e .owner) (e .number) (i + 1) es ≡ none) × (goodEntry types e ≡ true)
-    go true p h = (rises-before o n e (both (rises o n e) (goodEntry types e) p .0), h, both (rises o n e) (goodEntry types e) p .1)
-    go false p h = let z : _≡_ {A = ℕ} 0 1 = cc in absurd (omega arith)
 
 -- what stands before all of them is in none of them
 not-there : {es fs : List Entry} → Fewer es fs → (types o n i : ℕ) → badEntry types o n i fs ≡ none → (t m : ℕ)
@@ -67,7 +28,7 @@ unfolding lookup
 not-there end types o n i h t m b = refl
 not-there (keep {e} {es} {fs} f) types o n i h t m b =
     let g = first-entry types o n i e fs h in
-    ap (λ (a : Bool). if a then e else lookup es t m) (before-not (b (e .owner) (e .number) (g .0)))
+    lookup-later t m e es (before-not (b (e .owner) (e .number) (g .0)))
     ∙ not-there f types (e .owner) (e .number) (i + 1) (g .1) t m (λ x y c. before-after (b (e .owner) (e .number) (g .0)) c)
 not-there (leave-out {e} {es} {fs} f) types o n i h t m b =
     let g = first-entry types o n i e fs h in
@@ -88,23 +49,17 @@ has (keep {e} {es} {fs} f) types o n i h t m =
     go true k = same refl
     go false k = k
 has (leave-out {e} {es} {fs} f) types o n i h t m =
-    by-test (eqb (e .owner) t && eqb (e .number) m)
-    (λ p.
-    let q = both (eqb (e .owner) t) (eqb (e .number) m) p in
+    is-or-not t m e fs
+    (λ is.
     missing (not-there f types (e .owner) (e .number) (i + 1) later t m
-    (λ x y c. subst (λ (o : ℕ). Before o m x y) (eqb-true (e .owner) t (q .0)) (subst (λ (n : ℕ). Before (e .owner) n x y) (eqb-true (e .number) m (q .1)) c))))
-    (λ p. subst (λ (b : Bool). Has (lookup es t m) (if b then e else lookup fs t m)) (sym p) (has f types (e .owner) (e .number) (i + 1) later t m))
+    (λ x y c. subst (λ (o : ℕ). Before o m x y) (is .0) (subst (λ (n : ℕ). Before (e .owner) n x y) (is .1) c))))
+    (λ is-not. subst (Has (lookup es t m)) (sym (lookup-later t m e fs is-not)) (has f types (e .owner) (e .number) (i + 1) later t m))
   where
     later : badEntry types (e .owner) (e .number) (i + 1) fs ≡ none
     later = first-entry types o n i e fs h .1
 
 pub older-has : (old new : Schema) → Older old new → badSchema new ≡ none → (t m : ℕ) → Has (lookup (old .entries) t m) (lookup (new .entries) t m)
-unfolding badSchema
-older-has old new o h t m = go (between 1 32 (new .types) && leb (length (new .entries)) 256) h
-  where
-    go : (b : Bool) → (if b then badEntry (new .types) 0 0 0 (new .entries) else some 0) ≡ none → Has (lookup (old .entries) t m) (lookup (new .entries) t m)
-    go true h = has (o .fewer-entries) (new .types) 0 0 0 h t m
-    go false h = let z : _≡_ {A = ℕ} 0 1 = cc in absurd (omega arith)
+older-has old new o h t m = has (o .fewer-entries) (new .types) 0 0 0 (valid-entries new h .2) t m
 
 -- ---- an older schema of a valid one is valid
 
@@ -135,28 +90,14 @@ fewer-length (leave-out {e} {es} {fs} f) = let h : length es ≤ length fs = few
 
 pub older-valid : (old new : Schema) → Older old new → badSchema new ≡ none → badSchema old ≡ none
 unfolding badSchema
-older-valid old new o h = go (between 1 32 (new .types)) (leb (length (new .entries)) 256) refl refl h
-  where
-    go : (a b : Bool) → between 1 32 (new .types) ≡ a → leb (length (new .entries)) 256 ≡ b → (if a && b then badEntry (new .types) 0 0 0 (new .entries) else some 0) ≡ none → badSchema old ≡ none
-    go true true p q h =
-        ap (λ (c : Bool). if c then badEntry (old .types) 0 0 0 (old .entries) else some 0)
-        (both-true (ap (between 1 32) (o .same-types) ∙ p) (le-leb (length (old .entries)) 256 (omega (arith, leb-true (length (new .entries)) 256 q, fewer-length (o .fewer-entries)))))
-        ∙ ap (λ (n : ℕ). badEntry n 0 0 0 (old .entries)) (o .same-types) ∙ fewer-good (o .fewer-entries) (new .types) 0 0 0 h 0 0 0 (λ x y c. c)
-    go true false p q h = let z : _≡_ {A = ℕ} 0 1 = cc in absurd (omega arith)
-    go false b p q h = let z : _≡_ {A = ℕ} 0 1 = cc in absurd (omega arith)
+older-valid old new o h =
+    let v = valid-entries new h in
+    let short : length (old .entries) ≤ 256 = omega (arith, leb-true (length (new .entries)) 256 (v .1), fewer-length (o .fewer-entries)) in
+    ap (λ (c : Bool). if c then badEntry (old .types) 0 0 0 (old .entries) else some 0)
+    (both-true (ap (between 1 32) (o .same-types) ∙ v .0) (le-leb (length (old .entries)) 256 short))
+    ∙ ap (λ (n : ℕ). badEntry n 0 0 0 (old .entries)) (o .same-types) ∙ fewer-good (o .fewer-entries) (new .types) 0 0 0 (v .2) 0 0 0 (λ x y c. c)
 
 -- ---- a field with no entry
-
-pub kindOf-lacking : (e : Entry) (w : ℕ) → e .kind ≡ 0 → w ≤ 5 → kindOf e w ≡ unknownKind w
-unfolding kindOf wire wires shape shapes isScalar
-kindOf-lacking e w k h =
-    ap (λ (k : ℕ). if eqb w (wire k) then k else if e .repeated && isScalar (shape k) && eqb w 2 then 20 else unknownKind w) k
-    ∙ ap (λ (b : Bool). if b then 0 else if e .repeated && false && eqb w 2 then 20 else unknownKind w) (ne-eqb w 7 (λ p. omega arith))
-    ∙ go (e .repeated)
-  where
-    go : (b : Bool) → (if b && false && eqb w 2 then 20 else unknownKind w) ≡ unknownKind w
-    go true = refl
-    go false = refl
 
 -- the scalar that an unknown value of this wire type is
 unfoldable pub bare : Scalar → Scalar

@@ -19,14 +19,16 @@ use Rattle.spec.specs.Record.{Record, row, deeper}
 use Rattle.spec.specs.Reading.{Done, Refused, read, within, refusedOr, reading, listed, after}
 use Rattle.spec.specs.Writing.{prefixed, bytesOf, written, Fields, lies, Verdict, Fine, listFault, Wrote, Failed, judged, sized, writing, schemaFirst, listCheck}
 use Rattle.onward.specs.Onward.{Older, Seen, contentOf, seen, rawOf, raw, held, unknown, lacks, onwardOf, onward, Fewer, end, keep, GoesOnward}
-use Rattle.spec.proofs.Laws.{either-way}
+use Rattle.spec.proofs.Laws.{either-way, both-true, by-test}
 use Rattle.spec.proofs.RecordLaws.{after-listed, within-after}
 use Rattle.spec.proofs.KindLaws.{wireOf, wire-shape}
-use Rattle.spec.proofs.WritingLaws.{both-true, from, to, deeper-le, bytesIn}
+use Rattle.spec.proofs.WritingLaws.{from, to, deeper-le, bytesIn}
 use Rattle.spec.proofs.RoundTrip.{hasContent, Same, Alike, nothing-left, and-so-on, alike-length, Stands, stands-right, stands-part, stands-lies, stands-self, inner-stands, rest-stands, Expected, again, tagBytes, Values, no-value, value, Tree, no-field, number, text, blob, inner, row-of, shape-11, shape-20, back}
-use Rattle.spec.proofs.ListLaws.{by-test, Over, over-nil, Low, deeper-run, tree-low, kind-9, valid-tree, schema-kinds, round-trip}
+use Rattle.spec.proofs.ListLaws.{Over, over-nil, Low, deeper-run, tree-low, kind-9, valid-tree, round-trip}
+use Rattle.spec.proofs.SchemaLaws.{schema-kinds}
+use Rattle.spec.proofs.FieldLaws.{kind-lacking}
 use Rattle.spec.proofs.TreeLaws.{plain-scalar, plain-bytes, values-over, tree-over, values-bytes, tree-bytes, tree-valid, tree-written}
-use Rattle.onward.proofs.OlderLaws.{Has, same, missing, older-has, kindOf-lacking, bare, bare-shape, bare-wire, raw-fits, raw-encoded, shape-unknown, wire-unknown}
+use Rattle.onward.proofs.OlderLaws.{Has, same, missing, older-has, bare, bare-shape, bare-wire, raw-fits, raw-encoded, shape-unknown, wire-unknown}
 use Rattle.spec.specs.declared.Entry.{Entry}
 
 -- ---- records that are alike show the same
@@ -158,7 +160,7 @@ module _ (old new : Schema) (payload s : List ℕ) (has : (t m : ℕ) → Has (l
     low = x .low;
     high = x .high;
     wired = subst (λ (n : ℕ). n ≤ 5) (sym w) (x .wired);
-    reads = ap (kindOf (oldEntry t (r .number))) w ∙ kindOf-lacking (oldEntry t (r .number)) (wire (r .kind)) z (x .wired);
+    reads = ap (kindOf (oldEntry t (r .number))) w ∙ kind-lacking (oldEntry t (r .number)) (wire (r .kind)) z (x .wired);
   }
 
   same-tag : (r q : Record) → q .number ≡ r .number → wire (q .kind) ≡ wire (r .kind) → tagBytes q ≡ tagBytes r

@@ -1,9 +1,13 @@
 pub mod Laws
+pub mod SchemaLaws
+pub mod SkipLaws
 pub mod VarintLaws
 pub mod Utf8Laws
 pub mod UnicodeLaws
 pub mod KindLaws
 pub mod FrontLaws
+pub mod PullLaws
+pub mod FieldLaws
 pub mod ReadingLaws
 pub mod RecordLaws
 pub mod DocumentLaws

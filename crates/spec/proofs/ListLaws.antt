@@ -7,27 +7,24 @@ use mathlib.Core.Bool.{Bool, true, false, not, _&&_, _||_, false≢true}
 use mathlib.Core.List.{List, [], _∷_, _++_, append-assoc, append-nil}
 use lib.ListN.{length, take, drop, getD, length-append}
 use lib.Seq.{take-append-seam, drop-append-seam}
-use lib.Dec.{leb, ltb, eqb}
+use lib.Dec.{leb, eqb}
 use borrow.Author.Tests.{leb-true, leb-false, eqb-true, eqb-false, ltb-true, ltb-false, lt-ltb, le-ltb, eq-eqb}
 use Rattle.spec.specs.Base.{if_then_else_, between, part}
 use Rattle.spec.specs.Utf8.{utf8}
 use Rattle.spec.specs.Kind.{Scalar, Shape, Special, one, other, string, bytes, message, packed, startGroup, endGroup, nothing, shapes, shape, wire, isScalar, encoded, fits}
-use mathlib.Core.Option.{Option, none, some}
-use Rattle.spec.specs.Schema.{Schema, rises, goodEntry, badEntry, badSchema, lookup, unknownKind, kindOf}
-use Rattle.spec.proofs.Laws.{either-way}
+use mathlib.Core.Option.{none}
+use Rattle.spec.specs.Schema.{Schema, badSchema, lookup, unknownKind, kindOf}
+use Rattle.spec.proofs.Laws.{both, by-test}
 use Rattle.spec.specs.Record.{Record, deeper}
 use Rattle.spec.specs.declared.Entry.{Entry}
 use Rattle.spec.specs.Reading.{Done, read, after}
 use Rattle.spec.specs.Writing.{prefixed, body, tagOf, bytesOf, written, Place, Fields, Elements, recorded, expected, lies, fitting, nextDeeper, around, inside, recordFault, Verdict, Fine, Faulty, orElse, listFault}
 use Rattle.spec.proofs.VarintLaws.{lower-or-not}
+use Rattle.spec.proofs.SchemaLaws.{schema-kinds}
 use Rattle.spec.proofs.WritingLaws.{bytesIn, bytes-cons}
 use Rattle.spec.proofs.RoundTrip.{Expected, tagBytes, Values, no-value, value, Tree, no-field, number, text, blob, inner, row-of, Alike, back, stands-self}
 
 -- ---- tests
-
-pub both : (a b : Bool) → (a && b) ≡ true → (a ≡ true) × (b ≡ true)
-both true b e = (refl, e)
-both false b e = absurd (false≢true e)
 
 pub not-both : (a b : Bool) → (a && not b) ≡ false → a ≡ true → b ≡ true
 not-both true true e p = refl
@@ -41,10 +38,6 @@ pass false k y e = absurd (omega arith)
 pass-not : (b : Bool) (k y : ℕ) → (if b then suc k else y) ≡ 0 → (b ≡ false) × (y ≡ 0)
 pass-not true k y e = absurd (omega arith)
 pass-not false k y e = (refl, e)
-
-pub by-test {ℓ} : {A : Type ℓ} (b : Bool) → (b ≡ true → A) → (b ≡ false → A) → A
-by-test true f g = f refl
-by-test false f g = g refl
 
 -- ---- which kind has a shape: one test of the table
 
@@ -480,36 +473,6 @@ module _ (sch : Schema) (payload : List ℕ) where
 
         go : Grown 0 [] rs → Tree sch payload 0 0 rs (bytesIn true payload rs)
         go g = subst (λ (x : List Record). Tree sch payload 0 0 x (bytesIn true payload x)) (all (g .xs) (g .rest) (g .is) (g .low)) (g .tree)
-
--- ---- the kinds of a valid schema
-
-good-kind : (types : ℕ) (e : Entry) → goodEntry types e ≡ true → e .kind ≤ 18
-unfolding goodEntry
-good-kind types e h =
-    let a = both (ltb (e .owner) types && between 1 536870911 (e .number) && between 1 18 (e .kind) && not (eqb (e .kind) 10)) _ h in
-    let b = both (ltb (e .owner) types && between 1 536870911 (e .number) && between 1 18 (e .kind)) _ (a .0) in
-    let c = both (ltb (e .owner) types && between 1 536870911 (e .number)) _ (b .0) in
-    leb-true (e .kind) 18 (both (leb 1 (e .kind)) (leb (e .kind) 18) (c .1) .1)
-
-entries-kinds : (types owner n i : ℕ) (es : List Entry) → badEntry types owner n i es ≡ none → (t m : ℕ) → lookup es t m .kind ≤ 18
-unfolding badEntry lookup
-entries-kinds types owner n i [] h t m = omega arith
-entries-kinds types owner n i (e ∷ es) h t m = go (λ k. entries-kinds types (e .owner) (e .number) (i + 1) es k t m) (rises owner n e && goodEntry types e) refl h
-  where
-    go : (badEntry types (e .owner) (e .number) (i + 1) es ≡ none → lookup es t m .kind ≤ 18) → (b : Bool) → (rises owner n e && goodEntry types e) ≡ b → (if b then badEntry types (e .owner) (e .number) (i + 1) es else some i) ≡ none
-        → (if eqb (e .owner) t && eqb (e .number) m then e else lookup es t m) .kind ≤ 18
-    go ih true p h =
-        either-way (λ (x : Entry). x .kind ≤ 18) (eqb (e .owner) t && eqb (e .number) m)
-        (good-kind types e (both (rises owner n e) (goodEntry types e) p .1)) (ih h)
-    go ih false p h = let z : _≡_ {A = ℕ} 0 1 = cc in absurd (omega arith)
-
-pub schema-kinds : (sch : Schema) → badSchema sch ≡ none → (t m : ℕ) → lookup (sch .entries) t m .kind ≤ 18
-unfolding badSchema
-schema-kinds sch h t m = go (between 1 32 (sch .types) && leb (length (sch .entries)) 256) h
-  where
-    go : (b : Bool) → (if b then badEntry (sch .types) 0 0 0 (sch .entries) else some 0) ≡ none → lookup (sch .entries) t m .kind ≤ 18
-    go true h = entries-kinds (sch .types) 0 0 0 (sch .entries) h t m
-    go false h = let z : _≡_ {A = ℕ} 0 1 = cc in absurd (omega arith)
 
 -- ---- what is written reads back as the list: the same depths, numbers, kinds, values and contents, and no refusal
 

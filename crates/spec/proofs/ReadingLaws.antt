@@ -6,16 +6,18 @@ use mathlib.Core.Path.{_≡_, refl, sym, ap, ap₂, _∙_, subst}
 use mathlib.Core.Bool.{Bool, true, false}
 use mathlib.Core.List.{List, [], _∷_, _++_}
 use lib.ListN.{length, take, drop, length-drop, length-take}
-use lib.Dec.{leb, ltb, eqb}
 use Rattle.spec.specs.Base.{if_then_else_, part, Read, Took, No}
-use Rattle.spec.specs.Varint.{varint32, varint64, tag}
+use Rattle.spec.specs.Varint.{tag}
 use Rattle.spec.specs.Utf8.{utf8}
 use Rattle.spec.specs.Kind.{Scalar, Shape, one, other, string, bytes, message, packed, startGroup, endGroup, nothing, shape, scalar}
 use Rattle.spec.specs.Schema.{Schema, lookup, kindOf}
 use Rattle.spec.specs.Skip.{content, outerGroup}
 use Rattle.spec.specs.Reading.{Field, Value, Message, Packed, Dropped, Fault, given, shaped, field, used, Reading, Done, Refused, _then_, _followed-by_, element, elements, contents, records, fields, read}
 use Rattle.spec.specs.Record.{row}
-use Rattle.spec.proofs.Laws.{either-way, Takes, took, none, takes-tag, takes-scalar, takes-varint, takes-weaker, takes-skipGroup, Holds, holds, content-holds}
+use Rattle.spec.proofs.Laws.{either-way, Takes, took, none, takes-tag, takes-scalar, takes-varint, Holds, holds, content-holds}
+use Rattle.spec.proofs.VarintLaws.{lower-or-not}
+use Rattle.spec.proofs.SkipLaws.{takes-skipGroup}
+use Rattle.spec.proofs.FieldLaws.{message-head, message-too-deep}
 use Rattle.spec.specs.declared.Entry.{Entry}
 
 -- from a up to e, behind at least one byte, and in the first `most`
@@ -60,15 +62,16 @@ shaped-sound : (x : Shape) (depth : ℕ) (e : Entry) (m k n : ℕ) (s : List ℕ
 unfolding shaped
 shaped-sound (one c) depth e m k n s most h j = sound-given (takes-scalar c s) λ v i p q. value-in (omega arith)
 shaped-sound (other string) depth e m k n s most h j =
-    sound-held (content-holds varint32 s (takes-varint 4 15 s)) λ a z p o q.
+    sound-held (content-holds _ s (takes-varint _ _ s)) λ a z p o q.
     either-way (Sound most) (utf8 (part a z s)) (value-in (omega arith)) is-fault
 shaped-sound (other bytes) depth e m k n s most h j =
-    sound-held (content-holds varint32 s (takes-varint 4 15 s)) λ a z p o q. value-in (omega arith)
+    sound-held (content-holds _ s (takes-varint _ _ s)) λ a z p o q. value-in (omega arith)
 shaped-sound (other message) depth e m k n s most h j =
-    either-way (Sound most) (leb 100 depth) is-fault
-    (sound-held (content-holds varint64 s (takes-varint 9 1 s)) λ a z p o q. message-in (omega arith))
+    lower-or-not depth 100
+    (λ c. subst (Sound most) (sym (message-head depth e m k n s c)) (sound-held (content-holds _ s (takes-varint _ _ s)) λ a z p o q. message-in (omega arith)))
+    (λ c. subst (Sound most) (sym (message-too-deep depth e m k n s c)) is-fault)
 shaped-sound (other packed) depth e m k n s most h j =
-    sound-held (content-holds varint64 s (takes-varint 9 1 s)) λ a z p o q. packed-in (omega arith)
+    sound-held (content-holds _ s (takes-varint _ _ s)) λ a z p o q. packed-in (omega arith)
 shaped-sound (other startGroup) depth e m k n s most h j =
     sound-given (takes-skipGroup (length s) (No 1) none depth s) λ v i p q. dropped-in (omega arith)
 shaped-sound (other endGroup) depth e m k n s most h j = is-fault

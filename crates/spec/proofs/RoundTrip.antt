@@ -18,11 +18,11 @@ use Rattle.spec.specs.Kind.{Scalar, Shape, Special, one, other, string, 
 use Rattle.spec.specs.Schema.{Schema, lookup, kindOf}
 use Rattle.spec.specs.Reading.{Field, Value, Message, Packed, Fault, given, shaped, field, used, Reading, Done, Refused, _then_, _followed-by_, element, elements, contents, records, read, after}
 use Rattle.spec.specs.Writing.{prefixed, lies}
-use Rattle.spec.proofs.Laws.{Takes, took, none, takes-scalar}
+use Rattle.spec.proofs.Laws.{both-true, Takes, took, none, takes-scalar}
 use Rattle.spec.proofs.ReadingLaws.{read-nil, read-cons, elements-cons}
 use Rattle.spec.proofs.RecordLaws.{after-append, after-followed}
 use Rattle.spec.proofs.KindLaws.{scalar-encoded}
-use Rattle.spec.proofs.WritingLaws.{both-true, field-written, scalar-written, from, to, part-written, bytes-written, string-written, message-written, packed-written}
+use Rattle.spec.proofs.WritingLaws.{field-written, scalar-written, from, to, part-written, bytes-written, string-written, message-written, packed-written}
 use Rattle.spec.specs.declared.Entry.{Entry}
 
 -- ---- what is compared

@@ -14,7 +14,8 @@ use Rattle.spec.specs.Schema.{Schema, lookup}
 use Rattle.spec.specs.Writing.{prefixed, body, tagOf, bytesOf, written, Place, Fields, Elements, recorded, expected, fitting, nextDeeper, inside, recordFault, Verdict, Fine, orElse, listFault}
 use Rattle.spec.specs.Record.{Record}
 use Rattle.spec.proofs.KindLaws.{wireOne, wireOf, wire-shape}
-use Rattle.spec.proofs.WritingLaws.{both-true, bytesIn}
+use Rattle.spec.proofs.Laws.{both-true}
+use Rattle.spec.proofs.WritingLaws.{bytesIn}
 use Rattle.spec.proofs.RoundTrip.{Expected, Values, no-value, value, Tree, no-field, number, text, blob, inner, row-of, shape-11, shape-20}
 use Rattle.spec.proofs.ListLaws.{Over, over-nil, over-cons, over-append, over-weaker, Low, bytes-run, around-here, left, values-low, tree-low, kind-9}
 use Rattle.spec.specs.declared.Entry.{Entry}

@@ -17,14 +17,11 @@ use Rattle.spec.specs.Schema.{Schema, lookup, kindOf}
 use Rattle.spec.specs.Skip.{content}
 use Rattle.spec.specs.Reading.{Field, Value, Message, Packed, Fault, given, shaped, field}
 use Rattle.spec.specs.Record.{Record, deeper}
-use Rattle.spec.proofs.Laws.{either-way}
+use Rattle.spec.proofs.Laws.{either-way, both-true}
 use Rattle.spec.specs.Writing.{prefixed, body, tagOf, bytesOf}
 use Rattle.spec.proofs.VarintLaws.{varint-shortest, top}
 use Rattle.spec.proofs.KindLaws.{scalar-encoded}
 use Rattle.spec.specs.declared.Entry.{Entry}
-
-pub both-true : {a b : Bool} → a ≡ true → b ≡ true → (a && b) ≡ true
-both-true {a} {b} p q = ap (λ (x : Bool). x && b) p ∙ q
 
 pub tag-written : (m w : ℕ) (u : List ℕ) → 1 ≤ m → m ≤ 536870911 → w ≤ 5
     → tag (encode (m * 8 + w) ++ u) ≡ Took (m * 8 + w) (length (encode (m * 8 + w)))
