@@ -19,10 +19,10 @@ use Rattle.spec.specs.Schema.{Schema, badSchema}
 use Rattle.spec.specs.Record.{Record, row, deeper}
 use Rattle.spec.specs.Sizes.{scalarSize, prefixedSize, valueSize, fieldSize, valuesSize, packedSize, bodySize, unknownsSize, unknownFieldsSize, sizeUpTo, sizeOf}
 use Rattle.spec.specs.Writing.{prefixed, body, tagOf, bytesOf, written, Place, Fields, expected, lies, fitting, nextDeeper, around, inside, recordFault, Verdict, Fine, Faulty, orElse, listFault, schemaFirst, listCheck, Writing, Wrote, Failed, number, size, output, judged, sized, writing, sizing}
-use Rattle.spec.proofs.Laws.{either-way, chosen}
+use Rattle.spec.proofs.Laws.{both, either-way, chosen}
 use Rattle.spec.proofs.VarintLaws.{length-encode, size-one, size-ten, length-tag, length-little}
 use Rattle.spec.proofs.RoundTrip.{hasContent, shape-20}
-use Rattle.spec.proofs.ListLaws.{both, first-fine, sound-record}
+use Rattle.spec.proofs.ListLaws.{first-fine, sound-record}
 
 -- ---- a value, a content, a tag
 

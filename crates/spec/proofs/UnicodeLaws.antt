@@ -14,10 +14,8 @@ use borrow.Author.Tests.{leb-true, leb-false, eqb-true, eqb-false, le-leb, lt-le
 use Rattle.spec.specs.Base.{if_then_else_, between}
 use Rattle.spec.specs.Utf8.{Lead, Follow, NoLead, lead, followers, behind, char, validPrefix, utf8}
 use Rattle.spec.specs.Unicode.{ScalarValue, below-surrogates, above-surrogates, six, spell, Text, nothing, scalar}
-use Rattle.spec.proofs.Laws.{either-way, chosen}
+use Rattle.spec.proofs.Laws.{both, both-true, either-way, chosen}
 use Rattle.spec.proofs.VarintLaws.{lower-or-not}
-use Rattle.spec.proofs.ListLaws.{both}
-use Rattle.spec.proofs.WritingLaws.{both-true}
 use Rattle.spec.proofs.Utf8Laws.{char-ascii, prefix-nil, prefix-step, by-valid}
 
 -- ---- section 3 as facts about numbers
