@@ -1,2 +1,4 @@
+pub mod MakingLaws
 pub mod SearchLaws
+pub mod TableLaws
 pub mod ValidLaws

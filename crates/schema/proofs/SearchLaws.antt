@@ -85,3 +85,23 @@ module _ (row : ℕ → ℕ) (lost key : ℕ) where
       (λ c. lower-or-not i mid
       (λ d. step-below k lo hi h (over mid d (omega arith)) ∙ search-finds k lo mid i (omega arith) a d e under (λ j u v. over j u (omega arith)))
       (λ d. let same : i ≡ mid = omega arith in step-here k lo hi h (subst (λ (m : ℕ). row m ≡ key) same e) ∙ sym same))
+
+  -- with no k: the steps that a loop takes
+  pub halves-end : (lo hi : ℕ) → hi ≤ lo → Left (hi - lo) lo hi ≡ lost
+  halves-end lo hi h = step-end (hi - lo) lo hi h
+
+  module _ (lo hi : ℕ) (h : lo < hi) where
+    one-more : Left (hi - lo) lo hi ≡ Left (suc (hi - lo)) lo hi
+    one-more = search-enough (hi - lo) (suc (hi - lo)) lo hi (omega arith) (omega arith)
+
+    pub halves-here : row ((lo + hi) / 2) ≡ key → Left (hi - lo) lo hi ≡ (lo + hi) / 2
+    halves-here e = one-more ∙ step-here (hi - lo) lo hi h e
+
+    pub halves-above : row ((lo + hi) / 2) < key → Left (hi - lo) lo hi ≡ Left (hi - ((lo + hi) / 2 + 1)) ((lo + hi) / 2 + 1) hi
+    halves-above l =
+        one-more ∙ step-above (hi - lo) lo hi h l
+        ∙ search-enough (hi - lo) (hi - ((lo + hi) / 2 + 1)) ((lo + hi) / 2 + 1) hi (omega arith) (omega arith)
+
+    pub halves-below : key < row ((lo + hi) / 2) → Left (hi - lo) lo hi ≡ Left ((lo + hi) / 2 - lo) lo ((lo + hi) / 2)
+    halves-below l =
+        one-more ∙ step-below (hi - lo) lo hi h l ∙ search-enough (hi - lo) ((lo + hi) / 2 - lo) lo ((lo + hi) / 2) (omega arith) (omega arith)

@@ -4,19 +4,20 @@ use Prim.Native.Nat.{ℕ, zero, suc, _+_, _-_, _*_, _/_, _%_, _^_, _≤_, _<_}
 use native.Mathlib.Omega.{arith}
 use native.Mathlib.Numerals.{add-one}
 use mathlib.Core.Path.{_≡_, refl, sym, ap, ap₂, _∙_, subst}
-use mathlib.Core.Bool.{Bool, true, false, not, _&&_, _||_, and-true, and-false}
+use mathlib.Core.Bool.{Bool, true, false, not, _&&_, _||_, false≢true, and-true, and-false}
 use mathlib.Core.List.{List, [], _∷_}
 use mathlib.Core.Option.{Option, none, some}
 use lib.ListN.{length, drop, getD}
 use lib.Seq.{getD-drop, drop-drop}
 use lib.Dec.{leb, ltb, eqb}
-use borrow.Author.Tests.{ltb-true, ltb-false, lt-ltb, le-ltb, le-leb, lt-leb, leb-true, leb-false, eqb-true, eqb-false, eq-eqb}
+use borrow.Author.Tests.{ltb-true, ltb-false, lt-ltb, le-ltb, le-leb, lt-leb, leb-true, leb-false, eqb-true, eqb-false, eq-eqb, ne-eqb}
 use Rattle.spec.specs.Base.{if_then_else_, between}
-use Rattle.spec.specs.Schema.{Schema, rises, goodEntry, badEntry, badSchema, entryOf, entriesOf, schemaOf}
+use Rattle.spec.specs.Schema.{Schema, rises, goodEntry, badEntry, badSchema, noEntry, entryOf, entriesOf, schemaOf}
 use Rattle.spec.proofs.Laws.{both, by-test, chosen}
 use Rattle.spec.proofs.VarintLaws.{lower-or-not}
-use Rattle.spec.proofs.SchemaLaws.{firstEntry, entries-step, length-entries, rest-bad, Good, good-entry}
+use Rattle.spec.proofs.SchemaLaws.{firstEntry, entries-step, length-entries, entry-at, repeated-bad, rest-bad, Good, good-entry}
 use Rattle.spec.specs.declared.Entry.{Entry}
+use Rattle.schema.specs.declared.Five.{Five}
 use Rattle.schema.specs.Tables.{counted, rank, nextKey}
 use Rattle.schema.specs.Told.{entry, fiveAt}
 
@@ -28,6 +29,12 @@ entriesIn ns = entriesOf (length ns / 5) ns
 
 abbrev pub schemaIn : ℕ → List ℕ → Schema
 schemaIn types ns = record { types = types; entries = entriesIn ns }
+
+pub counts-bounds : (types count : ℕ) → counted types count ≡ true → (types ≤ 32) × (count ≤ 1280)
+counts-bounds types count h =
+    let a = both (between 1 32 types && leb count 1280) (eqb (count % 5) 0) h in
+    let b = both (between 1 32 types) (leb count 1280) (a .0) in
+    (leb-true types 32 (both (leb 1 types) (leb types 32) (b .0) .1), leb-true count 1280 (b .1))
 
 -- so many numbers are so many entries
 five-times : (n : ℕ) → n % 5 ≡ 0 → leb (n / 5) 256 ≡ leb n 1280
@@ -64,6 +71,36 @@ module _ (types : ℕ) (ns : List ℕ) where
       go : (a b : Bool) → b ≡ true → (a && b) ≡ false → a ≡ false
       go true b p q = sym p ∙ q
       go false b p q = refl
+
+-- ---- a good entry
+
+-- five numbers whose `repeated` is 0 or 1 are an entry
+module _ (types : ℕ) (f : Five) where
+  abbrev pub plain : Entry
+  plain = record { owner = f .owner; number = f .number; kind = f .kind; repeated = eqb (f .repeated) 1; child = f .child }
+
+  pub is-entry : f .repeated < 2 → entry f ≡ plain
+  unfolding entryOf
+  is-entry h = ap (λ (b : Bool). if b then plain else noEntry) (lt-ltb (f .repeated) 2 h)
+
+  -- what good numbers are
+  pub good-five : goodEntry types (entry f) ≡ true → (f .repeated < 2) × Good types plain
+  good-five g =
+      lower-or-not (f .repeated) 2
+      (λ h. (h, good-entry types plain (ap (goodEntry types) (sym (is-entry h)) ∙ g)))
+      (λ h. absurd (false≢true (sym (repeated-bad types (f .owner) (f .number) (f .kind) (f .repeated) (f .child) h) ∙ g)))
+
+  -- and which are bad
+  pub bad-five : ((f .repeated < 2) × Good types plain → ⊥) → false ≡ goodEntry types (entry f)
+  bad-five h = by-test (goodEntry types (entry f)) (λ p. absurd (h (good-five p))) (λ p. sym p)
+
+  -- the child decides, where all else is right
+  pub child-decides : f .owner < types → 1 ≤ f .number → f .number ≤ 536870911 → 1 ≤ f .kind → f .kind ≤ 18 → (f .kind ≡ 10 → ⊥) → f .repeated < 2
+      → goodEntry types (entry f) ≡ (if eqb (f .kind) 11 then ltb (f .child) types else eqb (f .child) 0)
+  unfolding goodEntry
+  child-decides o n m k l t r =
+      ap (goodEntry types) (is-entry r)
+      ∙ simp (lt-ltb (f .owner) types o, le-leb 1 (f .number) n, le-leb (f .number) 536870911 m, le-leb 1 (f .kind) k, le-leb (f .kind) 18 l, ne-eqb (f .kind) 10 t)
 
 -- ---- an entry is the next one
 
@@ -168,7 +205,9 @@ here-first types ns h =
 
 -- the numbers from i on are the first entry of what is left
 first-five : (ns : List ℕ) (i : ℕ) → entry (fiveAt ns i) ≡ firstEntry (drop i ns)
-first-five ns i = simp getD-drop
+first-five ns i =
+    let z : i ≡ i + 0 = omega arith in
+    simp getD-drop (ap (λ (n : ℕ). entryOf (getD ns n 0) (getD ns (i + 1) 0) (getD ns (i + 2) 0) (getD ns (i + 3) 0) (getD ns (i + 4) 0)) z)
 
 module _ {types : ℕ} {ns : List ℕ} {i e last : ℕ} (h : Here types ns i e last) where
   whole-fives : length ns % 5 ≡ 0
@@ -198,6 +237,13 @@ module _ {types : ℕ} {ns : List ℕ} {i e last : ℕ} (h : Here types ns i e l
         (ap (λ (n : ℕ). firstEntry (drop n ns)) (sym a) ∙ sym (first-five ns i))
         (drop-drop 5 (5 * e) ns ∙ ap (λ (n : ℕ). drop n ns) d)
 
+    -- the same by its place among all
+    pub here-entry : getD (entriesIn ns) e noEntry ≡ entry (fiveAt ns i)
+    here-entry =
+        let a = h .five in
+        let w = whole-fives in
+        entry-at (length ns / 5) ns e (omega arith) ∙ ap (λ (n : ℕ). firstEntry (drop n ns)) (sym a) ∙ sym (first-five ns i)
+
     here-rest : badSchema (schemaOf types ns) ≡ badEntry types (ownerOf last) (numberOf last) e (entry (fiveAt ns i) ∷ entriesOf (length ns / 5 - (e + 1)) (drop (5 * (e + 1)) ns))
     here-rest = h .rest ∙ ap (badEntry types (ownerOf last) (numberOf last) e) here-cons
 
@@ -205,10 +251,8 @@ module _ {types : ℕ} {ns : List ℕ} {i e last : ℕ} (h : Here types ns i e l
     here-bad z = here-rest ∙ next-bad types last (entry (fiveAt ns i)) (h .low) e (entriesOf (length ns / 5 - (e + 1)) (drop (5 * (e + 1)) ns)) z
 
     module _ {key : ℕ} (is : key ≡ nextKey types last (entry (fiveAt ns i))) (there : key ≡ 0 → ⊥) where
-      pub here-good : Good types (entry (fiveAt ns i)) × (key ≡ rank (entry (fiveAt ns i)))
-      here-good =
-          let g = next-good types last (entry (fiveAt ns i)) (h .low) (λ z. there (is ∙ z)) in
-          (good-entry types (entry (fiveAt ns i)) (g .0), is ∙ g .1)
+      pub here-good : (goodEntry types (entry (fiveAt ns i)) ≡ true) × (key ≡ rank (entry (fiveAt ns i)))
+      here-good = let g = next-good types last (entry (fiveAt ns i)) (h .low) (λ z. there (is ∙ z)) in (g .0, is ∙ g .1)
 
       pub here-next : Here types ns (i + 5) (e + 1) key
       here-next =

@@ -171,10 +171,11 @@ fn inner_of(w: u8, repeated: u32, child: u32) -> u8
     requires { ⌜ child < 256 ⌝ }
     ensures { λ r. ⌜ r ≡ innerIn w (eqb repeated 1) child ⌝ }
 {
-    if w != 2 {
-        if repeated == 1 {
-            return 255;
-        }
+    if w == 2 {
+        return child as u8;
+    }
+    if repeated == 1 {
+        return 255;
     }
     child as u8
 }
