@@ -1,5 +1,5 @@
 -- The tables while they are made: an array after some entries holds what each of them stored in turn. Assumes nothing.
-use Prim.Native.Nat.{ℕ, zero, suc, _+_, _-_, _*_, _/_, _%_, _^_, _≤_, _<_}
+use Prim.Native.Nat.{ℕ, zero, suc, _+_, _-_, _*_, _/_, _%_, _^_, _≤_, _<_, min}
 use native.Mathlib.Omega.{arith}
 use native.Mathlib.Numerals.{add-one}
 use mathlib.Core.Path.{_≡_, refl, sym, ap, ap₂, _∙_, subst}
@@ -49,6 +49,14 @@ wire-in : (k : ℕ) → k ≤ 18 → getD kindWires k 0 ≡ wire k
 unfolding kindWires ownWires wires wire
 wire-in k h = equal-below (λ n. getD kindWires n 0) wire 19 k tt (omega arith)
 
+-- and small
+pub wire-small : {ws : List ℕ} (k : ℕ) → ws ≡ kindWires → k ≤ 18 → getD ws k 0 < 8
+unfolding kindWires
+wire-small {ws} k e h =
+    let m : min 7 (getD kindWires k 0) ≡ getD kindWires k 0 = equal-below (λ n. min 7 (getD kindWires n 0)) (λ n. getD kindWires n 0) 19 k tt (omega arith) in
+    let s : getD ws k 0 ≡ getD kindWires k 0 = ap (λ (xs : List ℕ). getD xs k 0) e in
+    omega arith
+
 pub record Made (types : ℕ) (ns : List ℕ) (i e last : ℕ) (keys₀ keys info₀ info : List ℕ) : Type 0 where
   pub here : Here types ns i e last
   pub keys-so : keys ≡ keysWith 0 (take e (entriesIn ns)) keys₀
@@ -88,67 +96,59 @@ module _ {types : ℕ} {ns : List ℕ} {i e last : ℕ} {keys₀ keys info₀ in
       promised none (here-end (m .here) l) (sym (take-all e (entriesIn ns) k))
 
   module _ (l : i < length ns) where
-    pub made-bad : nextKey types last (entry (fiveAt ns i)) ≡ 0 → Promised types ns keys₀ keys info₀ info (some e)
-    made-bad z = promised (some e) (here-bad (m .here) l z) refl
+    module _ {f : Five} (at : f ≡ fiveAt ns i) {key : ℕ} (is : key ≡ nextKey types last (entry f)) where
+      pub made-bad : key ≡ 0 → Promised types ns keys₀ keys info₀ info (some e)
+      made-bad z = promised (some e) (here-bad (m .here) l at is z) refl
 
-    module _ {key : ℕ} (is : key ≡ nextKey types last (entry (fiveAt ns i))) (there : key ≡ 0 → ⊥) where
-      f : Five
-      f = fiveAt ns i
+      module _ (there : key ≡ 0 → ⊥) where
+        good : (f .repeated < 2) × Good types (plain types f)
+        good = good-five types f (here-good (m .here) l at is there .0)
 
-      good : (f .repeated < 2) × Good types (plain types f)
-      unfolding f
-      good = good-five types (fiveAt ns i) (here-good (m .here) l is there .0)
+        as-plain : entry f ≡ plain types f
+        as-plain = is-entry types f (good .0)
 
-      as-plain : entry f ≡ plain types f
-      as-plain = is-entry types f (good .0)
+        key-plain : key ≡ rank (plain types f)
+        key-plain = here-good (m .here) l at is there .1 ∙ ap rank as-plain
 
-      key-plain : key ≡ rank (plain types f)
-      unfolding f
-      key-plain = here-good (m .here) l is there .1 ∙ ap rank as-plain
+        at-place : getD (entriesIn ns) e noEntry ≡ plain types f
+        at-place = here-entry (m .here) l at ∙ as-plain
 
-      at-place : getD (entriesIn ns) e noEntry ≡ plain types f
-      unfolding f
-      at-place = here-entry (m .here) l ∙ as-plain
+        among : e < length (entriesIn ns)
+        among =
+            let a = m .here .five in
+            let b = here-five (m .here) l in
+            omega (arith, length-entries (length ns / 5) ns)
 
-      among : e < length (entriesIn ns)
-      among =
-          let a = m .here .five in
-          let b = here-five (m .here) l in
-          omega (arith, length-entries (length ns / 5) ns)
+        small-child : f .child < 256
+        small-child =
+            let g = good .1 in
+            let b = counts-bounds types (length ns) (m .here .counts) in
+            by-test (eqb (f .kind) 11)
+            (λ p. let c = g .message-child (eqb-true (f .kind) 11 p) in omega arith)
+            (λ p. let c = g .no-child (eqb-false (f .kind) 11 p) in omega arith)
 
-      small-child : f .child < 256
-      small-child =
-          let g = good .1 in
-          let b = counts-bounds types (length ns) (m .here .counts) in
-          by-test (eqb (f .kind) 11)
-          (λ p. let c = g .message-child (eqb-true (f .kind) 11 p) in omega arith)
-          (λ p. let c = g .no-child (eqb-false (f .kind) 11 p) in omega arith)
+        -- what the code may store
+        pub made-fits : (e < 256) × (f .owner < 32) × (f .kind ≤ 18) × (f .child < 256) × (key < 32 * 2 ^ 32)
+        made-fits =
+            let a = m .here .five in
+            let g = good .1 in
+            let o = g .owned in
+            let n = g .number-to in
+            let k = key-plain in
+            let b = counts-bounds types (length ns) (m .here .counts) in
+            (omega arith, omega arith, g .kind-to, small-child, omega arith)
 
-      -- what the code may store
-      pub made-fits : (e < 256) × (fiveAt ns i .owner < 32) × (fiveAt ns i .kind ≤ 18) × (fiveAt ns i .child < 256) × (key < 32 * 2 ^ 32)
-      unfolding f
-      made-fits =
-          let a = m .here .five in
-          let g = good .1 in
-          let o = g .owned in
-          let n = g .number-to in
-          let k = key-plain in
-          let b = counts-bounds types (length ns) (m .here .counts) in
-          (omega arith, omega arith, g .kind-to, small-child, omega arith)
-
-      pub made-next : (w : ℕ) → w ≡ getD kindWires (fiveAt ns i .kind) 0
-          → Made types ns (i + 5) (e + 1) key keys₀ (set keys e (key + w)) info₀
-          (noted e (fiveAt ns i .owner) (fiveAt ns i .number) (fiveAt ns i .kind) (innerIn w (eqb (fiveAt ns i .repeated) 1) (fiveAt ns i .child)) info)
-      unfolding f
-      made-next w q =
-          let r : w ≡ wire (f .kind) = q ∙ wire-in (f .kind) (good .1 .kind-to) in
-          record {
-            here = here-next (m .here) l is there;
-            keys-so =
-                ap₂ (λ (ks : List ℕ) (k : ℕ). set ks e k) (m .keys-so) (ap₂ (_+_) key-plain r ∙ ap keyOf (sym at-place))
-                ∙ sym (storing-next putKey (entriesIn ns) e keys₀ among);
-            info-so =
-                ap₂ (λ (x : ℕ) (xs : List ℕ). noted e (f .owner) (f .number) (f .kind) (innerIn x (eqb (f .repeated) 1) (f .child)) xs) r (m .info-so)
-                ∙ ap (λ (x : Entry). putInfo e x (infoWith 0 (take e (entriesIn ns)) info₀)) (sym at-place)
-                ∙ sym (storing-next putInfo (entriesIn ns) e info₀ among);
-          }
+        pub made-next : (w : ℕ) → w ≡ getD kindWires (f .kind) 0
+            → Made types ns (i + 5) (e + 1) key keys₀ (set keys e (key + w)) info₀ (noted e (f .owner) (f .number) (f .kind) (innerIn w (eqb (f .repeated) 1) (f .child)) info)
+        made-next w q =
+            let r : w ≡ wire (f .kind) = q ∙ wire-in (f .kind) (good .1 .kind-to) in
+            record {
+              here = here-next (m .here) l at is there;
+              keys-so =
+                  ap₂ (λ (ks : List ℕ) (k : ℕ). set ks e k) (m .keys-so) (ap₂ (_+_) key-plain r ∙ ap keyOf (sym at-place))
+                  ∙ sym (storing-next putKey (entriesIn ns) e keys₀ among);
+              info-so =
+                  ap₂ (λ (x : ℕ) (xs : List ℕ). noted e (f .owner) (f .number) (f .kind) (innerIn x (eqb (f .repeated) 1) (f .child)) xs) r (m .info-so)
+                  ∙ ap (λ (x : Entry). putInfo e x (infoWith 0 (take e (entriesIn ns)) info₀)) (sym at-place)
+                  ∙ sym (storing-next putInfo (entriesIn ns) e info₀ among);
+            }

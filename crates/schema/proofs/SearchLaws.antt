@@ -15,23 +15,23 @@ use Rattle.spec.specs.Schema.{Schema, badSchema, placeOf}
 use Rattle.spec.proofs.VarintLaws.{lower-or-not}
 use Rattle.spec.proofs.SchemaLaws.{Is, Before, at, place-found, valid-rises, valid-found, valid-below, valid-above}
 use Rattle.spec.specs.declared.Entry.{Entry}
-use Rattle.schema.specs.Search.{search, within, findIn, ownerNumber}
+use Rattle.schema.specs.Search.{seek, within, findIn, ownerNumber}
 
 module _ (row : ℕ → ℕ) (lost key : ℕ) where
   -- what is left of the search, with k to count down
   abbrev Left : ℕ → ℕ → ℕ → ℕ
-  Left k lo hi = search k row lost key lo hi
+  Left k lo hi = seek k row lost key lo hi
 
   -- one step, whose k is for the next ones
   step-end : (k lo hi : ℕ) → hi ≤ lo → Left k lo hi ≡ lost
-  unfolding search
+  unfolding seek
   step-end zero lo hi h = refl
   step-end (suc k) lo hi h =
       ap (λ (b : Bool). if not b then lost else if eqb (row ((lo + hi) / 2)) key then (lo + hi) / 2 else if ltb (row ((lo + hi) / 2)) key then Left k ((lo + hi) / 2 + 1) hi else Left k lo ((lo + hi) / 2))
       (le-ltb lo hi h)
 
   step : (k lo hi : ℕ) → lo < hi → Left (suc k) lo hi ≡ (if eqb (row ((lo + hi) / 2)) key then (lo + hi) / 2 else if ltb (row ((lo + hi) / 2)) key then Left k ((lo + hi) / 2 + 1) hi else Left k lo ((lo + hi) / 2))
-  unfolding search
+  unfolding seek
   step k lo hi h =
       ap (λ (b : Bool). if not b then lost else if eqb (row ((lo + hi) / 2)) key then (lo + hi) / 2 else if ltb (row ((lo + hi) / 2)) key then Left k ((lo + hi) / 2 + 1) hi else Left k lo ((lo + hi) / 2))
       (lt-ltb lo hi h)
@@ -63,7 +63,7 @@ module _ (row : ℕ → ℕ) (lost key : ℕ) where
 
   -- nothing is found where the key is nowhere
   pub search-misses : (k lo hi : ℕ) → ((j : ℕ) → lo ≤ j → j < hi → row j ≡ key → ⊥) → Left k lo hi ≡ lost
-  unfolding search
+  unfolding seek
   search-misses zero lo hi away = refl
   search-misses (suc k) lo hi away =
       lower-or-not lo hi

@@ -10,7 +10,7 @@ use borrow.Author.Tests.{lt-ltb, le-ltb, eq-eqb, ne-eqb, ltb-true, eqb-true}
 use Rattle.spec.specs.Base.{if_then_else_}
 use Rattle.spec.specs.Schema.{Says}
 use Rattle.spec.proofs.Laws.{both, by-test}
-use Rattle.schema.specs.Search.{search}
+use Rattle.schema.specs.Search.{seek}
 use Rattle.schema.specs.Tables.{keyAt, entryFor, unknown, typed, tableSays}
 
 -- ---- what is asked, case by case
@@ -25,7 +25,7 @@ module _ (keys info : List ℕ) where
     Right = (t < 128) × (type < 32) × (getD keys guessed 0 ≡ type * 2 ^ 32 + t)
 
     abbrev found : ℕ
-    found = search 256 (keyAt keys) 256 ((type * 2 ^ 32 + t) / 8) 0 256
+    found = seek 256 (keyAt keys) 256 ((type * 2 ^ 32 + t) / 8) 0 256
 
     pub entry-guessed : Right → entryFor keys info type t ≡ guessed
     unfolding entryFor
@@ -66,3 +66,17 @@ module _ (keys info : List ℕ) where
           by-test (eqb (t % 8) 2 && eqb innerAt 255)
           (λ p. let b = both (eqb (t % 8) 2) (eqb innerAt 255) p in absurd (n (eqb-true (t % 8) 2 (b .0), eqb-true innerAt 255 (b .1))))
           (λ p. simp (ne-eqb (getD keys i 0) key other, p))
+
+  -- what is said, by the entry
+  module _ (type t : ℕ) {i : ℕ} (is : i ≡ entryFor keys info type t) where
+    pub says-typed : i < 256 → tableSays keys info type t ≡ typed keys info i (type * 2 ^ 32 + t) t
+    unfolding tableSays
+    says-typed l =
+        ap (λ (j : ℕ). if ltb j 256 then typed keys info j (type * 2 ^ 32 + t) t else unknown t) (sym is)
+        ∙ ap (λ (b : Bool). if b then typed keys info i (type * 2 ^ 32 + t) t else unknown t) (lt-ltb i 256 l)
+
+    pub says-unknown : 256 ≤ i → tableSays keys info type t ≡ unknown t
+    unfolding tableSays
+    says-unknown l =
+        ap (λ (j : ℕ). if ltb j 256 then typed keys info j (type * 2 ^ 32 + t) t else unknown t) (sym is)
+        ∙ ap (λ (b : Bool). if b then typed keys info i (type * 2 ^ 32 + t) t else unknown t) (le-ltb i 256 l)

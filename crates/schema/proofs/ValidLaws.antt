@@ -131,12 +131,21 @@ ownerOf last = last / 2 ^ 32
 abbrev pub numberOf : ℕ → ℕ
 numberOf last = last % 2 ^ 32 / 8
 
-module _ (types last : ℕ) (e : Entry) (low : last % 8 ≡ 0) where
-  -- the two tests of an entry in either order
-  abbrev passes : Bool
+module _ (types last : ℕ) (e : Entry) where
+  -- the two tests of an entry
+  abbrev pub passes : Bool
   passes = goodEntry types e && ltb last (rank e)
 
-  tested : (rises (ownerOf last) (numberOf last) e && goodEntry types e) ≡ passes
+  pub key-passed : passes ≡ true → nextKey types last e ≡ rank e
+  unfolding nextKey
+  key-passed p = ap (λ (b : Bool). if b then rank e else 0) p
+
+  pub key-refused : passes ≡ false → nextKey types last e ≡ 0
+  unfolding nextKey
+  key-refused p = ap (λ (b : Bool). if b then rank e else 0) p
+
+module _ (types last : ℕ) (e : Entry) (low : last % 8 ≡ 0) where
+  tested : (rises (ownerOf last) (numberOf last) e && goodEntry types e) ≡ passes types last e
   tested =
       by-test (goodEntry types e)
       (λ p. let l : e .number < 2 ^ 29 = omega (arith, good-entry types e p .number-to) in
@@ -144,43 +153,35 @@ module _ (types last : ℕ) (e : Entry) (low : last % 8 ≡ 0) where
       ap₂ (_&&_) r p ∙ and-true (ltb last (rank e)) ∙ ap (λ (b : Bool). b && ltb last (rank e)) (sym p))
       (λ p. ap (λ (b : Bool). rises (ownerOf last) (numberOf last) e && b) p ∙ and-false (rises (ownerOf last) (numberOf last) e) ∙ ap (λ (b : Bool). b && ltb last (rank e)) (sym p))
 
-  bad-tested : (i : ℕ) (es : List Entry) → badEntry types (ownerOf last) (numberOf last) i (e ∷ es) ≡ (if passes then badEntry types (e .owner) (e .number) (i + 1) es else some i)
+  bad-tested : (i : ℕ) (es : List Entry) → badEntry types (ownerOf last) (numberOf last) i (e ∷ es) ≡ (if passes types last e then badEntry types (e .owner) (e .number) (i + 1) es else some i)
   unfolding badEntry
   bad-tested i es = ap (λ (b : Bool). if b then badEntry types (e .owner) (e .number) (i + 1) es else some i) tested
-
-  key-passed : passes ≡ true → nextKey types last e ≡ rank e
-  unfolding nextKey
-  key-passed p = ap (λ (b : Bool). if b then rank e else 0) p
-
-  key-refused : passes ≡ false → nextKey types last e ≡ 0
-  unfolding nextKey
-  key-refused p = ap (λ (b : Bool). if b then rank e else 0) p
 
   -- no next key: this entry is the first bad one
   pub next-bad : (i : ℕ) (es : List Entry) → nextKey types last e ≡ 0 → badEntry types (ownerOf last) (numberOf last) i (e ∷ es) ≡ some i
   next-bad i es z =
-      by-test passes
+      by-test (passes types last e)
       (λ p. let g = good-entry types e (both (goodEntry types e) (ltb last (rank e)) p .0) in
-      let k = key-passed p in
+      let k = key-passed types last e p in
       absurd (omega (arith, g .number-from)))
       (λ p. bad-tested i es ∙ ap (λ (b : Bool). if b then badEntry types (e .owner) (e .number) (i + 1) es else some i) p)
 
   -- a next key: the entry is good, and the key is its rank
   pub next-good : (nextKey types last e ≡ 0 → ⊥) → (goodEntry types e ≡ true) × (nextKey types last e ≡ rank e)
-  next-good z = by-test passes (λ p. (both (goodEntry types e) (ltb last (rank e)) p .0, key-passed p)) (λ p. absurd (z (key-refused p)))
+  next-good z = by-test (passes types last e) (λ p. (both (goodEntry types e) (ltb last (rank e)) p .0, key-passed types last e p)) (λ p. absurd (z (key-refused types last e p)))
 
   pub next-later : (i : ℕ) (es : List Entry) → (nextKey types last e ≡ 0 → ⊥)
       → badEntry types (ownerOf last) (numberOf last) i (e ∷ es) ≡ badEntry types (ownerOf (nextKey types last e)) (numberOf (nextKey types last e)) (i + 1) es
   next-later i es z =
-      by-test passes
+      by-test (passes types last e)
       (λ p. let g = good-entry types e (both (goodEntry types e) (ltb last (rank e)) p .0) in
       let l : e .number ≤ 536870911 = g .number-to in
-      let k = key-passed p in
+      let k = key-passed types last e p in
       let o : e .owner ≡ ownerOf (nextKey types last e) = omega arith in
       let n : e .number ≡ numberOf (nextKey types last e) = omega arith in
       bad-tested i es ∙ ap (λ (b : Bool). if b then badEntry types (e .owner) (e .number) (i + 1) es else some i) p
       ∙ ap₂ (λ (a b : ℕ). badEntry types a b (i + 1) es) o n)
-      (λ p. absurd (z (key-refused p)))
+      (λ p. absurd (z (key-refused types last e p)))
 
 -- ---- where the check stands
 
@@ -224,48 +225,57 @@ module _ {types : ℕ} {ns : List ℕ} {i e last : ℕ} (h : Here types ns i e l
     pub here-five : i + 4 < length ns
     here-five = omega (arith, h .five, whole-fives)
 
-    -- entry e and those behind it
-    here-cons : entriesOf (length ns / 5 - e) (drop (5 * e) ns) ≡ entry (fiveAt ns i) ∷ entriesOf (length ns / 5 - (e + 1)) (drop (5 * (e + 1)) ns)
-    here-cons =
-        let a = h .five in
-        let w = whole-fives in
-        let k : length ns / 5 - e ≡ suc (length ns / 5 - (e + 1)) = omega arith in
-        let d : 5 * e + 5 ≡ 5 * (e + 1) = omega arith in
-        ap (λ (n : ℕ). entriesOf n (drop (5 * e) ns)) k
-        ∙ entries-step (length ns / 5 - (e + 1)) (drop (5 * e) ns)
-        ∙ ap₂ (λ (x : Entry) (xs : List ℕ). x ∷ entriesOf (length ns / 5 - (e + 1)) xs)
-        (ap (λ (n : ℕ). firstEntry (drop n ns)) (sym a) ∙ sym (first-five ns i))
-        (drop-drop 5 (5 * e) ns ∙ ap (λ (n : ℕ). drop n ns) d)
+    module _ {f : Five} (at : f ≡ fiveAt ns i) where
+      first : entry f ≡ firstEntry (drop i ns)
+      first = ap entry at ∙ first-five ns i
 
-    -- the same by its place among all
-    pub here-entry : getD (entriesIn ns) e noEntry ≡ entry (fiveAt ns i)
-    here-entry =
-        let a = h .five in
-        let w = whole-fives in
-        entry-at (length ns / 5) ns e (omega arith) ∙ ap (λ (n : ℕ). firstEntry (drop n ns)) (sym a) ∙ sym (first-five ns i)
-
-    here-rest : badSchema (schemaOf types ns) ≡ badEntry types (ownerOf last) (numberOf last) e (entry (fiveAt ns i) ∷ entriesOf (length ns / 5 - (e + 1)) (drop (5 * (e + 1)) ns))
-    here-rest = h .rest ∙ ap (badEntry types (ownerOf last) (numberOf last) e) here-cons
-
-    pub here-bad : nextKey types last (entry (fiveAt ns i)) ≡ 0 → badSchema (schemaOf types ns) ≡ some e
-    here-bad z = here-rest ∙ next-bad types last (entry (fiveAt ns i)) (h .low) e (entriesOf (length ns / 5 - (e + 1)) (drop (5 * (e + 1)) ns)) z
-
-    module _ {key : ℕ} (is : key ≡ nextKey types last (entry (fiveAt ns i))) (there : key ≡ 0 → ⊥) where
-      pub here-good : (goodEntry types (entry (fiveAt ns i)) ≡ true) × (key ≡ rank (entry (fiveAt ns i)))
-      here-good = let g = next-good types last (entry (fiveAt ns i)) (h .low) (λ z. there (is ∙ z)) in (g .0, is ∙ g .1)
-
-      pub here-next : Here types ns (i + 5) (e + 1) key
-      here-next =
+      -- entry e by its place among all
+      pub here-entry : getD (entriesIn ns) e noEntry ≡ entry f
+      here-entry =
           let a = h .five in
-          let f = here-five in
-          let k = here-good .1 in
-          record {
-            counts = h .counts;
-            five = omega arith;
-            inside = omega arith;
-            low = omega arith;
-            rest =
-                here-rest
-                ∙ next-later types last (entry (fiveAt ns i)) (h .low) e (entriesOf (length ns / 5 - (e + 1)) (drop (5 * (e + 1)) ns)) (λ z. there (is ∙ z))
-                ∙ ap (λ (n : ℕ). badEntry types (ownerOf n) (numberOf n) (e + 1) (entriesOf (length ns / 5 - (e + 1)) (drop (5 * (e + 1)) ns))) (sym is);
-          }
+          let w = whole-fives in
+          entry-at (length ns / 5) ns e (omega arith) ∙ ap (λ (n : ℕ). firstEntry (drop n ns)) (sym a) ∙ sym first
+
+      -- and those behind it
+      others : List Entry
+      others = entriesOf (length ns / 5 - (e + 1)) (drop (5 * (e + 1)) ns)
+
+      here-cons : entriesOf (length ns / 5 - e) (drop (5 * e) ns) ≡ entry f ∷ others
+      unfolding others
+      here-cons =
+          let a = h .five in
+          let w = whole-fives in
+          let k : length ns / 5 - e ≡ suc (length ns / 5 - (e + 1)) = omega arith in
+          let d : 5 * e + 5 ≡ 5 * (e + 1) = omega arith in
+          ap (λ (n : ℕ). entriesOf n (drop (5 * e) ns)) k
+          ∙ entries-step (length ns / 5 - (e + 1)) (drop (5 * e) ns)
+          ∙ ap₂ (λ (x : Entry) (xs : List ℕ). x ∷ entriesOf (length ns / 5 - (e + 1)) xs)
+          (ap (λ (n : ℕ). firstEntry (drop n ns)) (sym a) ∙ sym first)
+          (drop-drop 5 (5 * e) ns ∙ ap (λ (n : ℕ). drop n ns) d)
+
+      here-rest : badSchema (schemaOf types ns) ≡ badEntry types (ownerOf last) (numberOf last) e (entry f ∷ others)
+      here-rest = h .rest ∙ ap (badEntry types (ownerOf last) (numberOf last) e) here-cons
+
+      module _ {key : ℕ} (is : key ≡ nextKey types last (entry f)) where
+        pub here-bad : key ≡ 0 → badSchema (schemaOf types ns) ≡ some e
+        here-bad z = here-rest ∙ next-bad types last (entry f) (h .low) e others (sym is ∙ z)
+
+        module _ (there : key ≡ 0 → ⊥) where
+          pub here-good : (goodEntry types (entry f) ≡ true) × (key ≡ rank (entry f))
+          here-good = let g = next-good types last (entry f) (h .low) (λ z. there (is ∙ z)) in (g .0, is ∙ g .1)
+
+          pub here-next : Here types ns (i + 5) (e + 1) key
+          unfolding others
+          here-next =
+              let a = h .five in
+              let l = here-five in
+              let k = here-good .1 in
+              record {
+                counts = h .counts;
+                five = omega arith;
+                inside = omega arith;
+                low = omega arith;
+                rest =
+                    here-rest ∙ next-later types last (entry f) (h .low) e others (λ z. there (is ∙ z))
+                    ∙ ap (λ (n : ℕ). badEntry types (ownerOf n) (numberOf n) (e + 1) others) (sym is);
+              }

@@ -7,7 +7,7 @@ ghost use lib.Dec.{leb, eqb};
 ghost use lib.ListN.{length};
 ghost use Rattle.spec.specs.Base.{if_then_else_};
 ghost use Rattle.spec.specs.Schema.{goodEntry, badSchema, schemaOf};
-ghost use Rattle.schema.specs.Search.{search, findIn};
+ghost use Rattle.schema.specs.Search.{seek, findIn};
 ghost use Rattle.schema.specs.Tables.{counted, nextKey, innerIn, noted, soundOf, keysWith, infoWith, keyAt, entryFor, unknown, typed, tableSays};
 ghost use Rattle.schema.specs.Told.{entry, fiveAt, told, place, said};
 
@@ -225,7 +225,7 @@ pub fn tables(types: u32, numbers: &[u32], keys: &mut [u64; 256], info: &mut [u8
 
 // The place of an entry whose key without its wire type is `key`, or 256.
 fn search(keys: &[u64; 256], key: u64) -> usize
-    ensures { λ r. ⌜ r ≡ search 256 (keyAt (now (keys .entry))) 256 key 0 256 ⌝ }
+    ensures { λ r. ⌜ r ≡ seek 256 (keyAt (now (keys .entry))) 256 key 0 256 ⌝ }
 {
     let mut lo: usize = 0;
     let mut hi: usize = 256;

@@ -1,3 +1,11 @@
+-- `schema::check` meets its contract. The loop's invariant: the entries passed are good and rise, so that the rest decides. Assumes nothing.
+use native.Mathlib.Omega.{arith}
+use borrow.Author.Needs.{needs}
+use borrow.Author.Tests.{not-true, not-false}
+use mathlib.Core.Path.{_≡_, refl, sym, ap, ap₂, _∙_}
+use Prim.Native.Nat.{ℕ, suc, _+_, _-_, _*_, _/_, _%_, _^_, _≤_, _<_}
+use lib.ListN.{length}
+use Rattle.schema.proofs.ValidLaws.{counts-wrong, Here, here-first, here-end, here-five, here-bad, here-next}
 use Rattle.schema.proofs.check.Statement.{statement}
 use Rattle.schema.proofs.check.Tie as tie
 use Rattle.schema.proofs.check.Reads as reads
@@ -7,54 +15,43 @@ use Rattle.schema.proofs.five_at.Reads as five-at-reads
 use Rattle.schema.proofs.next_key.Reads as next-key-reads
 
 abbrev Inv-loop : tie.InvT-loop
-Inv-loop types numbers i₀ e₀ last₀ i e last = ?
+Inv-loop types numbers i₀ e₀ last₀ i e last = Here types numbers i e last
 
 abbrev μ-loop : tie.MeasureT-loop
-μ-loop types numbers i₀ e₀ last₀ i e last = ?
+μ-loop types numbers i₀ e₀ last₀ i e last = length numbers - i
 
--- src/lib.rt:122:9
 counts-ok-requires : tie.Need-counts-ok-requires Inv-loop μ-loop
-counts-ok-requires c κs = ?
+counts-ok-requires c κs = search needs
 
--- src/lib.rt:123:9
 returns : tie.Need-returns Inv-loop μ-loop
-returns c = ?
+returns c = sym (counts-wrong (c .before .before .before .args .types) (c .before .before .before .args .numbers .now) (sym (c .before .counts-ok .ensures) ∙ not-true (c .before .counts-ok .result) (c .if1 .taken)))
 
--- src/lib.rt:128:5
 loop-holds : tie.Need-loop-holds Inv-loop μ-loop
-loop-holds c = ?
+loop-holds c = here-first (c .before .before .before .args .types) (c .before .before .before .args .numbers .now) (sym (c .before .counts-ok .ensures) ∙ not-false (c .before .counts-ok .result) (c .if1 .left))
 
--- src/lib.rt:129:13
 five-at-requires : tie.Need-five-at-requires Inv-loop μ-loop
-five-at-requires c κs = ?
+five-at-requires c κs = here-five (c .before .loop .inv) (c .loop-test .taken)
 
--- src/lib.rt:130:13
 next-key-requires : tie.Need-next-key-requires Inv-loop μ-loop
-next-key-requires c κs = ?
+next-key-requires c κs = search needs
 
--- src/lib.rt:132:13
 returns-2 : tie.Need-returns-2 Inv-loop μ-loop
-returns-2 c = ?
+returns-2 c = sym (here-bad (c .before .before .before .before .loop .inv) (c .before .before .before .loop-test .taken) (c .before .before .five-at .ensures) (c .before .next-key .ensures) (c .if2 .taken))
 
--- src/lib.rt:135:9
 add-i : tie.Need-add-i Inv-loop μ-loop
-add-i c = ?
+add-i c = search needs
 
--- src/lib.rt:136:9
 add-e : tie.Need-add-e Inv-loop μ-loop
-add-e c = ?
+add-e c = search needs
 
--- src/lib.rt:128:5
 loop-less : tie.Need-loop-less Inv-loop μ-loop
-loop-less c = ?
+loop-less c = search needs
 
--- src/lib.rt:128:5
 loop-again : tie.Need-loop-again Inv-loop μ-loop
-loop-again c = ?
+loop-again c = here-next (c .before .before .before .before .loop .inv) (c .before .before .before .loop-test .taken) (c .before .before .five-at .ensures) (c .before .next-key .ensures) (c .if2 .left)
 
--- src/lib.rt:119:1
 returns-3 : tie.Need-returns-3 Inv-loop μ-loop
-returns-3 c = ?
+returns-3 c = sym (here-end (c .before .loop .inv) (c .loop-test .left))
 
 pub check-spec : {M : Type 1} → statement M
 check-spec =

@@ -1,101 +1,101 @@
+-- `schema::find` meets its contract. The loop's invariant: what is searched in all is what is searched from here. Assumes nothing.
+use native.Mathlib.Omega.{arith}
+use borrow.Author.Needs.{needs}
+use mathlib.Core.Path.{_≡_, refl, sym, ap, ap₂, _∙_}
+use Prim.Native.Nat.{ℕ, suc, _+_, _-_, _*_, _/_, _%_, _^_, _≤_, _<_}
+use lib.ListN.{length}
+use mathlib.Core.Bool.{Bool}
+use mathlib.Core.Option.{Option, none, some}
+use borrow.Author.Tests.{lt-ltb, le-ltb}
+use Rattle.spec.specs.Base.{if_then_else_}
+use Rattle.schema.specs.Search.{seek, ownerNumber, within, findIn}
+use Rattle.schema.proofs.SearchLaws.{halves-end, halves-here, halves-above, halves-below}
 use Rattle.schema.proofs.find.Statement.{statement}
 use Rattle.schema.proofs.find.Tie as tie
 use Rattle.schema.proofs.find.Reads as reads
 use Rattle.schema.proofs.find.Lts as lts
 
 abbrev Inv-loop : tie.InvT-loop
-Inv-loop numbers owner number key lo₀ hi₀ lo hi = ?
+Inv-loop numbers owner number key lo₀ hi₀ lo hi = (lo ≤ hi) × (hi ≤ length numbers / 5) × (findIn numbers owner number ≡ within (length numbers / 5) (seek (hi - lo) (ownerNumber numbers) (length numbers / 5) (owner * 2 ^ 32 + number) lo hi))
 
 abbrev μ-loop : tie.MeasureT-loop
-μ-loop numbers owner number key lo₀ hi₀ lo hi = ?
+μ-loop numbers owner number key lo₀ hi₀ lo hi = hi - lo
 
--- src/lib.rt:147:15
 mul-key : tie.Need-mul-key Inv-loop μ-loop
-mul-key c = ?
+mul-key c = search needs
 
--- src/lib.rt:147:15
 add-key : tie.Need-add-key Inv-loop μ-loop
-add-key c = ?
+add-key c = search needs
 
--- src/lib.rt:150:5
 loop-holds : tie.Need-loop-holds Inv-loop μ-loop
-loop-holds c = ?
+unfolding findIn
+loop-holds c =
+    let n : ℕ = length (c .args .numbers .now) / 5 in
+    let z : n ≡ n - 0 = omega arith in
+    (omega arith, omega arith, ap (λ (k : ℕ). within n (seek k (ownerNumber (c .args .numbers .now)) n (c .args .owner * 2 ^ 32 + c .args .number) 0 n)) z)
 
--- src/lib.rt:151:20
 add-mid : tie.Need-add-mid Inv-loop μ-loop
-add-mid c = ?
+add-mid c = search needs
 
--- src/lib.rt:152:25
 mul-o : tie.Need-mul-o Inv-loop μ-loop
-mul-o c = ?
+mul-o c = search needs
 
--- src/lib.rt:152:17
 mul-o-2 : tie.Need-mul-o-2 Inv-loop μ-loop
-mul-o-2 c = ?
+mul-o-2 c = search needs
 
--- src/lib.rt:152:17
 shared-slice-read-o : tie.Need-shared-slice-read-o Inv-loop μ-loop
-shared-slice-read-o c = ?
+shared-slice-read-o c = search needs
 
--- src/lib.rt:153:25
 mul-n : tie.Need-mul-n Inv-loop μ-loop
-mul-n c = ?
+mul-n c = search needs
 
--- src/lib.rt:153:25
 add-n : tie.Need-add-n Inv-loop μ-loop
-add-n c = ?
+add-n c = search needs
 
--- src/lib.rt:153:17
 mul-n-2 : tie.Need-mul-n-2 Inv-loop μ-loop
-mul-n-2 c = ?
+mul-n-2 c = search needs
 
--- src/lib.rt:153:17
 shared-slice-read-n : tie.Need-shared-slice-read-n Inv-loop μ-loop
-shared-slice-read-n c = ?
+shared-slice-read-n c = search needs
 
--- src/lib.rt:154:20
 cast-here : tie.Need-cast-here Inv-loop μ-loop
-cast-here c = ?
+cast-here c = omega (arith, c .shared-slice-known2 .given ((c .before .before .before .loop .lo + c .before .before .before .loop .hi) / 2 * 5))
 
--- src/lib.rt:154:20
 mul-here : tie.Need-mul-here Inv-loop μ-loop
-mul-here c = ?
+mul-here c = omega (arith, c .shared-slice-known2 .given ((c .before .before .before .loop .lo + c .before .before .before .loop .hi) / 2 * 5))
 
--- src/lib.rt:154:44
 cast-here-2 : tie.Need-cast-here-2 Inv-loop μ-loop
-cast-here-2 c = ?
+cast-here-2 c = omega (arith, c .shared-slice-known2 .given ((c .before .before .before .loop .lo + c .before .before .before .loop .hi) / 2 * 5 + 1))
 
--- src/lib.rt:154:20
 add-here : tie.Need-add-here Inv-loop μ-loop
-add-here c = ?
+add-here c = omega (arith, c .shared-slice-known2 .given ((c .before .before .before .loop .lo + c .before .before .before .loop .hi) / 2 * 5), c .shared-slice-known2 .given ((c .before .before .before .loop .lo + c .before .before .before .loop .hi) / 2 * 5 + 1))
 
--- src/lib.rt:156:13
 returns : tie.Need-returns Inv-loop μ-loop
-returns c = ?
+returns c =
+    let n : ℕ = length (c .before .before .before .before .before .args .numbers .now) / 5 in
+    let mid : ℕ = (c .before .before .before .before .loop .lo + c .before .before .before .before .loop .hi) / 2 in
+    sym (c .before .before .before .before .loop .inv .2 ∙ ap (within n) (halves-here (ownerNumber (c .before .before .before .before .before .args .numbers .now)) (length (c .before .before .before .before .before .args .numbers .now) / 5) (c .before .before .before .before .before .args .owner * 2 ^ 32 + c .before .before .before .before .before .args .number) (c .before .before .before .before .loop .lo) (c .before .before .before .before .loop .hi) (c .before .before .before .loop-test .taken) (c .if1 .taken))
+    ∙ ap (λ (b : Bool). if b then some mid else none) (lt-ltb mid n (omega arith)))
 
--- src/lib.rt:159:18
 add-lo : tie.Need-add-lo Inv-loop μ-loop
-add-lo c = ?
+add-lo c = search needs
 
--- src/lib.rt:150:5
 loop-less : tie.Need-loop-less Inv-loop μ-loop
-loop-less c = ?
+loop-less c = search needs
 
--- src/lib.rt:150:5
 loop-again : tie.Need-loop-again Inv-loop μ-loop
-loop-again c = ?
+loop-again c = (omega arith, omega arith, c .before .before .before .before .before .loop .inv .2 ∙ ap (within (length (c .before .before .before .before .before .before .args .numbers .now) / 5)) (halves-above (ownerNumber (c .before .before .before .before .before .before .args .numbers .now)) (length (c .before .before .before .before .before .before .args .numbers .now) / 5) (c .before .before .before .before .before .before .args .owner * 2 ^ 32 + c .before .before .before .before .before .before .args .number) (c .before .before .before .before .before .loop .lo) (c .before .before .before .before .before .loop .hi) (c .before .before .before .before .loop-test .taken) (c .if2 .taken)))
 
--- src/lib.rt:150:5
 loop-less-2 : tie.Need-loop-less-2 Inv-loop μ-loop
-loop-less-2 c = ?
+loop-less-2 c = search needs
 
--- src/lib.rt:150:5
 loop-again-2 : tie.Need-loop-again-2 Inv-loop μ-loop
-loop-again-2 c = ?
+loop-again-2 c = (omega arith, omega arith, c .before .before .before .before .before .loop .inv .2 ∙ ap (within (length (c .before .before .before .before .before .before .args .numbers .now) / 5)) (halves-below (ownerNumber (c .before .before .before .before .before .before .args .numbers .now)) (length (c .before .before .before .before .before .before .args .numbers .now) / 5) (c .before .before .before .before .before .before .args .owner * 2 ^ 32 + c .before .before .before .before .before .before .args .number) (c .before .before .before .before .before .loop .lo) (c .before .before .before .before .before .loop .hi) (c .before .before .before .before .loop-test .taken) (omega arith)))
 
--- src/lib.rt:144:1
 returns-2 : tie.Need-returns-2 Inv-loop μ-loop
-returns-2 c = ?
+returns-2 c =
+    let n : ℕ = length (c .before .before .args .numbers .now) / 5 in
+    sym (c .before .loop .inv .2 ∙ ap (within n) (halves-end (ownerNumber (c .before .before .args .numbers .now)) (length (c .before .before .args .numbers .now) / 5) (c .before .before .args .owner * 2 ^ 32 + c .before .before .args .number) (c .before .loop .lo) (c .before .loop .hi) (c .loop-test .left)) ∙ ap (λ (b : Bool). if b then some n else none) (le-ltb n n (omega arith)))
 
 pub find-spec : {M : Type 1} → statement M
 find-spec =

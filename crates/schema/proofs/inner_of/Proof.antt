@@ -1,28 +1,38 @@
+-- `schema::inner_of` meets its contract: the tests are the definition's. Assumes nothing.
+use native.Mathlib.Omega.{arith}
 use borrow.Author.Needs.{needs}
+use borrow.Author.Tests.{eq-eqb, ne-eqb}
+use mathlib.Core.Bool.{Bool, _&&_, not, and-false}
+use mathlib.Core.Path.{_≡_, refl, sym, ap, ap₂, _∙_}
+use Prim.Native.Nat.{ℕ, suc, _+_, _-_, _*_, _/_, _%_, _^_, _≤_, _<_}
+use lib.Dec.{eqb}
+use Rattle.spec.specs.Base.{if_then_else_}
 use Rattle.schema.proofs.inner_of.Statement.{statement}
 use Rattle.schema.proofs.inner_of.Tie as tie
 use Rattle.schema.proofs.inner_of.Reads as reads
 use Rattle.schema.proofs.inner_of.Lts as lts
 
--- src/lib.rt:175:16
 cast-result : tie.Need-cast-result
 cast-result c = search needs
 
--- src/lib.rt:175:9
 returns : tie.Need-returns
-returns c = ?
+returns c =
+    let a = c .before .args in
+    sym (ap (λ (b : Bool). if eqb (a .repeated) 1 && not b then 255 else a .child) (eq-eqb (a .w) 2 (c .if1 .taken))
+    ∙ ap (λ (b : Bool). if b then 255 else a .child) (and-false (eqb (a .repeated) 1)))
 
--- src/lib.rt:178:9
 returns-2 : tie.Need-returns-2
-returns-2 c = ?
+returns-2 c =
+    let a = c .before .before .args in
+    simp (eq-eqb (a .repeated) 1 (c .if2 .taken), ne-eqb (a .w) 2 (c .before .if1 .left))
 
--- src/lib.rt:180:5
 cast-result-2 : tie.Need-cast-result-2
 cast-result-2 c = search needs
 
--- src/lib.rt:170:1
 returns-3 : tie.Need-returns-3
-returns-3 c = ?
+returns-3 c =
+    let a = c .before .before .args in
+    simp (ne-eqb (a .repeated) 1 (c .if2 .left))
 
 pub inner-of-spec : {M : Type 1} → statement M
 inner-of-spec = tie.close (tie.spec cast-result returns returns-2 cast-result-2 returns-3)

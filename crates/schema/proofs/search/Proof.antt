@@ -1,57 +1,54 @@
+-- `schema::search` meets its contract. The loop's invariant: what is searched in all is what is searched from here. Assumes nothing.
+use native.Mathlib.Omega.{arith}
+use borrow.Author.Needs.{needs}
+use mathlib.Core.Path.{_≡_, refl, sym, ap, ap₂, _∙_}
+use Prim.Native.Nat.{ℕ, suc, _+_, _-_, _*_, _/_, _%_, _^_, _≤_, _<_}
+use Rattle.schema.specs.Search.{seek}
+use Rattle.schema.specs.Tables.{keyAt}
+use Rattle.schema.proofs.SearchLaws.{halves-end, halves-here, halves-above, halves-below}
 use Rattle.schema.proofs.search.Statement.{statement}
 use Rattle.schema.proofs.search.Tie as tie
 use Rattle.schema.proofs.search.Reads as reads
 use Rattle.schema.proofs.search.Lts as lts
 
 abbrev Inv-loop : tie.InvT-loop
-Inv-loop keys key lo₀ hi₀ lo hi = ?
+Inv-loop keys key lo₀ hi₀ lo hi = (lo ≤ hi) × (hi ≤ 256) × (seek 256 (keyAt keys) 256 key 0 256 ≡ seek (hi - lo) (keyAt keys) 256 key lo hi)
 
 abbrev μ-loop : tie.MeasureT-loop
-μ-loop keys key lo₀ hi₀ lo hi = ?
+μ-loop keys key lo₀ hi₀ lo hi = hi - lo
 
--- src/lib.rt:232:5
 loop-holds : tie.Need-loop-holds Inv-loop μ-loop
-loop-holds c = ?
+loop-holds c = (omega arith, omega arith, refl)
 
--- src/lib.rt:233:20
 add-mid : tie.Need-add-mid Inv-loop μ-loop
-add-mid c = ?
+add-mid c = search needs
 
--- src/lib.rt:234:20
 mul-here : tie.Need-mul-here Inv-loop μ-loop
-mul-here c = ?
+mul-here c = search needs
 
--- src/lib.rt:234:20
 element-copy-out-here : tie.Need-element-copy-out-here Inv-loop μ-loop
-element-copy-out-here c = ?
+element-copy-out-here c = search needs
 
--- src/lib.rt:236:13
 returns : tie.Need-returns Inv-loop μ-loop
-returns c = ?
+returns c = sym (c .before .before .before .loop .inv .2 ∙ halves-here (keyAt (c .before .before .before .before .args .keys .now)) 256 (c .before .before .before .before .args .key) (c .before .before .before .loop .lo) (c .before .before .before .loop .hi) (c .before .before .loop-test .taken) (c .if1 .taken))
 
--- src/lib.rt:239:18
 add-lo : tie.Need-add-lo Inv-loop μ-loop
-add-lo c = ?
+add-lo c = search needs
 
--- src/lib.rt:232:5
 loop-less : tie.Need-loop-less Inv-loop μ-loop
-loop-less c = ?
+loop-less c = search needs
 
--- src/lib.rt:232:5
 loop-again : tie.Need-loop-again Inv-loop μ-loop
-loop-again c = ?
+loop-again c = (omega arith, omega arith, c .before .before .before .before .loop .inv .2 ∙ halves-above (keyAt (c .before .before .before .before .before .args .keys .now)) 256 (c .before .before .before .before .before .args .key) (c .before .before .before .before .loop .lo) (c .before .before .before .before .loop .hi) (c .before .before .before .loop-test .taken) (c .if2 .taken))
 
--- src/lib.rt:232:5
 loop-less-2 : tie.Need-loop-less-2 Inv-loop μ-loop
-loop-less-2 c = ?
+loop-less-2 c = search needs
 
--- src/lib.rt:232:5
 loop-again-2 : tie.Need-loop-again-2 Inv-loop μ-loop
-loop-again-2 c = ?
+loop-again-2 c = (omega arith, omega arith, c .before .before .before .before .loop .inv .2 ∙ halves-below (keyAt (c .before .before .before .before .before .args .keys .now)) 256 (c .before .before .before .before .before .args .key) (c .before .before .before .before .loop .lo) (c .before .before .before .before .loop .hi) (c .before .before .before .loop-test .taken) (omega arith))
 
--- src/lib.rt:227:1
 returns-2 : tie.Need-returns-2 Inv-loop μ-loop
-returns-2 c = ?
+returns-2 c = sym (c .before .loop .inv .2 ∙ halves-end (keyAt (c .before .before .args .keys .now)) 256 (c .before .before .args .key) (c .before .loop .lo) (c .before .loop .hi) (c .loop-test .left))
 
 pub search-spec : {M : Type 1} → statement M
 search-spec =

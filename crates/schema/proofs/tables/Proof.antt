@@ -1,3 +1,17 @@
+-- `schema::tables` meets its contract. The loop's invariant: the check stands before entry e, and both arrays hold the entries passed.
+-- Assumes nothing.
+use native.Mathlib.Omega.{arith}
+use borrow.Author.Needs.{needs}
+use borrow.Author.Tests.{not-true, not-false}
+use mathlib.Core.Path.{_≡_, refl, sym, ap, ap₂, _∙_}
+use Prim.Native.Nat.{ℕ, suc, _+_, _-_, _*_, _/_, _%_, _^_, _≤_, _<_}
+use mathlib.Core.List.{List}
+use lib.ListN.{length, getD}
+use Rattle.schema.specs.declared.Five.{Five}
+use Rattle.schema.specs.Told.{entry, fiveAt}
+use Rattle.schema.specs.Tables.{nextKey}
+use Rattle.schema.proofs.ValidLaws.{here-five}
+use Rattle.schema.proofs.MakingLaws.{Made, made-none, made-first, made-all, made-bad, made-fits, made-next, wire-small}
 use Rattle.schema.proofs.tables.Statement.{statement}
 use Rattle.schema.proofs.tables.Tie as tie
 use Rattle.schema.proofs.tables.Reads as reads
@@ -9,86 +23,81 @@ use Rattle.schema.proofs.note.Reads as note-reads
 use Rattle.wire.proofs.wire_format.kind_wires.Reads as kind-wires-reads
 
 abbrev Inv-loop : tie.InvT-loop
-Inv-loop types numbers keys₀ info₀ wires i₀ e₀ last₀ keys info i e last = ?
+Inv-loop types numbers keys₀ info₀ wires i₀ e₀ last₀ keys info i e last = Made types numbers i e last keys₀ keys info₀ info
 
 abbrev μ-loop : tie.MeasureT-loop
-μ-loop types numbers keys₀ info₀ wires i₀ e₀ last₀ keys info i e last = ?
+μ-loop types numbers keys₀ info₀ wires i₀ e₀ last₀ keys info i e last = length numbers - i
 
--- src/lib.rt:201:9
 counts-ok-requires : tie.Need-counts-ok-requires Inv-loop μ-loop
-counts-ok-requires c κs = ?
+counts-ok-requires c κs = search needs
 
--- src/lib.rt:202:9
 returns : tie.Need-returns Inv-loop μ-loop
-returns c = ?
+returns c = made-none (c .before .before .before .args .types) (c .before .before .before .args .numbers .now) (c .before .before .before .args .keys .now) (c .before .before .before .args .info .now) (sym (c .before .counts-ok .ensures) ∙ not-true (c .before .counts-ok .result) (c .if1 .taken))
 
--- src/lib.rt:204:17
 kind-wires-requires : tie.Need-kind-wires-requires Inv-loop μ-loop
-kind-wires-requires c κs = ?
+kind-wires-requires c κs = search needs
 
--- src/lib.rt:208:5
 loop-holds : tie.Need-loop-holds Inv-loop μ-loop
-loop-holds c = ?
+loop-holds c = made-first (c .before .before .before .before .args .types) (c .before .before .before .before .args .numbers .now) (c .before .before .before .before .args .keys .now) (c .before .before .before .before .args .info .now) (sym (c .before .before .counts-ok .ensures) ∙ not-false (c .before .before .counts-ok .result) (c .before .if1 .left))
 
--- src/lib.rt:209:13
 five-at-requires : tie.Need-five-at-requires Inv-loop μ-loop
-five-at-requires c κs = ?
+five-at-requires c κs = here-five (c .before .loop .inv .here) (c .loop-test .taken)
 
--- src/lib.rt:210:13
 next-key-requires : tie.Need-next-key-requires Inv-loop μ-loop
-next-key-requires c κs = ?
+next-key-requires c κs = search needs
 
--- src/lib.rt:212:13
 returns-2 : tie.Need-returns-2 Inv-loop μ-loop
-returns-2 c = ?
+returns-2 c = made-bad (c .before .before .before .before .loop .inv) (c .before .before .before .loop-test .taken) (c .before .before .five-at .ensures) (c .before .next-key .ensures) (c .if2 .taken)
 
--- src/lib.rt:215:23
 cast-w : tie.Need-cast-w Inv-loop μ-loop
-cast-w c = ?
+cast-w c = search needs
 
--- src/lib.rt:215:17
 array-read-w : tie.Need-array-read-w Inv-loop μ-loop
-array-read-w c = ?
+array-read-w c = omega (arith, made-fits (c .before .before .before .before .before .loop .inv) (c .before .before .before .before .loop-test .taken) (c .before .before .before .five-at .ensures) (c .before .before .next-key .ensures) (c .before .if2 .left) .2)
 
--- src/lib.rt:216:25
 cast-keys : tie.Need-cast-keys Inv-loop μ-loop
-cast-keys c = ?
+cast-keys c =
+    let k = made-fits (c .before .before .before .before .before .loop .inv) (c .before .before .before .before .loop-test .taken) (c .before .before .before .five-at .ensures) (c .before .before .next-key .ensures) (c .before .if2 .left) .2 in
+    let w = wire-small (c .before .before .before .five-at .result .kind) (c .before .before .before .before .before .before .kind-wires .ensures) k in
+    record { fits = omega arith }
 
--- src/lib.rt:216:19
 add-keys : tie.Need-add-keys Inv-loop μ-loop
-add-keys c = ?
+add-keys c =
+    let k = made-fits (c .before .before .before .before .before .loop .inv) (c .before .before .before .before .loop-test .taken) (c .before .before .before .five-at .ensures) (c .before .before .next-key .ensures) (c .before .if2 .left) .2 in
+    let w = wire-small (c .before .before .before .five-at .result .kind) (c .before .before .before .before .before .before .kind-wires .ensures) k in
+    let l = made-fits (c .before .before .before .before .before .loop .inv) (c .before .before .before .before .loop-test .taken) (c .before .before .before .five-at .ensures) (c .before .before .next-key .ensures) (c .before .if2 .left) .4 in
+    record { fits = omega arith }
 
--- src/lib.rt:216:9
 mul-keys : tie.Need-mul-keys Inv-loop μ-loop
-mul-keys c = ?
+mul-keys c =
+    let l = made-fits (c .before .before .before .before .before .loop .inv) (c .before .before .before .before .loop-test .taken) (c .before .before .before .five-at .ensures) (c .before .before .next-key .ensures) (c .before .if2 .left) .0 in
+    record { fits = omega arith }
 
--- src/lib.rt:216:9
 element-write-keys : tie.Need-element-write-keys Inv-loop μ-loop
-element-write-keys c = ?
+element-write-keys c = made-fits (c .before .before .before .before .before .loop .inv) (c .before .before .before .before .loop-test .taken) (c .before .before .before .five-at .ensures) (c .before .before .next-key .ensures) (c .before .if2 .left) .0
 
--- src/lib.rt:217:9
 note-requires : tie.Need-note-requires Inv-loop μ-loop
-note-requires c κs = ?
+note-requires c κs =
+    let l = made-fits (c .before .before .before .before .before .before .loop .inv) (c .before .before .before .before .before .loop-test .taken) (c .before .before .before .before .five-at .ensures) (c .before .before .before .next-key .ensures) (c .before .before .if2 .left) in
+    (l .0, l .1, omega (arith, l .2), l .3)
 
--- src/lib.rt:218:9
 add-i : tie.Need-add-i Inv-loop μ-loop
-add-i c = ?
+add-i c = search needs
 
--- src/lib.rt:219:9
 add-e : tie.Need-add-e Inv-loop μ-loop
-add-e c = ?
+add-e c = search needs
 
--- src/lib.rt:208:5
 loop-less : tie.Need-loop-less Inv-loop μ-loop
-loop-less c = ?
+loop-less c = search needs
 
--- src/lib.rt:208:5
 loop-again : tie.Need-loop-again Inv-loop μ-loop
-loop-again c = ?
+loop-again c =
+    let w : ℕ = getD (c .before .before .before .before .before .before .before .before .kind-wires .result) (c .before .before .before .before .before .five-at .result .kind) 0 in
+    let n = made-next (c .before .before .before .before .before .before .before .loop .inv) (c .before .before .before .before .before .before .loop-test .taken) (c .before .before .before .before .before .five-at .ensures) (c .before .before .before .before .next-key .ensures) (c .before .before .before .if2 .left) w (ap (λ (ws : List ℕ). getD ws (c .before .before .before .before .before .five-at .result .kind) 0) (c .before .before .before .before .before .before .before .before .kind-wires .ensures)) in
+    record { here = n .here; keys-so = n .keys-so; info-so = c .note .ensures ∙ n .info-so }
 
--- src/lib.rt:196:1
 returns-3 : tie.Need-returns-3 Inv-loop μ-loop
-returns-3 c = ?
+returns-3 c = made-all (c .before .loop .inv) (c .loop-test .left)
 
 pub tables-spec : {M : Type 1} → statement M
 tables-spec =
