@@ -287,6 +287,13 @@ fn typed(keys: &[u64; 256], info: &[u8; 1024], i: usize, key: u64, tag: u32) -> 
     unknown(tag)
 }
 
+// A byte as a place among 256.
+fn index(byte: u8) -> usize
+    ensures { λ r. ⌜ (r ≡ byte) × (r < 256) ⌝ }
+{
+    byte as usize
+}
+
 // The entry of a tag in a message of this type, or 256: the guess where it is right, and else by search.
 fn entry_for(keys: &[u64; 256], info: &[u8; 1024], ty: u32, tag: u32) -> usize
     ensures { λ r. ⌜ r ≡ entryFor (now (keys .entry)) (now (info .entry)) ty tag ⌝ }
@@ -294,7 +301,7 @@ fn entry_for(keys: &[u64; 256], info: &[u8; 1024], ty: u32, tag: u32) -> usize
     let key = ty as u64 * 4294967296 + tag as u64;
     if tag < 128 {
         if ty < 32 {
-            let guess = info[ty as usize * 16 + tag as usize / 8] as usize;
+            let guess = index(info[ty as usize * 16 + tag as usize / 8]);
             if keys[guess] == key {
                 return guess;
             }
