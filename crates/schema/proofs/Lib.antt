@@ -1,3 +1,4 @@
+pub mod FindLaws
 pub mod MakingLaws
 pub mod SearchLaws
 pub mod TableLaws

@@ -7,15 +7,15 @@ use mathlib.Core.Path.{_≡_, refl, sym, ap, ap₂, _∙_, subst}
 use mathlib.Core.Bool.{Bool, true, false, not}
 use mathlib.Core.List.{List}
 use mathlib.Core.Option.{Option, none, some}
-use lib.ListN.{length, getD}
+use lib.ListN.{length}
 use lib.Dec.{ltb, eqb}
 use borrow.Author.Tests.{lt-ltb, le-ltb, eq-eqb, ne-eqb}
 use Rattle.spec.specs.Base.{if_then_else_}
 use Rattle.spec.specs.Schema.{Schema, badSchema, placeOf}
 use Rattle.spec.proofs.VarintLaws.{lower-or-not}
-use Rattle.spec.proofs.SchemaLaws.{Is, Before, at, place-found, valid-rises, valid-found, valid-below, valid-above}
+use Rattle.spec.proofs.SchemaLaws.{Is, Before, type-before, number-before, at, place-found, valid-rises, valid-found}
 use Rattle.spec.specs.declared.Entry.{Entry}
-use Rattle.schema.specs.Search.{seek, within, findIn, ownerNumber}
+use Rattle.schema.specs.Search.{seek}
 
 module _ (row : ℕ → ℕ) (lost key : ℕ) where
   -- what is left of the search, with k to count down
@@ -105,3 +105,52 @@ module _ (row : ℕ → ℕ) (lost key : ℕ) where
     pub halves-below : key < row ((lo + hi) / 2) → Left (hi - lo) lo hi ≡ Left ((lo + hi) / 2 - lo) lo ((lo + hi) / 2)
     halves-below l =
         one-more ∙ step-below (hi - lo) lo hi h l ∙ search-enough (hi - lo) ((lo + hi) / 2 - lo) lo ((lo + hi) / 2) (omega arith) (omega arith)
+
+-- ---- in a valid schema
+
+-- the number of an entry stands to the key as the entry to the owner o and the number n
+pub record Keyed (o n key : ℕ) (e : Entry) (x : ℕ) : Type 0 where
+  pub same : Is o n e → x ≡ key
+  pub only : x ≡ key → Is o n e
+  pub under : Before (e .owner) (e .number) o n → x < key
+  pub over : Before o n (e .owner) (e .number) → key < x
+
+-- a place, or what stands for none
+abbrev pub placedOr : ℕ → Option ℕ → ℕ
+placedOr lost none = lost
+placedOr lost (some i) = i
+
+before-it : {a b o n : ℕ} (e : Entry) → Before a b (e .owner) (e .number) → Is o n e → Before a b o n
+before-it e (type-before h) is = type-before (omega arith)
+before-it e (number-before p h) is = number-before (omega arith) (omega arith)
+
+behind-it : {a b o n : ℕ} (e : Entry) → Before (e .owner) (e .number) a b → Is o n e → Before o n a b
+behind-it e (type-before h) is = type-before (omega arith)
+behind-it e (number-before p h) is = number-before (omega arith) (omega arith)
+
+module _ (sch : Schema) (valid : badSchema sch ≡ none) (row : ℕ → ℕ) (count o n key : ℕ) (enough : length (sch .entries) ≤ count)
+  (keyed : (i : ℕ) → i < length (sch .entries) → Keyed o n key (at sch i) (row i))
+  (behind : (i : ℕ) → length (sch .entries) ≤ i → i < count → key < row i) where
+
+  found : (i : ℕ) → placeOf 0 (sch .entries) o n ≡ some i → seek count row count key 0 count ≡ i
+  found i e =
+      let f = place-found (sch .entries) o n i e in
+      search-finds row count key count 0 count i (omega arith) (omega arith) (omega arith) (keyed i (f .0) .same (f .2))
+      (λ j u. keyed j (omega arith) .under (before-it (at sch i) (valid-rises sch valid j i u (f .0)) (f .2)))
+      (λ j u v. lower-or-not j (length (sch .entries))
+      (λ l. keyed j l .over (behind-it (at sch i) (valid-rises sch valid i j u l) (f .2)))
+      (λ l. behind j l v))
+
+  missed : placeOf 0 (sch .entries) o n ≡ none → seek count row count key 0 count ≡ count
+  missed e =
+      search-misses row count key count 0 count λ j u v is.
+      lower-or-not j (length (sch .entries))
+      (λ l. let z : _≡_ {A = ℕ} 0 1 = cc (valid-found sch valid o n j l (keyed j l .only is) .1) in omega arith)
+      (λ l. omega (arith, behind j l v))
+
+  pub search-place : seek count row count key 0 count ≡ placedOr count (placeOf 0 (sch .entries) o n)
+  search-place = go (placeOf 0 (sch .entries) o n) refl
+    where
+      go : (p : Option ℕ) → placeOf 0 (sch .entries) o n ≡ p → seek count row count key 0 count ≡ placedOr count p
+      go none e = missed e
+      go (some i) e = found i e

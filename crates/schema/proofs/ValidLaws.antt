@@ -41,7 +41,7 @@ five-times : (n : ℕ) → n % 5 ≡ 0 → leb (n / 5) 256 ≡ leb n 1280
 five-times n h = lower-or-not 1280 n (λ c. lt-leb (n / 5) 256 (omega arith) ∙ sym (lt-leb n 1280 c)) (λ c. le-leb (n / 5) 256 (omega arith) ∙ sym (le-leb n 1280 c))
 
 module _ (types : ℕ) (ns : List ℕ) where
-  whole : length ns % 5 ≡ 0 → schemaOf types ns ≡ schemaIn types ns
+  pub whole : length ns % 5 ≡ 0 → schemaOf types ns ≡ schemaIn types ns
   unfolding schemaOf
   whole h = ap (λ (b : Bool). if b then schemaIn types ns else record { types = 0; entries = [] }) (eq-eqb (length ns % 5) 0 h)
 
@@ -205,7 +205,7 @@ here-first types ns h =
     }
 
 -- the numbers from i on are the first entry of what is left
-first-five : (ns : List ℕ) (i : ℕ) → entry (fiveAt ns i) ≡ firstEntry (drop i ns)
+pub first-five : (ns : List ℕ) (i : ℕ) → entry (fiveAt ns i) ≡ firstEntry (drop i ns)
 first-five ns i =
     let z : i ≡ i + 0 = omega arith in
     simp getD-drop (ap (λ (n : ℕ). entryOf (getD ns n 0) (getD ns (i + 1) 0) (getD ns (i + 2) 0) (getD ns (i + 3) 0) (getD ns (i + 4) 0)) z)
