@@ -1,5 +1,6 @@
 pub mod FindLaws
 pub mod MakingLaws
 pub mod SearchLaws
+pub mod StoredLaws
 pub mod TableLaws
 pub mod ValidLaws

@@ -4,14 +4,19 @@ use native.Mathlib.Omega.{arith}
 use mathlib.Core.Path.{_≡_, refl, sym, ap, ap₂, _∙_, subst}
 use mathlib.Core.Bool.{Bool, true, false, not, _&&_}
 use mathlib.Core.List.{List, [], _∷_}
-use lib.ListN.{length, getD, set}
+use mathlib.Core.Option.{Option, none, some}
+use lib.ListN.{length, getD, replicate}
 use lib.Dec.{leb, ltb, eqb}
 use borrow.Author.Tests.{lt-ltb, le-ltb, eq-eqb, ne-eqb, ltb-true, eqb-true}
 use Rattle.spec.specs.Base.{if_then_else_}
-use Rattle.spec.specs.Schema.{Says}
+use Rattle.spec.specs.Kind.{kindWires, ownWires, wires, wire, shapes, shape, isScalar}
+use Rattle.spec.specs.Schema.{Schema, badSchema, bit, Says}
 use Rattle.spec.proofs.Laws.{both, by-test}
+use Rattle.spec.proofs.SchemaLaws.{Good, good-entry, at, valid-good}
+use Rattle.spec.specs.declared.Entry.{Entry}
+use Rattle.wire.proofs.Upto.{equal-below}
 use Rattle.schema.specs.Search.{seek}
-use Rattle.schema.specs.Tables.{keyAt, entryFor, unknown, typed, tableSays}
+use Rattle.schema.specs.Tables.{keysWith, infoWith, keyAt, entryFor, unknown, typed, tableSays}
 
 -- ---- what is asked, case by case
 
@@ -80,3 +85,47 @@ module _ (keys info : List ℕ) where
     says-unknown l =
         ap (λ (j : ℕ). if ltb j 256 then typed keys info j (type * 2 ^ 32 + t) t else unknown t) (sym is)
         ∙ ap (λ (b : Bool). if b then typed keys info i (type * 2 ^ 32 + t) t else unknown t) (le-ltb i 256 l)
+
+-- ---- the tables of a valid schema
+
+-- each kind of descriptor.proto is one number exactly when its wire type is not 2
+kind-test : (k : ℕ) → k ≤ 18 → bit (isScalar (shape k)) ≡ bit (not (eqb (wire k) 2) && not (eqb k 0) && not (eqb k 10))
+unfolding kindWires ownWires wires wire shapes shape isScalar
+kind-test k h =
+    equal-below (λ n. bit (isScalar (shape n))) (λ n. bit (not (eqb (wire n) 2) && not (eqb n 0) && not (eqb n 10))) 19 k tt (omega arith)
+
+bit-once : (a b : Bool) → bit a ≡ bit b → a ≡ b
+bit-once true true e = refl
+bit-once true false e = absurd (omega arith)
+bit-once false true e = absurd (omega arith)
+bit-once false false e = refl
+
+scalar-kind : {types : ℕ} {e : Entry} → Good types e → isScalar (shape (e .kind)) ≡ not (eqb (wire (e .kind)) 2)
+scalar-kind {types} {e} g =
+    let k = e .kind in
+    bit-once (isScalar (shape (e .kind))) (not (eqb (wire (e .kind)) 2) && not (eqb (e .kind) 0) && not (eqb (e .kind) 10)) (kind-test (e .kind) (g .kind-to))
+    ∙ ap₂ (λ (a b : Bool). not (eqb (wire (e .kind)) 2) && not a && not b) (ne-eqb (e .kind) 0 (λ z. omega (arith, g .kind-from))) (ne-eqb (e .kind) 10 (g .no-group))
+    ∙ go (not (eqb (wire (e .kind)) 2))
+  where
+    go : (b : Bool) → (b && true && true) ≡ b
+    go true = refl
+    go false = refl
+
+module _ (sch : Schema) (valid : badSchema sch ≡ none) (info₀ : List ℕ) (wide : 1024 ≤ length info₀) where
+  largest : ℕ
+  largest = 2 ^ 64 - 1
+
+  unused : List ℕ
+  unused = replicate 256 (2 ^ 64 - 1)
+
+  es : List Entry
+  es = sch .entries
+
+  keys : List ℕ
+  keys = keysWith 0 (sch .entries) (replicate 256 (2 ^ 64 - 1))
+
+  info : List ℕ
+  info = infoWith 0 (sch .entries) info₀
+
+  good-at : (i : ℕ) → i < length (sch .entries) → Good (sch .types) (at sch i)
+  good-at i l = good-entry (sch .types) (at sch i) (valid-good sch valid i l)
