@@ -1,19 +1,19 @@
 -- The search among the numbers of a valid schema finds the entry of an owner and a number. Assumes nothing.
-use Prim.Native.Nat.{ℕ, _+_, _*_, _/_, _%_, _^_, _≤_, _<_}
+use Prim.Native.Nat.{ℕ, _+_, _*_, _/_, _%_, _^_, _<_}
 use native.Mathlib.Omega.{arith}
-use mathlib.Core.Path.{_≡_, refl, sym, ap, ap₂, _∙_, subst}
-use mathlib.Core.Bool.{Bool, true, false}
+use mathlib.Core.Path.{_≡_, refl, sym, ap, _∙_, subst}
+use mathlib.Core.Bool.{Bool}
 use mathlib.Core.List.{List}
 use mathlib.Core.Option.{Option, none, some}
-use lib.ListN.{length, drop, getD}
+use lib.ListN.{length, getD}
 use lib.Dec.{eqb}
 use borrow.Author.Tests.{lt-ltb, le-ltb, eqb-true, eqb-false}
 use Rattle.spec.specs.Base.{if_then_else_}
-use Rattle.spec.specs.Schema.{Schema, badSchema, goodEntry, placeOf, schemaOf, noEntry}
+use Rattle.spec.specs.Schema.{Schema, badSchema, goodEntry, placeOf, schemaOf}
 use Rattle.spec.proofs.Laws.{by-test}
-use Rattle.spec.proofs.SchemaLaws.{Is, Before, type-before, number-before, at, firstEntry, entry-at, length-entries, rest-bad, place-found, valid-good}
+use Rattle.spec.proofs.SchemaLaws.{Before, type-before, number-before, at, entry-at, length-entries, rest-bad, place-found, valid-good}
 use Rattle.spec.specs.declared.Entry.{Entry}
-use Rattle.schema.specs.Search.{seek, within, ownerNumber, findIn}
+use Rattle.schema.specs.Search.{within, ownerNumber, findIn}
 use Rattle.schema.specs.Told.{entry, fiveAt}
 use Rattle.schema.proofs.SearchLaws.{Keyed, placedOr, search-place}
 use Rattle.schema.proofs.ValidLaws.{entriesIn, schemaIn, whole, plain, is-entry, good-five, first-five}
@@ -25,6 +25,7 @@ keyed o n e l m = record { same = λ is. omega arith; only = λ p. (omega arith,
     below : Before (e .owner) (e .number) o n → e .owner * 2 ^ 32 + e .number < o * 2 ^ 32 + n
     below (type-before h) = omega arith
     below (number-before p h) = omega arith
+
     above : Before o n (e .owner) (e .number) → o * 2 ^ 32 + n < e .owner * 2 ^ 32 + e .number
     above (type-before h) = omega arith
     above (number-before p h) = omega arith

@@ -1,24 +1,23 @@
 -- The tables while they are made: an array after some entries holds what each of them stored in turn. Assumes nothing.
-use Prim.Native.Nat.{ℕ, zero, suc, _+_, _-_, _*_, _/_, _%_, _^_, _≤_, _<_, min}
+use Prim.Native.Nat.{ℕ, suc, _+_, _*_, _/_, _^_, _≤_, _<_, min}
 use native.Mathlib.Omega.{arith}
 use native.Mathlib.Numerals.{add-one}
 use mathlib.Core.Path.{_≡_, refl, sym, ap, ap₂, _∙_, subst}
-use mathlib.Core.Bool.{Bool, true, false}
+use mathlib.Core.Bool.{true, false}
 use mathlib.Core.List.{List, [], _∷_, _++_}
 use mathlib.Core.Option.{Option, none, some}
-use lib.ListN.{length, take, drop, getD, set, length-take}
+use lib.ListN.{length, take, getD, set, length-take}
 use lib.Seq.{take-suc, take-all}
 use lib.Dec.{eqb}
 use borrow.Author.Tests.{eqb-true, eqb-false}
-use Rattle.spec.specs.Base.{if_then_else_}
 use Rattle.spec.specs.Kind.{kindWires, ownWires, wires, wire}
-use Rattle.spec.specs.Schema.{badSchema, noEntry, entryOf, entriesOf, schemaOf}
+use Rattle.spec.specs.Schema.{badSchema, noEntry, schemaOf}
 use Rattle.spec.proofs.Laws.{by-test}
-use Rattle.spec.proofs.SchemaLaws.{entry-at, length-entries, Good}
+use Rattle.spec.proofs.SchemaLaws.{length-entries, Good}
 use Rattle.spec.specs.declared.Entry.{Entry}
 use Rattle.wire.proofs.Upto.{equal-below}
 use Rattle.schema.specs.declared.Five.{Five}
-use Rattle.schema.specs.Tables.{counted, upTo, soundOf, rank, nextKey, keyOf, innerIn, innerOf, noted, storing, putKey, putInfo, keysWith, infoWith}
+use Rattle.schema.specs.Tables.{counted, upTo, soundOf, rank, nextKey, keyOf, innerIn, noted, storing, putKey, putInfo, keysWith, infoWith}
 use Rattle.schema.specs.Told.{entry, fiveAt}
 use Rattle.schema.proofs.ValidLaws.{entriesIn, schemaIn, counts-right, counts-wrong, counts-bounds, plain, is-entry, good-five, Here, here-first, here-end, here-five, here-bad, here-good, here-next, here-entry}
 
@@ -56,6 +55,9 @@ wire-small {ws} k e h =
     let m : min 7 (getD kindWires k 0) ≡ getD kindWires k 0 = equal-below (λ n. min 7 (getD kindWires n 0)) (λ n. getD kindWires n 0) 19 k tt (omega arith) in
     let s : getD ws k 0 ≡ getD kindWires k 0 = ap (λ (xs : List ℕ). getD xs k 0) e in
     omega arith
+
+pub wire-below : (k : ℕ) → k ≤ 18 → wire k < 8
+wire-below k h = subst (λ (w : ℕ). w < 8) (wire-in k h) (wire-small k refl h)
 
 pub record Made (types : ℕ) (ns : List ℕ) (i e last : ℕ) (keys₀ keys info₀ info : List ℕ) : Type 0 where
   pub here : Here types ns i e last

@@ -1,11 +1,10 @@
 -- Laws of the search by halves: k does not matter where it is enough; what is found, and when nothing is; and that in a valid schema it is the
 -- entry of an owner and a number.
 -- Assumes nothing.
-use Prim.Native.Nat.{ℕ, zero, suc, _+_, _-_, _*_, _/_, _%_, _^_, _≤_, _<_}
+use Prim.Native.Nat.{ℕ, zero, suc, _+_, _-_, _/_, _≤_, _<_}
 use native.Mathlib.Omega.{arith}
-use mathlib.Core.Path.{_≡_, refl, sym, ap, ap₂, _∙_, subst}
-use mathlib.Core.Bool.{Bool, true, false, not}
-use mathlib.Core.List.{List}
+use mathlib.Core.Path.{_≡_, refl, sym, ap, _∙_, subst}
+use mathlib.Core.Bool.{Bool, not}
 use mathlib.Core.Option.{Option, none, some}
 use lib.ListN.{length}
 use lib.Dec.{ltb, eqb}
@@ -129,9 +128,8 @@ behind-it e (type-before h) is = type-before (omega arith)
 behind-it e (number-before p h) is = number-before (omega arith) (omega arith)
 
 module _ (sch : Schema) (valid : badSchema sch ≡ none) (row : ℕ → ℕ) (count o n key : ℕ) (enough : length (sch .entries) ≤ count)
-  (keyed : (i : ℕ) → i < length (sch .entries) → Keyed o n key (at sch i) (row i))
-  (behind : (i : ℕ) → length (sch .entries) ≤ i → i < count → key < row i) where
-
+    (keyed : (i : ℕ) → i < length (sch .entries) → Keyed o n key (at sch i) (row i))
+    (behind : (i : ℕ) → length (sch .entries) ≤ i → i < count → key < row i) where
   found : (i : ℕ) → placeOf 0 (sch .entries) o n ≡ some i → seek count row count key 0 count ≡ i
   found i e =
       let f = place-found (sch .entries) o n i e in

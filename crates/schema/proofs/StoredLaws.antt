@@ -15,10 +15,9 @@ use Rattle.schema.specs.Tables.{keyOf, innerOf, storing, putKey, putInfo
 
 -- Each entry stores its value in a cell of its own, so that it stands there in the end. A cell that no entry has stays as it was.
 module _ (put : ℕ → Entry → List ℕ → List ℕ) (cell : ℕ → ℕ) (value : Entry → ℕ) (room : ℕ) (Fit : Entry → Type 0)
-  (keeps : (i : ℕ) (e : Entry) (xs : List ℕ) → length (put i e xs) ≡ length xs)
-  (lands : (i : ℕ) (e : Entry) (xs : List ℕ) → i < 256 → room ≤ length xs → Fit e → getD (put i e xs) (cell i) 0 ≡ value e)
-  (spares : (i j : ℕ) (e : Entry) (xs : List ℕ) → i < 256 → j < 256 → (j ≡ i → ⊥) → Fit e → getD (put i e xs) (cell j) 0 ≡ getD xs (cell j) 0) where
-
+    (keeps : (i : ℕ) (e : Entry) (xs : List ℕ) → length (put i e xs) ≡ length xs)
+    (lands : (i : ℕ) (e : Entry) (xs : List ℕ) → i < 256 → room ≤ length xs → Fit e → getD (put i e xs) (cell i) 0 ≡ value e)
+    (spares : (i j : ℕ) (e : Entry) (xs : List ℕ) → i < 256 → j < 256 → (j ≡ i → ⊥) → Fit e → getD (put i e xs) (cell j) 0 ≡ getD xs (cell j) 0) where
   abbrev All : List Entry → Type 0
   All es = (k : ℕ) → k < length es → Fit (getD es k noEntry)
 
@@ -98,8 +97,7 @@ module _ (i : ℕ) (e : Entry) (xs : List ℕ) where
       (λ p. refl)
 
 module _ (es : List Entry) (xs : List ℕ) (few : length es ≤ 256) (wide : 1024 ≤ length xs)
-  (owned : (k : ℕ) → k < length es → getD es k noEntry .owner < 32) where
-
+    (owned : (k : ℕ) → k < length es → getD es k noEntry .owner < 32) where
   pub kinds-at : (k : ℕ) → k < length es → getD (infoWith 0 es xs) (512 + k) 0 ≡ getD es k noEntry .kind
   kinds-at k l =
       stored putInfo (λ i. 512 + i) (λ e. e .kind) 1024 (λ e. e .owner < 32) info-keeps

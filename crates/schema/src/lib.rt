@@ -10,7 +10,6 @@ ghost use Rattle.spec.specs.Schema.{goodEntry, badSchema, schemaOf};
 ghost use Rattle.schema.specs.Search.{seek, findIn};
 ghost use Rattle.schema.specs.Tables.{counted, nextKey, innerIn, noted, soundOf, keysWith, infoWith, keyAt, entryFor, unknown, typed, tableSays};
 ghost use Rattle.schema.specs.Told.{entry, fiveAt, told, place, said};
-
 use wire::wire_format;
 
 // The numbers of an entry.
@@ -266,15 +265,9 @@ fn typed(keys: &[u64; 256], info: &[u8; 1024], i: usize, key: u64, tag: u32) -> 
     let inner = info[768 + i];
     if keys[i] == key {
         if kind == 11 {
-            return Said {
-                kind,
-                inner,
-            };
+            return Said { kind, inner };
         }
-        return Said {
-            kind,
-            inner: 0,
-        };
+        return Said { kind, inner: 0 };
     }
     if tag % 8 == 2 {
         if inner == 255 {

@@ -1,27 +1,18 @@
 -- `schema::check` meets its contract. The loop's invariant: the entries passed are good and rise, so that the rest decides. Assumes nothing.
-use native.Mathlib.Omega.{arith}
 use borrow.Author.Needs.{needs}
 use borrow.Author.Tests.{not-true, not-false}
-use mathlib.Core.Path.{_≡_, refl, sym, ap, ap₂, _∙_}
-use Prim.Native.Nat.{ℕ, suc, _+_, _-_, _*_, _/_, _%_, _^_, _≤_, _<_}
+use mathlib.Core.Path.{sym, _∙_}
+use Prim.Native.Nat.{_-_}
 use lib.ListN.{length}
 use Rattle.schema.proofs.ValidLaws.{counts-wrong, Here, here-first, here-end, here-five, here-bad, here-next}
 use Rattle.schema.proofs.check.Statement.{statement}
 use Rattle.schema.proofs.check.Tie as tie
-use Rattle.schema.proofs.check.Reads as reads
-use Rattle.schema.proofs.check.Lts as lts
-use Rattle.schema.proofs.counts_ok.Reads as counts-ok-reads
-use Rattle.schema.proofs.five_at.Reads as five-at-reads
-use Rattle.schema.proofs.next_key.Reads as next-key-reads
 
 abbrev Inv-loop : tie.InvT-loop
 Inv-loop types numbers i₀ e₀ last₀ i e last = Here types numbers i e last
 
 abbrev μ-loop : tie.MeasureT-loop
 μ-loop types numbers i₀ e₀ last₀ i e last = length numbers - i
-
-counts-ok-requires : tie.Need-counts-ok-requires Inv-loop μ-loop
-counts-ok-requires c κs = search needs
 
 returns : tie.Need-returns Inv-loop μ-loop
 returns c = sym (counts-wrong (c .before .before .before .args .types) (c .before .before .before .args .numbers .now) (sym (c .before .counts-ok .ensures) ∙ not-true (c .before .counts-ok .result) (c .if1 .taken)))
@@ -32,20 +23,8 @@ loop-holds c = here-first (c .before .before .before .args .types) (c .before .b
 five-at-requires : tie.Need-five-at-requires Inv-loop μ-loop
 five-at-requires c κs = here-five (c .before .loop .inv) (c .loop-test .taken)
 
-next-key-requires : tie.Need-next-key-requires Inv-loop μ-loop
-next-key-requires c κs = search needs
-
 returns-2 : tie.Need-returns-2 Inv-loop μ-loop
 returns-2 c = sym (here-bad (c .before .before .before .before .loop .inv) (c .before .before .before .loop-test .taken) (c .before .before .five-at .ensures) (c .before .next-key .ensures) (c .if2 .taken))
-
-add-i : tie.Need-add-i Inv-loop μ-loop
-add-i c = search needs
-
-add-e : tie.Need-add-e Inv-loop μ-loop
-add-e c = search needs
-
-loop-less : tie.Need-loop-less Inv-loop μ-loop
-loop-less c = search needs
 
 loop-again : tie.Need-loop-again Inv-loop μ-loop
 loop-again c = here-next (c .before .before .before .before .loop .inv) (c .before .before .before .loop-test .taken) (c .before .before .five-at .ensures) (c .before .next-key .ensures) (c .if2 .left)
@@ -59,14 +38,14 @@ check-spec =
     (tie.spec
     Inv-loop
     μ-loop
-    counts-ok-requires
+    (λ c κs. search needs)
     returns
     loop-holds
     five-at-requires
-    next-key-requires
+    (λ c κs. search needs)
     returns-2
-    add-i
-    add-e
-    loop-less
+    (λ c. search needs)
+    (λ c. search needs)
+    (λ c. search needs)
     loop-again
     returns-3)

@@ -3,8 +3,6 @@ use native.Mathlib.Omega.{arith}
 use borrow.Author.Tests.{le-leb, lt-leb}
 use Rattle.schema.proofs.counts_ok.Statement.{statement}
 use Rattle.schema.proofs.counts_ok.Tie as tie
-use Rattle.schema.proofs.counts_ok.Reads as reads
-use Rattle.schema.proofs.counts_ok.Lts as lts
 
 returns : tie.Need-returns
 returns c = simp (lt-leb 1 (c .before .args .types) (omega arith))

@@ -6,8 +6,6 @@ use borrow.Author.Tests.{eq-eqb, ne-eqb}
 use Rattle.schema.specs.declared.Five.{Five}
 use Rattle.schema.proofs.entry_ok.Statement.{statement}
 use Rattle.schema.proofs.entry_ok.Tie as tie
-use Rattle.schema.proofs.entry_ok.Reads as reads
-use Rattle.schema.proofs.entry_ok.Lts as lts
 use Rattle.schema.proofs.ValidLaws.{bad-five, child-decides}
 
 returns : tie.Need-returns

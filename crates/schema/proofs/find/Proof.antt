@@ -1,19 +1,17 @@
 -- `schema::find` meets its contract. The loop's invariant: what is searched in all is what is searched from here. Assumes nothing.
 use native.Mathlib.Omega.{arith}
 use borrow.Author.Needs.{needs}
-use mathlib.Core.Path.{_≡_, refl, sym, ap, ap₂, _∙_}
-use Prim.Native.Nat.{ℕ, suc, _+_, _-_, _*_, _/_, _%_, _^_, _≤_, _<_}
+use mathlib.Core.Path.{_≡_, sym, ap, _∙_}
+use Prim.Native.Nat.{ℕ, _+_, _-_, _*_, _/_, _^_, _≤_}
 use lib.ListN.{length}
 use mathlib.Core.Bool.{Bool}
-use mathlib.Core.Option.{Option, none, some}
+use mathlib.Core.Option.{none, some}
 use borrow.Author.Tests.{lt-ltb, le-ltb}
 use Rattle.spec.specs.Base.{if_then_else_}
 use Rattle.schema.specs.Search.{seek, ownerNumber, within, findIn}
 use Rattle.schema.proofs.SearchLaws.{halves-end, halves-here, halves-above, halves-below}
 use Rattle.schema.proofs.find.Statement.{statement}
 use Rattle.schema.proofs.find.Tie as tie
-use Rattle.schema.proofs.find.Reads as reads
-use Rattle.schema.proofs.find.Lts as lts
 
 abbrev Inv-loop : tie.InvT-loop
 Inv-loop numbers owner number key lo₀ hi₀ lo hi = (lo ≤ hi) × (hi ≤ length numbers / 5) × (findIn numbers owner number ≡ within (length numbers / 5) (seek (hi - lo) (ownerNumber numbers) (length numbers / 5) (owner * 2 ^ 32 + number) lo hi))
@@ -21,42 +19,12 @@ Inv-loop numbers owner number key lo₀ hi₀ lo hi = (lo ≤ hi) × (hi ≤ len
 abbrev μ-loop : tie.MeasureT-loop
 μ-loop numbers owner number key lo₀ hi₀ lo hi = hi - lo
 
-mul-key : tie.Need-mul-key Inv-loop μ-loop
-mul-key c = search needs
-
-add-key : tie.Need-add-key Inv-loop μ-loop
-add-key c = search needs
-
 loop-holds : tie.Need-loop-holds Inv-loop μ-loop
 unfolding findIn
 loop-holds c =
     let n : ℕ = length (c .args .numbers .now) / 5 in
     let z : n ≡ n - 0 = omega arith in
     (omega arith, omega arith, ap (λ (k : ℕ). within n (seek k (ownerNumber (c .args .numbers .now)) n (c .args .owner * 2 ^ 32 + c .args .number) 0 n)) z)
-
-add-mid : tie.Need-add-mid Inv-loop μ-loop
-add-mid c = search needs
-
-mul-o : tie.Need-mul-o Inv-loop μ-loop
-mul-o c = search needs
-
-mul-o-2 : tie.Need-mul-o-2 Inv-loop μ-loop
-mul-o-2 c = search needs
-
-shared-slice-read-o : tie.Need-shared-slice-read-o Inv-loop μ-loop
-shared-slice-read-o c = search needs
-
-mul-n : tie.Need-mul-n Inv-loop μ-loop
-mul-n c = search needs
-
-add-n : tie.Need-add-n Inv-loop μ-loop
-add-n c = search needs
-
-mul-n-2 : tie.Need-mul-n-2 Inv-loop μ-loop
-mul-n-2 c = search needs
-
-shared-slice-read-n : tie.Need-shared-slice-read-n Inv-loop μ-loop
-shared-slice-read-n c = search needs
 
 cast-here : tie.Need-cast-here Inv-loop μ-loop
 cast-here c = omega (arith, c .shared-slice-known2 .given ((c .before .before .before .loop .lo + c .before .before .before .loop .hi) / 2 * 5))
@@ -77,17 +45,8 @@ returns c =
     sym (c .before .before .before .before .loop .inv .2 ∙ ap (within n) (halves-here (ownerNumber (c .before .before .before .before .before .args .numbers .now)) (length (c .before .before .before .before .before .args .numbers .now) / 5) (c .before .before .before .before .before .args .owner * 2 ^ 32 + c .before .before .before .before .before .args .number) (c .before .before .before .before .loop .lo) (c .before .before .before .before .loop .hi) (c .before .before .before .loop-test .taken) (c .if1 .taken))
     ∙ ap (λ (b : Bool). if b then some mid else none) (lt-ltb mid n (omega arith)))
 
-add-lo : tie.Need-add-lo Inv-loop μ-loop
-add-lo c = search needs
-
-loop-less : tie.Need-loop-less Inv-loop μ-loop
-loop-less c = search needs
-
 loop-again : tie.Need-loop-again Inv-loop μ-loop
 loop-again c = (omega arith, omega arith, c .before .before .before .before .before .loop .inv .2 ∙ ap (within (length (c .before .before .before .before .before .before .args .numbers .now) / 5)) (halves-above (ownerNumber (c .before .before .before .before .before .before .args .numbers .now)) (length (c .before .before .before .before .before .before .args .numbers .now) / 5) (c .before .before .before .before .before .before .args .owner * 2 ^ 32 + c .before .before .before .before .before .before .args .number) (c .before .before .before .before .before .loop .lo) (c .before .before .before .before .before .loop .hi) (c .before .before .before .before .loop-test .taken) (c .if2 .taken)))
-
-loop-less-2 : tie.Need-loop-less-2 Inv-loop μ-loop
-loop-less-2 c = search needs
 
 loop-again-2 : tie.Need-loop-again-2 Inv-loop μ-loop
 loop-again-2 c = (omega arith, omega arith, c .before .before .before .before .before .loop .inv .2 ∙ ap (within (length (c .before .before .before .before .before .before .args .numbers .now) / 5)) (halves-below (ownerNumber (c .before .before .before .before .before .before .args .numbers .now)) (length (c .before .before .before .before .before .before .args .numbers .now) / 5) (c .before .before .before .before .before .before .args .owner * 2 ^ 32 + c .before .before .before .before .before .before .args .number) (c .before .before .before .before .before .loop .lo) (c .before .before .before .before .before .loop .hi) (c .before .before .before .before .loop-test .taken) (omega arith)))
@@ -103,25 +62,25 @@ find-spec =
     (tie.spec
     Inv-loop
     μ-loop
-    mul-key
-    add-key
+    (λ c. search needs)
+    (λ c. search needs)
     loop-holds
-    add-mid
-    mul-o
-    mul-o-2
-    shared-slice-read-o
-    mul-n
-    add-n
-    mul-n-2
-    shared-slice-read-n
+    (λ c. search needs)
+    (λ c. search needs)
+    (λ c. search needs)
+    (λ c. search needs)
+    (λ c. search needs)
+    (λ c. search needs)
+    (λ c. search needs)
+    (λ c. search needs)
     cast-here
     mul-here
     cast-here-2
     add-here
     returns
-    add-lo
-    loop-less
+    (λ c. search needs)
+    (λ c. search needs)
     loop-again
-    loop-less-2
+    (λ c. search needs)
     loop-again-2
     returns-2)

@@ -1,19 +1,12 @@
 -- `schema::inner_of` meets its contract: the tests are the definition's. Assumes nothing.
-use native.Mathlib.Omega.{arith}
 use borrow.Author.Needs.{needs}
 use borrow.Author.Tests.{eq-eqb, ne-eqb}
 use mathlib.Core.Bool.{Bool, _&&_, not, and-false}
-use mathlib.Core.Path.{_≡_, refl, sym, ap, ap₂, _∙_}
-use Prim.Native.Nat.{ℕ, suc, _+_, _-_, _*_, _/_, _%_, _^_, _≤_, _<_}
+use mathlib.Core.Path.{sym, ap, _∙_}
 use lib.Dec.{eqb}
 use Rattle.spec.specs.Base.{if_then_else_}
 use Rattle.schema.proofs.inner_of.Statement.{statement}
 use Rattle.schema.proofs.inner_of.Tie as tie
-use Rattle.schema.proofs.inner_of.Reads as reads
-use Rattle.schema.proofs.inner_of.Lts as lts
-
-cast-result : tie.Need-cast-result
-cast-result c = search needs
 
 returns : tie.Need-returns
 returns c =
@@ -26,13 +19,10 @@ returns-2 c =
     let a = c .before .before .args in
     simp (eq-eqb (a .repeated) 1 (c .if2 .taken), ne-eqb (a .w) 2 (c .before .if1 .left))
 
-cast-result-2 : tie.Need-cast-result-2
-cast-result-2 c = search needs
-
 returns-3 : tie.Need-returns-3
 returns-3 c =
     let a = c .before .before .args in
     simp (ne-eqb (a .repeated) 1 (c .if2 .left))
 
 pub inner-of-spec : {M : Type 1} → statement M
-inner-of-spec = tie.close (tie.spec cast-result returns returns-2 cast-result-2 returns-3)
+inner-of-spec = tie.close (tie.spec (λ c. search needs) returns returns-2 (λ c. search needs) returns-3)

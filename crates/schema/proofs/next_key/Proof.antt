@@ -2,41 +2,22 @@
 use native.Mathlib.Omega.{arith}
 use borrow.Author.Needs.{needs}
 use borrow.Author.Tests.{not-true, not-false, lt-ltb, le-ltb}
-use mathlib.Core.Bool.{Bool, true, false, _&&_, and-false}
-use mathlib.Core.Path.{_≡_, refl, sym, ap, ap₂, _∙_}
-use Prim.Native.Nat.{ℕ, suc, _+_, _-_, _*_, _/_, _%_, _^_, _≤_, _<_}
+use mathlib.Core.Bool.{Bool, true, false, _&&_}
+use mathlib.Core.Path.{_≡_, sym, ap, ap₂, _∙_}
+use Prim.Native.Nat.{_+_, _*_, _^_}
 use lib.Dec.{ltb}
-use Rattle.spec.specs.Base.{if_then_else_}
 use Rattle.spec.specs.Schema.{goodEntry}
-use Rattle.schema.specs.Tables.{rank, nextKey}
+use Rattle.schema.specs.Tables.{rank}
 use Rattle.schema.specs.Told.{entry}
 use Rattle.schema.proofs.ValidLaws.{is-entry, good-five, key-passed, key-refused}
 use Rattle.schema.proofs.next_key.Statement.{statement}
 use Rattle.schema.proofs.next_key.Tie as tie
-use Rattle.schema.proofs.next_key.Reads as reads
-use Rattle.schema.proofs.next_key.Lts as lts
-use Rattle.schema.proofs.entry_ok.Reads as entry-ok-reads
-
-entry-ok-requires : tie.Need-entry-ok-requires
-entry-ok-requires c κs = search needs
 
 returns : tie.Need-returns
 returns c =
     let a = c .before .before .args in
     let bad : goodEntry (a .types) (entry (a .f)) ≡ false = sym (c .before .entry-ok .ensures) ∙ not-true (c .before .entry-ok .result) (c .if1 .taken) in
     sym (key-refused (a .types) (a .last) (entry (a .f)) (ap (λ (b : Bool). b && ltb (a .last) (rank (entry (a .f)))) bad))
-
-cast-key : tie.Need-cast-key
-cast-key c = search needs
-
-mul-key : tie.Need-mul-key
-mul-key c = search needs
-
-cast-key-2 : tie.Need-cast-key-2
-cast-key-2 c = search needs
-
-mul-key-2 : tie.Need-mul-key-2
-mul-key-2 c = search needs
 
 add-key : tie.Need-add-key
 add-key c =
@@ -63,12 +44,12 @@ pub next-key-spec : {M : Type 1} → statement M
 next-key-spec =
     tie.close
     (tie.spec
-    entry-ok-requires
+    (λ c κs. search needs)
     returns
-    cast-key
-    mul-key
-    cast-key-2
-    mul-key-2
+    (λ c. search needs)
+    (λ c. search needs)
+    (λ c. search needs)
+    (λ c. search needs)
     add-key
     returns-2
     returns-3)

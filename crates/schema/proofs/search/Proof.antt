@@ -1,15 +1,13 @@
 -- `schema::search` meets its contract. The loop's invariant: what is searched in all is what is searched from here. Assumes nothing.
 use native.Mathlib.Omega.{arith}
 use borrow.Author.Needs.{needs}
-use mathlib.Core.Path.{_≡_, refl, sym, ap, ap₂, _∙_}
-use Prim.Native.Nat.{ℕ, suc, _+_, _-_, _*_, _/_, _%_, _^_, _≤_, _<_}
+use mathlib.Core.Path.{_≡_, refl, sym, _∙_}
+use Prim.Native.Nat.{_-_, _≤_}
 use Rattle.schema.specs.Search.{seek}
 use Rattle.schema.specs.Tables.{keyAt}
 use Rattle.schema.proofs.SearchLaws.{halves-end, halves-here, halves-above, halves-below}
 use Rattle.schema.proofs.search.Statement.{statement}
 use Rattle.schema.proofs.search.Tie as tie
-use Rattle.schema.proofs.search.Reads as reads
-use Rattle.schema.proofs.search.Lts as lts
 
 abbrev Inv-loop : tie.InvT-loop
 Inv-loop keys key lo₀ hi₀ lo hi = (lo ≤ hi) × (hi ≤ 256) × (seek 256 (keyAt keys) 256 key 0 256 ≡ seek (hi - lo) (keyAt keys) 256 key lo hi)
@@ -20,29 +18,11 @@ abbrev μ-loop : tie.MeasureT-loop
 loop-holds : tie.Need-loop-holds Inv-loop μ-loop
 loop-holds c = (omega arith, omega arith, refl)
 
-add-mid : tie.Need-add-mid Inv-loop μ-loop
-add-mid c = search needs
-
-mul-here : tie.Need-mul-here Inv-loop μ-loop
-mul-here c = search needs
-
-element-copy-out-here : tie.Need-element-copy-out-here Inv-loop μ-loop
-element-copy-out-here c = search needs
-
 returns : tie.Need-returns Inv-loop μ-loop
 returns c = sym (c .before .before .before .loop .inv .2 ∙ halves-here (keyAt (c .before .before .before .before .args .keys .now)) 256 (c .before .before .before .before .args .key) (c .before .before .before .loop .lo) (c .before .before .before .loop .hi) (c .before .before .loop-test .taken) (c .if1 .taken))
 
-add-lo : tie.Need-add-lo Inv-loop μ-loop
-add-lo c = search needs
-
-loop-less : tie.Need-loop-less Inv-loop μ-loop
-loop-less c = search needs
-
 loop-again : tie.Need-loop-again Inv-loop μ-loop
 loop-again c = (omega arith, omega arith, c .before .before .before .before .loop .inv .2 ∙ halves-above (keyAt (c .before .before .before .before .before .args .keys .now)) 256 (c .before .before .before .before .before .args .key) (c .before .before .before .before .loop .lo) (c .before .before .before .before .loop .hi) (c .before .before .before .loop-test .taken) (c .if2 .taken))
-
-loop-less-2 : tie.Need-loop-less-2 Inv-loop μ-loop
-loop-less-2 c = search needs
 
 loop-again-2 : tie.Need-loop-again-2 Inv-loop μ-loop
 loop-again-2 c = (omega arith, omega arith, c .before .before .before .before .loop .inv .2 ∙ halves-below (keyAt (c .before .before .before .before .before .args .keys .now)) 256 (c .before .before .before .before .before .args .key) (c .before .before .before .before .loop .lo) (c .before .before .before .before .loop .hi) (c .before .before .before .loop-test .taken) (omega arith))
@@ -57,13 +37,13 @@ search-spec =
     Inv-loop
     μ-loop
     loop-holds
-    add-mid
-    mul-here
-    element-copy-out-here
+    (λ c. search needs)
+    (λ c. search needs)
+    (λ c. search needs)
     returns
-    add-lo
-    loop-less
+    (λ c. search needs)
+    (λ c. search needs)
     loop-again
-    loop-less-2
+    (λ c. search needs)
     loop-again-2
     returns-2)

@@ -3,24 +3,14 @@
 use native.Mathlib.Omega.{arith}
 use borrow.Author.Needs.{needs}
 use borrow.Author.Tests.{not-true, not-false}
-use mathlib.Core.Path.{_≡_, refl, sym, ap, ap₂, _∙_}
-use Prim.Native.Nat.{ℕ, suc, _+_, _-_, _*_, _/_, _%_, _^_, _≤_, _<_}
+use mathlib.Core.Path.{sym, ap, _∙_}
+use Prim.Native.Nat.{ℕ, _-_}
 use mathlib.Core.List.{List}
 use lib.ListN.{length, getD}
-use Rattle.schema.specs.declared.Five.{Five}
-use Rattle.schema.specs.Told.{entry, fiveAt}
-use Rattle.schema.specs.Tables.{nextKey}
 use Rattle.schema.proofs.ValidLaws.{here-five}
 use Rattle.schema.proofs.MakingLaws.{Made, made-none, made-first, made-all, made-bad, made-fits, made-next, wire-small}
 use Rattle.schema.proofs.tables.Statement.{statement}
 use Rattle.schema.proofs.tables.Tie as tie
-use Rattle.schema.proofs.tables.Reads as reads
-use Rattle.schema.proofs.tables.Lts as lts
-use Rattle.schema.proofs.counts_ok.Reads as counts-ok-reads
-use Rattle.schema.proofs.five_at.Reads as five-at-reads
-use Rattle.schema.proofs.next_key.Reads as next-key-reads
-use Rattle.schema.proofs.note.Reads as note-reads
-use Rattle.wire.proofs.wire_format.kind_wires.Reads as kind-wires-reads
 
 abbrev Inv-loop : tie.InvT-loop
 Inv-loop types numbers keys₀ info₀ wires i₀ e₀ last₀ keys info i e last = Made types numbers i e last keys₀ keys info₀ info
@@ -28,14 +18,8 @@ Inv-loop types numbers keys₀ info₀ wires i₀ e₀ last₀ keys info i e las
 abbrev μ-loop : tie.MeasureT-loop
 μ-loop types numbers keys₀ info₀ wires i₀ e₀ last₀ keys info i e last = length numbers - i
 
-counts-ok-requires : tie.Need-counts-ok-requires Inv-loop μ-loop
-counts-ok-requires c κs = search needs
-
 returns : tie.Need-returns Inv-loop μ-loop
 returns c = made-none (c .before .before .before .args .types) (c .before .before .before .args .numbers .now) (c .before .before .before .args .keys .now) (c .before .before .before .args .info .now) (sym (c .before .counts-ok .ensures) ∙ not-true (c .before .counts-ok .result) (c .if1 .taken))
-
-kind-wires-requires : tie.Need-kind-wires-requires Inv-loop μ-loop
-kind-wires-requires c κs = search needs
 
 loop-holds : tie.Need-loop-holds Inv-loop μ-loop
 loop-holds c = made-first (c .before .before .before .before .args .types) (c .before .before .before .before .args .numbers .now) (c .before .before .before .before .args .keys .now) (c .before .before .before .before .args .info .now) (sym (c .before .before .counts-ok .ensures) ∙ not-false (c .before .before .counts-ok .result) (c .before .if1 .left))
@@ -43,14 +27,8 @@ loop-holds c = made-first (c .before .before .before .before .args .types) (c .b
 five-at-requires : tie.Need-five-at-requires Inv-loop μ-loop
 five-at-requires c κs = here-five (c .before .loop .inv .here) (c .loop-test .taken)
 
-next-key-requires : tie.Need-next-key-requires Inv-loop μ-loop
-next-key-requires c κs = search needs
-
 returns-2 : tie.Need-returns-2 Inv-loop μ-loop
 returns-2 c = made-bad (c .before .before .before .before .loop .inv) (c .before .before .before .loop-test .taken) (c .before .before .five-at .ensures) (c .before .next-key .ensures) (c .if2 .taken)
-
-cast-w : tie.Need-cast-w Inv-loop μ-loop
-cast-w c = search needs
 
 array-read-w : tie.Need-array-read-w Inv-loop μ-loop
 array-read-w c = omega (arith, made-fits (c .before .before .before .before .before .loop .inv) (c .before .before .before .before .loop-test .taken) (c .before .before .before .five-at .ensures) (c .before .before .next-key .ensures) (c .before .if2 .left) .2)
@@ -81,15 +59,6 @@ note-requires c κs =
     let l = made-fits (c .before .before .before .before .before .before .loop .inv) (c .before .before .before .before .before .loop-test .taken) (c .before .before .before .before .five-at .ensures) (c .before .before .before .next-key .ensures) (c .before .before .if2 .left) in
     (l .0, l .1, omega (arith, l .2), l .3)
 
-add-i : tie.Need-add-i Inv-loop μ-loop
-add-i c = search needs
-
-add-e : tie.Need-add-e Inv-loop μ-loop
-add-e c = search needs
-
-loop-less : tie.Need-loop-less Inv-loop μ-loop
-loop-less c = search needs
-
 loop-again : tie.Need-loop-again Inv-loop μ-loop
 loop-again c =
     let w : ℕ = getD (c .before .before .before .before .before .before .before .before .kind-wires .result) (c .before .before .before .before .before .five-at .result .kind) 0 in
@@ -105,22 +74,22 @@ tables-spec =
     (tie.spec
     Inv-loop
     μ-loop
-    counts-ok-requires
+    (λ c κs. search needs)
     returns
-    kind-wires-requires
+    (λ c κs. search needs)
     loop-holds
     five-at-requires
-    next-key-requires
+    (λ c κs. search needs)
     returns-2
-    cast-w
+    (λ c. search needs)
     array-read-w
     cast-keys
     add-keys
     mul-keys
     element-write-keys
     note-requires
-    add-i
-    add-e
-    loop-less
+    (λ c. search needs)
+    (λ c. search needs)
+    (λ c. search needs)
     loop-again
     returns-3)
