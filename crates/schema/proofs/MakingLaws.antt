@@ -1,8 +1,8 @@
 -- The tables while they are made: an array after some entries holds what each of them stored in turn. Assumes nothing.
-use Prim.Native.Nat.{ℕ, suc, _+_, _*_, _/_, _^_, _≤_, _<_, min}
+use Prim.Native.Nat.{ℕ, suc, _+_, _/_, _^_, _≤_, _<_, min}
 use native.Mathlib.Omega.{arith}
 use native.Mathlib.Numerals.{add-one}
-use mathlib.Core.Path.{_≡_, refl, sym, ap, ap₂, _∙_, subst}
+use mathlib.Core.Path.{_≡_, refl, sym, ap, ap₂, _∙_}
 use mathlib.Core.Bool.{true, false}
 use mathlib.Core.List.{List, [], _∷_, _++_}
 use mathlib.Core.Option.{Option, none, some}
@@ -48,16 +48,11 @@ wire-in : (k : ℕ) → k ≤ 18 → getD kindWires k 0 ≡ wire k
 unfolding kindWires ownWires wires wire
 wire-in k h = equal-below (λ n. getD kindWires n 0) wire 19 k tt (omega arith)
 
--- and small
-pub wire-small : {ws : List ℕ} (k : ℕ) → ws ≡ kindWires → k ≤ 18 → getD ws k 0 < 8
-unfolding kindWires
-wire-small {ws} k e h =
-    let m : min 7 (getD kindWires k 0) ≡ getD kindWires k 0 = equal-below (λ n. min 7 (getD kindWires n 0)) (λ n. getD kindWires n 0) 19 k tt (omega arith) in
-    let s : getD ws k 0 ≡ getD kindWires k 0 = ap (λ (xs : List ℕ). getD xs k 0) e in
-    omega arith
-
 pub wire-below : (k : ℕ) → k ≤ 18 → wire k < 8
-wire-below k h = subst (λ (w : ℕ). w < 8) (wire-in k h) (wire-small k refl h)
+unfolding kindWires ownWires wires wire
+wire-below k h =
+    let m : min 7 (wire k) ≡ wire k = equal-below (λ n. min 7 (wire n)) wire 19 k tt (omega arith) in
+    omega arith
 
 pub record Made (types : ℕ) (ns : List ℕ) (i e last : ℕ) (keys₀ keys info₀ info : List ℕ) : Type 0 where
   pub here : Here types ns i e last
@@ -130,7 +125,7 @@ module _ {types : ℕ} {ns : List ℕ} {i e last : ℕ} {keys₀ keys info₀ in
             (λ p. let c = g .no-child (eqb-false (f .kind) 11 p) in omega arith)
 
         -- what the code may store
-        pub made-fits : (e < 256) × (f .owner < 32) × (f .kind ≤ 18) × (f .child < 256) × (key < 32 * 2 ^ 32)
+        pub made-fits : (e < 256) × (f .owner < 32) × (f .kind ≤ 18) × (f .child < 256) × (key < 2 ^ 63)
         made-fits =
             let a = m .here .five in
             let g = good .1 in

@@ -16,33 +16,37 @@ use Rattle.spec.proofs.SchemaLaws.{Is, Before, type-before, number-before, at, 
 use Rattle.spec.specs.declared.Entry.{Entry}
 use Rattle.schema.specs.Search.{seek}
 
+abbrev middle : ℕ → ℕ → ℕ
+middle lo hi = (lo + hi) / 2
+
 module _ (row : ℕ → ℕ) (lost key : ℕ) where
   -- what is left of the search, with k to count down
   abbrev Left : ℕ → ℕ → ℕ → ℕ
   Left k lo hi = seek k row lost key lo hi
 
   -- one step, whose k is for the next ones
+  abbrev Next : ℕ → ℕ → ℕ → ℕ
+  Next k lo hi =
+      if eqb (row (middle lo hi)) key then middle lo hi else
+      if ltb (row (middle lo hi)) key then Left k (middle lo hi + 1) hi else Left k lo (middle lo hi)
+
   step-end : (k lo hi : ℕ) → hi ≤ lo → Left k lo hi ≡ lost
   unfolding seek
   step-end zero lo hi h = refl
-  step-end (suc k) lo hi h =
-      ap (λ (b : Bool). if not b then lost else if eqb (row ((lo + hi) / 2)) key then (lo + hi) / 2 else if ltb (row ((lo + hi) / 2)) key then Left k ((lo + hi) / 2 + 1) hi else Left k lo ((lo + hi) / 2))
-      (le-ltb lo hi h)
+  step-end (suc k) lo hi h = ap (λ (b : Bool). if not b then lost else Next k lo hi) (le-ltb lo hi h)
 
-  step : (k lo hi : ℕ) → lo < hi → Left (suc k) lo hi ≡ (if eqb (row ((lo + hi) / 2)) key then (lo + hi) / 2 else if ltb (row ((lo + hi) / 2)) key then Left k ((lo + hi) / 2 + 1) hi else Left k lo ((lo + hi) / 2))
+  step : (k lo hi : ℕ) → lo < hi → Left (suc k) lo hi ≡ Next k lo hi
   unfolding seek
-  step k lo hi h =
-      ap (λ (b : Bool). if not b then lost else if eqb (row ((lo + hi) / 2)) key then (lo + hi) / 2 else if ltb (row ((lo + hi) / 2)) key then Left k ((lo + hi) / 2 + 1) hi else Left k lo ((lo + hi) / 2))
-      (lt-ltb lo hi h)
+  step k lo hi h = ap (λ (b : Bool). if not b then lost else Next k lo hi) (lt-ltb lo hi h)
 
-  step-here : (k lo hi : ℕ) → lo < hi → row ((lo + hi) / 2) ≡ key → Left (suc k) lo hi ≡ (lo + hi) / 2
-  step-here k lo hi h e = step k lo hi h ∙ simp (eq-eqb (row ((lo + hi) / 2)) key e)
+  step-here : (k lo hi : ℕ) → lo < hi → row (middle lo hi) ≡ key → Left (suc k) lo hi ≡ middle lo hi
+  step-here k lo hi h e = step k lo hi h ∙ simp (eq-eqb (row (middle lo hi)) key e)
 
-  step-above : (k lo hi : ℕ) → lo < hi → row ((lo + hi) / 2) < key → Left (suc k) lo hi ≡ Left k ((lo + hi) / 2 + 1) hi
-  step-above k lo hi h l = step k lo hi h ∙ simp (ne-eqb (row ((lo + hi) / 2)) key (λ e. omega arith), lt-ltb (row ((lo + hi) / 2)) key l)
+  step-above : (k lo hi : ℕ) → lo < hi → row (middle lo hi) < key → Left (suc k) lo hi ≡ Left k (middle lo hi + 1) hi
+  step-above k lo hi h l = step k lo hi h ∙ simp (ne-eqb (row (middle lo hi)) key (λ e. omega arith), lt-ltb (row (middle lo hi)) key l)
 
-  step-below : (k lo hi : ℕ) → lo < hi → key < row ((lo + hi) / 2) → Left (suc k) lo hi ≡ Left k lo ((lo + hi) / 2)
-  step-below k lo hi h l = step k lo hi h ∙ simp (ne-eqb (row ((lo + hi) / 2)) key (λ e. omega arith), le-ltb (row ((lo + hi) / 2)) key (omega arith))
+  step-below : (k lo hi : ℕ) → lo < hi → key < row (middle lo hi) → Left (suc k) lo hi ≡ Left k lo (middle lo hi)
+  step-below k lo hi h l = step k lo hi h ∙ simp (ne-eqb (row (middle lo hi)) key (λ e. omega arith), le-ltb (row (middle lo hi)) key (omega arith))
 
   -- where the middle stands to the key
   by-order {ℓ} : {X : Type ℓ} (x : ℕ) → (x ≡ key → X) → (x < key → X) → (key < x → X) → X
@@ -54,10 +58,10 @@ module _ (row : ℕ → ℕ) (lost key : ℕ) where
   search-enough (suc j) zero lo hi p q = step-end (suc j) lo hi (omega arith) ∙ sym (step-end zero lo hi (omega arith))
   search-enough (suc j) (suc k) lo hi p q =
       lower-or-not lo hi
-      (λ h. by-order (row ((lo + hi) / 2))
+      (λ h. by-order (row (middle lo hi))
       (λ e. step-here j lo hi h e ∙ sym (step-here k lo hi h e))
-      (λ l. step-above j lo hi h l ∙ search-enough j k ((lo + hi) / 2 + 1) hi (omega arith) (omega arith) ∙ sym (step-above k lo hi h l))
-      (λ l. step-below j lo hi h l ∙ search-enough j k lo ((lo + hi) / 2) (omega arith) (omega arith) ∙ sym (step-below k lo hi h l)))
+      (λ l. step-above j lo hi h l ∙ search-enough j k (middle lo hi + 1) hi (omega arith) (omega arith) ∙ sym (step-above k lo hi h l))
+      (λ l. step-below j lo hi h l ∙ search-enough j k lo (middle lo hi) (omega arith) (omega arith) ∙ sym (step-below k lo hi h l)))
       (λ h. step-end (suc j) lo hi h ∙ sym (step-end (suc k) lo hi h))
 
   -- nothing is found where the key is nowhere
@@ -66,10 +70,10 @@ module _ (row : ℕ → ℕ) (lost key : ℕ) where
   search-misses zero lo hi away = refl
   search-misses (suc k) lo hi away =
       lower-or-not lo hi
-      (λ h. by-order (row ((lo + hi) / 2))
-      (λ e. absurd (away ((lo + hi) / 2) (omega arith) (omega arith) e))
-      (λ l. step-above k lo hi h l ∙ search-misses k ((lo + hi) / 2 + 1) hi (λ j a b. away j (omega arith) b))
-      (λ l. step-below k lo hi h l ∙ search-misses k lo ((lo + hi) / 2) (λ j a b. away j a (omega arith))))
+      (λ h. by-order (row (middle lo hi))
+      (λ e. absurd (away (middle lo hi) (omega arith) (omega arith) e))
+      (λ l. step-above k lo hi h l ∙ search-misses k (middle lo hi + 1) hi (λ j a b. away j (omega arith) b))
+      (λ l. step-below k lo hi h l ∙ search-misses k lo (middle lo hi) (λ j a b. away j a (omega arith))))
       (λ h. step-end (suc k) lo hi h)
 
   -- and the key is found where what stands before it is below and what stands behind it is above
@@ -78,7 +82,7 @@ module _ (row : ℕ → ℕ) (lost key : ℕ) where
   search-finds zero lo hi i p a b e under over = absurd (omega arith)
   search-finds (suc k) lo hi i p a b e under over =
       let h : lo < hi = omega arith in
-      let mid : ℕ = (lo + hi) / 2 in
+      let mid : ℕ = middle lo hi in
       lower-or-not mid i
       (λ c. step-above k lo hi h (under mid c) ∙ search-finds k (mid + 1) hi i (omega arith) (omega arith) b e under over)
       (λ c. lower-or-not i mid
@@ -93,17 +97,17 @@ module _ (row : ℕ → ℕ) (lost key : ℕ) where
     one-more : Left (hi - lo) lo hi ≡ Left (suc (hi - lo)) lo hi
     one-more = search-enough (hi - lo) (suc (hi - lo)) lo hi (omega arith) (omega arith)
 
-    pub halves-here : row ((lo + hi) / 2) ≡ key → Left (hi - lo) lo hi ≡ (lo + hi) / 2
+    pub halves-here : row (middle lo hi) ≡ key → Left (hi - lo) lo hi ≡ middle lo hi
     halves-here e = one-more ∙ step-here (hi - lo) lo hi h e
 
-    pub halves-above : row ((lo + hi) / 2) < key → Left (hi - lo) lo hi ≡ Left (hi - ((lo + hi) / 2 + 1)) ((lo + hi) / 2 + 1) hi
+    pub halves-above : row (middle lo hi) < key → Left (hi - lo) lo hi ≡ Left (hi - (middle lo hi + 1)) (middle lo hi + 1) hi
     halves-above l =
         one-more ∙ step-above (hi - lo) lo hi h l
-        ∙ search-enough (hi - lo) (hi - ((lo + hi) / 2 + 1)) ((lo + hi) / 2 + 1) hi (omega arith) (omega arith)
+        ∙ search-enough (hi - lo) (hi - (middle lo hi + 1)) (middle lo hi + 1) hi (omega arith) (omega arith)
 
-    pub halves-below : key < row ((lo + hi) / 2) → Left (hi - lo) lo hi ≡ Left ((lo + hi) / 2 - lo) lo ((lo + hi) / 2)
+    pub halves-below : key < row (middle lo hi) → Left (hi - lo) lo hi ≡ Left (middle lo hi - lo) lo (middle lo hi)
     halves-below l =
-        one-more ∙ step-below (hi - lo) lo hi h l ∙ search-enough (hi - lo) ((lo + hi) / 2 - lo) lo ((lo + hi) / 2) (omega arith) (omega arith)
+        one-more ∙ step-below (hi - lo) lo hi h l ∙ search-enough (hi - lo) (middle lo hi - lo) lo (middle lo hi) (omega arith) (omega arith)
 
 -- ---- in a valid schema
 

@@ -1,9 +1,9 @@
 // A schema on numbers: valid or not, an entry by owner and number, and the tables that a reader makes once for each call.
 // An entry is five numbers: owner, number, kind, repeated (0 or 1), child.
 ghost use mathlib.Core.Path.{_≡_};
-ghost use Prim.Native.Nat.{_+_, _<_};
+ghost use Prim.Native.Nat.{_+_, _^_, _<_};
 ghost use lib.Dec.{eqb};
-ghost use lib.ListN.{length};
+ghost use lib.ListN.{length, set};
 ghost use Rattle.spec.specs.Schema.{goodEntry, badSchema, schemaOf};
 ghost use Rattle.schema.specs.Search.{seek, findIn};
 ghost use Rattle.schema.specs.Tables.{counted, nextKey, innerIn, noted, soundOf, keysWith, infoWith, keyAt, entryFor, unknown, typed, tableSays};
@@ -177,11 +177,13 @@ fn inner_of(w: u8, repeated: u32, child: u32) -> u8
     child as u8
 }
 
-// Entry e is noted.
-fn note(e: usize, f: Five, w: u8, info: &mut [u8; 1024])
-    requires { ⌜ (e < 256) × (f .owner < 32) × (f .kind < 256) × (f .child < 256) ⌝ }
-    ensures { λ _. ⌜ now (info .exit) ≡ noted e (f .owner) (f .number) (f .kind) (innerIn w (eqb (f .repeated) 1) (f .child)) (now (info .entry)) ⌝ }
+// Entry e is noted, whose rank is `key` and whose wire type is w.
+fn note(e: usize, f: Five, key: u64, w: u8, keys: &mut [u64; 256], info: &mut [u8; 1024])
+    requires { ⌜ (e < 256) × (f .owner < 32) × (f .kind < 256) × (f .child < 256) × (key < 2 ^ 63) ⌝ }
+    ensures { λ _. ⌜ (now (keys .exit) ≡ set (now (keys .entry)) e (key + w))
+        × (now (info .exit) ≡ noted e (f .owner) (f .number) (f .kind) (innerIn w (eqb (f .repeated) 1) (f .child)) (now (info .entry))) ⌝ }
 {
+    keys[e] = key + w as u64;
     info[512 + e] = f.kind as u8;
     info[768 + e] = inner_of(w, f.repeated, f.child);
     if f.number < 16 {
@@ -209,9 +211,7 @@ pub fn tables(types: u32, numbers: &[u32], keys: &mut [u64; 256], info: &mut [u8
             return Verdict::Bad(e);
         }
         last = key;
-        let w = wires[f.kind as usize];
-        keys[e] = key + w as u64;
-        note(e, f, w, info);
+        note(e, f, key, wires[f.kind as usize], keys, info);
         i += 5;
         e += 1;
     }

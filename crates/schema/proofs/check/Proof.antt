@@ -28,10 +28,14 @@ five-at-requires : tie.Need-five-at-requires Inv-loop μ-loop
 five-at-requires c κs = here-five (c .before .loop .inv) (c .loop-test .taken)
 
 returns-2 : tie.Need-returns-2 Inv-loop μ-loop
-returns-2 c = sym (here-bad (c .before .before .before .before .loop .inv) (c .before .before .before .loop-test .taken) (c .before .before .five-at .ensures) (c .before .next-key .ensures) (c .if2 .taken))
+returns-2 c =
+    let d = c .before in
+    sym (here-bad (d .before .before .before .loop .inv) (d .before .before .loop-test .taken) (d .before .five-at .ensures) (d .next-key .ensures) (c .if2 .taken))
 
 loop-again : tie.Need-loop-again Inv-loop μ-loop
-loop-again c = here-next (c .before .before .before .before .loop .inv) (c .before .before .before .loop-test .taken) (c .before .before .five-at .ensures) (c .before .next-key .ensures) (c .if2 .left)
+loop-again c =
+    let d = c .before in
+    here-next (d .before .before .before .loop .inv) (d .before .before .loop-test .taken) (d .before .five-at .ensures) (d .next-key .ensures) (c .if2 .left)
 
 returns-3 : tie.Need-returns-3 Inv-loop μ-loop
 returns-3 c = sym (here-end (c .before .loop .inv) (c .loop-test .left))

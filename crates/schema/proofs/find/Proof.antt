@@ -14,7 +14,9 @@ use Rattle.schema.proofs.find.Statement.{statement}
 use Rattle.schema.proofs.find.Tie as tie
 
 abbrev Inv-loop : tie.InvT-loop
-Inv-loop numbers owner number key lo₀ hi₀ lo hi = (lo ≤ hi) × (hi ≤ length numbers / 5) × (findIn numbers owner number ≡ within (length numbers / 5) (seek (hi - lo) (ownerNumber numbers) (length numbers / 5) (owner * 2 ^ 32 + number) lo hi))
+Inv-loop numbers owner number key lo₀ hi₀ lo hi =
+    (lo ≤ hi) × (hi ≤ length numbers / 5)
+    × (findIn numbers owner number ≡ within (length numbers / 5) (seek (hi - lo) (ownerNumber numbers) (length numbers / 5) (owner * 2 ^ 32 + number) lo hi))
 
 abbrev μ-loop : tie.MeasureT-loop
 μ-loop numbers owner number key lo₀ hi₀ lo hi = hi - lo
@@ -53,27 +55,29 @@ returns c =
     let l = c .before .before .before .before .loop in
     let n : ℕ = length (a .numbers .now) / 5 in
     let mid : ℕ = (l .lo + l .hi) / 2 in
-    sym (l .inv .2 ∙ ap (within n) (halves-here (ownerNumber (a .numbers .now)) (length (a .numbers .now) / 5) (a .owner * 2 ^ 32 + a .number) (l .lo) (l .hi) (c .before .before .before .loop-test .taken) (c .if1 .taken))
+    sym (l .inv .2 ∙ ap (within n) (halves-here (ownerNumber (a .numbers .now)) n (a .owner * 2 ^ 32 + a .number) (l .lo) (l .hi) (c .before .before .before .loop-test .taken) (c .if1 .taken))
     ∙ ap (λ (b : Bool). if b then some mid else none) (lt-ltb mid n (omega arith)))
 
 loop-again : tie.Need-loop-again Inv-loop μ-loop
 loop-again c =
     let a = c .before .before .before .before .before .before .args in
     let l = c .before .before .before .before .before .loop in
-    (omega arith, omega arith, l .inv .2 ∙ ap (within (length (a .numbers .now) / 5)) (halves-above (ownerNumber (a .numbers .now)) (length (a .numbers .now) / 5) (a .owner * 2 ^ 32 + a .number) (l .lo) (l .hi) (c .before .before .before .before .loop-test .taken) (c .if2 .taken)))
+    let n : ℕ = length (a .numbers .now) / 5 in
+    (omega arith, omega arith, l .inv .2 ∙ ap (within n) (halves-above (ownerNumber (a .numbers .now)) n (a .owner * 2 ^ 32 + a .number) (l .lo) (l .hi) (c .before .before .before .before .loop-test .taken) (c .if2 .taken)))
 
 loop-again-2 : tie.Need-loop-again-2 Inv-loop μ-loop
 loop-again-2 c =
     let a = c .before .before .before .before .before .before .args in
     let l = c .before .before .before .before .before .loop in
-    (omega arith, omega arith, l .inv .2 ∙ ap (within (length (a .numbers .now) / 5)) (halves-below (ownerNumber (a .numbers .now)) (length (a .numbers .now) / 5) (a .owner * 2 ^ 32 + a .number) (l .lo) (l .hi) (c .before .before .before .before .loop-test .taken) (omega arith)))
+    let n : ℕ = length (a .numbers .now) / 5 in
+    (omega arith, omega arith, l .inv .2 ∙ ap (within n) (halves-below (ownerNumber (a .numbers .now)) n (a .owner * 2 ^ 32 + a .number) (l .lo) (l .hi) (c .before .before .before .before .loop-test .taken) (omega arith)))
 
 returns-2 : tie.Need-returns-2 Inv-loop μ-loop
 returns-2 c =
     let a = c .before .before .args in
     let l = c .before .loop in
     let n : ℕ = length (a .numbers .now) / 5 in
-    sym (l .inv .2 ∙ ap (within n) (halves-end (ownerNumber (a .numbers .now)) (length (a .numbers .now) / 5) (a .owner * 2 ^ 32 + a .number) (l .lo) (l .hi) (c .loop-test .left)) ∙ ap (λ (b : Bool). if b then some n else none) (le-ltb n n (omega arith)))
+    sym (l .inv .2 ∙ ap (within n) (halves-end (ownerNumber (a .numbers .now)) n (a .owner * 2 ^ 32 + a .number) (l .lo) (l .hi) (c .loop-test .left)) ∙ ap (λ (b : Bool). if b then some n else none) (le-ltb n n (omega arith)))
 
 pub find-spec : {M : Type 1} → statement M
 find-spec =

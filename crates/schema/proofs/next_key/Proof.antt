@@ -22,21 +22,23 @@ returns c =
 add-key : tie.Need-add-key
 add-key c =
     let a = c .before .before .before .before .args in
-    let good : goodEntry (a .types) (entry (a .f)) ≡ true = sym (c .before .before .before .entry-ok .ensures) ∙ not-false (c .before .before .before .entry-ok .result) (c .before .before .if1 .left) in
-    let n = good-five (a .types) (a .f) good .1 .number-to in
+    let r = c .before .before .before .entry-ok in
+    let n = good-five (a .types) (a .f) (sym (r .ensures) ∙ not-false (r .result) (c .before .before .if1 .left)) .1 .number-to in
     record { fits = omega arith }
 
 returns-2 : tie.Need-returns-2
 returns-2 c =
     let a = c .before .before .before .before .before .args in
-    let good : goodEntry (a .types) (entry (a .f)) ≡ true = sym (c .before .before .before .before .entry-ok .ensures) ∙ not-false (c .before .before .before .before .entry-ok .result) (c .before .before .before .if1 .left) in
+    let r = c .before .before .before .before .entry-ok in
+    let good : goodEntry (a .types) (entry (a .f)) ≡ true = sym (r .ensures) ∙ not-false (r .result) (c .before .before .before .if1 .left) in
     let key : rank (entry (a .f)) ≡ a .f .owner * 2 ^ 32 + a .f .number * 8 = ap rank (is-entry (a .f) (good-five (a .types) (a .f) good .0)) in
     sym (key-refused (a .types) (a .last) (entry (a .f)) (ap₂ (_&&_) good (le-ltb (a .last) (rank (entry (a .f))) (omega arith))))
 
 returns-3 : tie.Need-returns-3
 returns-3 c =
     let a = c .before .before .before .before .before .args in
-    let good : goodEntry (a .types) (entry (a .f)) ≡ true = sym (c .before .before .before .before .entry-ok .ensures) ∙ not-false (c .before .before .before .before .entry-ok .result) (c .before .before .before .if1 .left) in
+    let r = c .before .before .before .before .entry-ok in
+    let good : goodEntry (a .types) (entry (a .f)) ≡ true = sym (r .ensures) ∙ not-false (r .result) (c .before .before .before .if1 .left) in
     let key : rank (entry (a .f)) ≡ a .f .owner * 2 ^ 32 + a .f .number * 8 = ap rank (is-entry (a .f) (good-five (a .types) (a .f) good .0)) in
     sym (key-passed (a .types) (a .last) (entry (a .f)) (ap₂ (_&&_) good (lt-ltb (a .last) (rank (entry (a .f))) (omega arith))) ∙ key)
 

@@ -8,7 +8,7 @@ use Prim.Native.Nat.{ℕ, _-_}
 use mathlib.Core.List.{List}
 use lib.ListN.{length, getD}
 use Rattle.schema.proofs.ValidLaws.{here-five}
-use Rattle.schema.proofs.MakingLaws.{Made, made-none, made-first, made-all, made-bad, made-fits, made-next, wire-small}
+use Rattle.schema.proofs.MakingLaws.{Made, made-none, made-first, made-all, made-bad, made-fits, made-next}
 use Rattle.schema.proofs.tables.Statement.{statement}
 use Rattle.schema.proofs.tables.Tie as tie
 
@@ -26,48 +26,35 @@ returns c =
 loop-holds : tie.Need-loop-holds Inv-loop μ-loop
 loop-holds c =
     let a = c .before .before .before .before .args in
-    made-first (a .types) (a .numbers .now) (a .keys .now) (a .info .now) (sym (c .before .before .counts-ok .ensures) ∙ not-false (c .before .before .counts-ok .result) (c .before .if1 .left))
+    let d = c .before .before .counts-ok in
+    made-first (a .types) (a .numbers .now) (a .keys .now) (a .info .now) (sym (d .ensures) ∙ not-false (d .result) (c .before .if1 .left))
 
 five-at-requires : tie.Need-five-at-requires Inv-loop μ-loop
 five-at-requires c κs = here-five (c .before .loop .inv .here) (c .loop-test .taken)
 
 returns-2 : tie.Need-returns-2 Inv-loop μ-loop
-returns-2 c = made-bad (c .before .before .before .before .loop .inv) (c .before .before .before .loop-test .taken) (c .before .before .five-at .ensures) (c .before .next-key .ensures) (c .if2 .taken)
+returns-2 c =
+    let d = c .before in
+    made-bad (d .before .before .before .loop .inv) (d .before .before .loop-test .taken) (d .before .five-at .ensures) (d .next-key .ensures) (c .if2 .taken)
 
-array-read-w : tie.Need-array-read-w Inv-loop μ-loop
-array-read-w c = omega (arith, made-fits (c .before .before .before .before .before .loop .inv) (c .before .before .before .before .loop-test .taken) (c .before .before .before .five-at .ensures) (c .before .before .next-key .ensures) (c .before .if2 .left) .2)
-
-cast-keys : tie.Need-cast-keys Inv-loop μ-loop
-cast-keys c =
-    let k = made-fits (c .before .before .before .before .before .loop .inv) (c .before .before .before .before .loop-test .taken) (c .before .before .before .five-at .ensures) (c .before .before .next-key .ensures) (c .before .if2 .left) .2 in
-    let w = wire-small (c .before .before .before .five-at .result .kind) (c .before .before .before .before .before .before .kind-wires .ensures) k in
-    record { fits = omega arith }
-
-add-keys : tie.Need-add-keys Inv-loop μ-loop
-add-keys c =
-    let k = made-fits (c .before .before .before .before .before .loop .inv) (c .before .before .before .before .loop-test .taken) (c .before .before .before .five-at .ensures) (c .before .before .next-key .ensures) (c .before .if2 .left) .2 in
-    let w = wire-small (c .before .before .before .five-at .result .kind) (c .before .before .before .before .before .before .kind-wires .ensures) k in
-    let l = made-fits (c .before .before .before .before .before .loop .inv) (c .before .before .before .before .loop-test .taken) (c .before .before .before .five-at .ensures) (c .before .before .next-key .ensures) (c .before .if2 .left) .4 in
-    record { fits = omega arith }
-
-mul-keys : tie.Need-mul-keys Inv-loop μ-loop
-mul-keys c =
-    let l = made-fits (c .before .before .before .before .before .loop .inv) (c .before .before .before .before .loop-test .taken) (c .before .before .before .five-at .ensures) (c .before .before .next-key .ensures) (c .before .if2 .left) .0 in
-    record { fits = omega arith }
-
-element-write-keys : tie.Need-element-write-keys Inv-loop μ-loop
-element-write-keys c = made-fits (c .before .before .before .before .before .loop .inv) (c .before .before .before .before .loop-test .taken) (c .before .before .before .five-at .ensures) (c .before .before .next-key .ensures) (c .before .if2 .left) .0
+array-read-note : tie.Need-array-read-note Inv-loop μ-loop
+array-read-note c =
+    let d = c .before .before in
+    omega (arith, made-fits (d .before .before .before .loop .inv) (d .before .before .loop-test .taken) (d .before .five-at .ensures) (d .next-key .ensures) (c .before .if2 .left) .2)
 
 note-requires : tie.Need-note-requires Inv-loop μ-loop
 note-requires c κs =
-    let l = made-fits (c .before .before .before .before .before .before .loop .inv) (c .before .before .before .before .before .loop-test .taken) (c .before .before .before .before .five-at .ensures) (c .before .before .before .next-key .ensures) (c .before .before .if2 .left) in
-    (l .0, l .1, omega (arith, l .2), l .3)
+    let d = c .before .before .before .before in
+    let l = made-fits (d .before .before .before .loop .inv) (d .before .before .loop-test .taken) (d .before .five-at .ensures) (d .next-key .ensures) (c .before .before .before .if2 .left) in
+    (l .0, l .1, omega (arith, l .2), l .3, l .4)
 
 loop-again : tie.Need-loop-again Inv-loop μ-loop
 loop-again c =
-    let w : ℕ = getD (c .before .before .before .before .before .before .before .before .kind-wires .result) (c .before .before .before .before .before .five-at .result .kind) 0 in
-    let n = made-next (c .before .before .before .before .before .before .before .loop .inv) (c .before .before .before .before .before .before .loop-test .taken) (c .before .before .before .before .before .five-at .ensures) (c .before .before .before .before .next-key .ensures) (c .before .before .before .if2 .left) w (ap (λ (ws : List ℕ). getD ws (c .before .before .before .before .before .five-at .result .kind) 0) (c .before .before .before .before .before .before .before .before .kind-wires .ensures)) in
-    record { here = n .here; keys-so = n .keys-so; info-so = c .note .ensures ∙ n .info-so }
+    let d = c .before .before .before .before .before in
+    let k : ℕ = d .before .five-at .result .kind in
+    let ws = c .before .before .before .before .before .before .before .before .before .kind-wires in
+    let n = made-next (d .before .before .before .loop .inv) (d .before .before .loop-test .taken) (d .before .five-at .ensures) (d .next-key .ensures) (c .before .before .before .before .if2 .left) (getD (ws .result) k 0) (ap (λ (xs : List ℕ). getD xs k 0) (ws .ensures)) in
+    record { here = n .here; keys-so = c .note .ensures .0 ∙ n .keys-so; info-so = c .note .ensures .1 ∙ n .info-so }
 
 returns-3 : tie.Need-returns-3 Inv-loop μ-loop
 returns-3 c = made-all (c .before .loop .inv) (c .loop-test .left)
@@ -86,11 +73,7 @@ tables-spec =
     (λ c κs. search needs)
     returns-2
     (λ c. search needs)
-    array-read-w
-    cast-keys
-    add-keys
-    mul-keys
-    element-write-keys
+    array-read-note
     note-requires
     (λ c. search needs)
     (λ c. search needs)
