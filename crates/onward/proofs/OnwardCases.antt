@@ -1,4 +1,4 @@
--- Schema B is older than A, and what it reads of document 01's listing. Assumes nothing.
+-- Schema B of the user's rules is older than A, and what it reads of a list with every way to be lacked. Assumes nothing.
 use Prim.Native.Nat.{ℕ}
 use mathlib.Core.Path.{_≡_, refl}
 use mathlib.Core.List.{List, [], _∷_, map}
@@ -8,7 +8,7 @@ use Rattle.spec.specs.Base.{limit, meaning, require, longer, _>>=_, digit}
 use Rattle.spec.specs.Varint.{varint, shortest, zigzag, unzigzag, fixed, little, tag}
 use Rattle.spec.specs.Utf8.{lead, followers, behind, char, chars, validPrefix}
 use Rattle.spec.specs.Kind.{kindWires, ownWires, wires, wire, shapes, shape, isScalar, extend, scalar, encoded, fits}
-use Rattle.spec.specs.Schema.{Schema, goodEntry, badEntry, badSchema, lookup, unknownKind, kindOf}
+use Rattle.spec.specs.Schema.{Schema, goodEntry, badEntry, badSchema, lookup, unknownKind, kindOf, says, saysOf}
 use Rattle.spec.specs.Skip.{content, plain, skipField, skipGroup, skipFieldForTag}
 use Rattle.spec.specs.Record.{Record, row, deeper}
 use Rattle.spec.specs.Reading.{given, shaped, field, used, _followed-by_, element, elements, contents, records, fields, read, within, refusedOr, reading, number, place, listed}
@@ -47,15 +47,15 @@ a-writes : writing schemaA 1000 payload list ≡ Wrote s
 unfolding schemaA schemaB meaning require longer _>>=_ digit varint shortest zigzag unzigzag fixed little tag lead followers behind char chars validPrefix kindWires ownWires wires wire shapes shape isScalar extend scalar encoded fits goodEntry badEntry badSchema lookup unknownKind kindOf deeper body bytesOf written expected fitting inside recordFault listFault schemaFirst listCheck judged sized writing
 a-writes = refl
 
-abbrev says : ℕ → ℕ → ℕ → ℕ → List ℕ → Seen
-says d n k v c = record { depth = d; number = n; kind = k; value = v; content = c }
+abbrev shown : ℕ → ℕ → ℕ → ℕ → List ℕ → Seen
+shown d n k v c = record { depth = d; number = n; kind = k; value = v; content = c }
 
 abbrev expectation : List Seen
 expectation =
-    says 0 1 5 150 [] ∷ says 0 2 9 0 (0x4f ∷ 0x4b ∷ []) ∷ says 0 3 11 0 []
-    ∷ says 1 1 13 5 [] ∷ says 1 2 23 0 (0x4b ∷ 0xff ∷ []) ∷ says 1 3 11 0 [] ∷ says 2 2 23 0 [] ∷ says 2 9 21 7 [] ∷ says 1 2 23 0 []
-    ∷ says 0 4 23 0 (0x01 ∷ 0x80 ∷ 0x01 ∷ [])
-    ∷ says 0 4 21 3 [] ∷ says 0 5 24 1065353216 [] ∷ says 0 7 21 1 [] ∷ says 0 2 9 0 (0x4b ∷ []) ∷ []
+    shown 0 1 5 150 [] ∷ shown 0 2 9 0 (0x4f ∷ 0x4b ∷ []) ∷ shown 0 3 11 0 []
+    ∷ shown 1 1 13 5 [] ∷ shown 1 2 23 0 (0x4b ∷ 0xff ∷ []) ∷ shown 1 3 11 0 [] ∷ shown 2 2 23 0 [] ∷ shown 2 9 21 7 [] ∷ shown 1 2 23 0 []
+    ∷ shown 0 4 23 0 (0x01 ∷ 0x80 ∷ 0x01 ∷ [])
+    ∷ shown 0 4 21 3 [] ∷ shown 0 5 24 1065353216 [] ∷ shown 0 7 21 1 [] ∷ shown 0 2 9 0 (0x4b ∷ []) ∷ []
 
 b-is-to-read : onward schemaB payload list ≡ expectation
 unfolding schemaB shortest zigzag little wires wire shapes shape encoded lookup unknownKind deeper body bytesOf contentOf seen rawOf raw held unknown onwardOf onward
@@ -63,11 +63,11 @@ b-is-to-read = refl
 
 -- the same, by reading
 b-reads : map (seen s) (listed (reading schemaB 16 s)) ≡ expectation
-unfolding schemaA schemaB meaning require longer _>>=_ digit varint unzigzag fixed tag lead followers behind char chars validPrefix kindWires ownWires wires wire shapes shape isScalar extend scalar goodEntry badEntry badSchema lookup unknownKind kindOf content plain skipField skipGroup skipFieldForTag given shaped field used _followed-by_ element elements contents records fields read within refusedOr reading number place listed contentOf seen
+unfolding schemaA schemaB meaning require longer _>>=_ digit varint unzigzag fixed tag lead followers behind char chars validPrefix kindWires ownWires wires wire shapes shape isScalar extend scalar goodEntry badEntry badSchema lookup unknownKind kindOf says saysOf content plain skipField skipGroup skipFieldForTag given shaped field used _followed-by_ element elements contents records fields read within refusedOr reading number place listed contentOf seen
 b-reads = refl
 
 b-writes : writing schemaB 1000 s (listed (reading schemaB 16 s)) ≡ Wrote s
-unfolding schemaA schemaB meaning require longer _>>=_ digit varint shortest zigzag unzigzag fixed little tag lead followers behind char chars validPrefix kindWires ownWires wires wire shapes shape isScalar extend scalar encoded fits goodEntry badEntry badSchema lookup unknownKind kindOf deeper body bytesOf written expected fitting inside recordFault listFault schemaFirst listCheck judged sized writing content plain skipField skipGroup skipFieldForTag given shaped field used _followed-by_ element elements contents records fields read within refusedOr reading number place listed
+unfolding schemaA schemaB meaning require longer _>>=_ digit varint shortest zigzag unzigzag fixed little tag lead followers behind char chars validPrefix kindWires ownWires wires wire shapes shape isScalar extend scalar encoded fits goodEntry badEntry badSchema lookup unknownKind kindOf deeper body bytesOf written expected fitting inside recordFault listFault schemaFirst listCheck judged sized writing says saysOf content plain skipField skipGroup skipFieldForTag given shaped field used _followed-by_ element elements contents records fields read within refusedOr reading number place listed
 b-writes = refl
 
 -- the root's message field left out: all that was under it is its content
@@ -75,7 +75,7 @@ schemaC : Schema
 schemaC = record { types = 2; entries = [] }
 
 c-is-to-read : onward schemaC payload (rec 0 3 11 0 0 0 ∷ rec 1 1 13 5 0 0 ∷ rec 1 3 11 0 0 0 ∷ rec 2 1 13 300 0 0 ∷ rec 0 4 20 0 0 0 ∷ rec 1 4 17 1 0 0 ∷ [])
-    ≡ says 0 3 23 0 (0x08 ∷ 0x05 ∷ 0x1a ∷ 0x03 ∷ 0x08 ∷ 0xac ∷ 0x02 ∷ []) ∷ says 0 4 23 0 (0x02 ∷ []) ∷ []
+    ≡ shown 0 3 23 0 (0x08 ∷ 0x05 ∷ 0x1a ∷ 0x03 ∷ 0x08 ∷ 0xac ∷ 0x02 ∷ []) ∷ shown 0 4 23 0 (0x02 ∷ []) ∷ []
 unfolding schemaC shortest zigzag little wires wire shapes shape encoded lookup unknownKind deeper body bytesOf contentOf seen rawOf raw held unknown onwardOf onward
 c-is-to-read = refl
 

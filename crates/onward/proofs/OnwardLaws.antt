@@ -14,7 +14,7 @@ use Rattle.spec.specs.Base.{if_then_else_, part, limit}
 use Rattle.spec.specs.Varint.{encode}
 use Rattle.spec.specs.Utf8.{utf8}
 use Rattle.spec.specs.Kind.{Scalar, Shape, one, other, string, bytes, message, packed, startGroup, endGroup, nothing, shapes, shape, wires, wire, encoded, fits}
-use Rattle.spec.specs.Schema.{Schema, badSchema, lookup, unknownKind, kindOf}
+use Rattle.spec.specs.Schema.{Schema, badSchema, lookup, unknownKind, kindOf, says}
 use Rattle.spec.specs.Record.{Record, row, deeper}
 use Rattle.spec.specs.Reading.{Done, Refused, read, within, refusedOr, reading, listed, after}
 use Rattle.spec.specs.Writing.{prefixed, bytesOf, written, Fields, lies, Verdict, Fine, listFault, Wrote, Failed, judged, sized, writing, schemaFirst, listCheck}
@@ -377,11 +377,11 @@ writes sch space payload s rs v f w small room =
     ∙ ap (sized space) w
     ∙ ap₂ (λ (a b : Bool). if a then Failed 11 0 0 else if b then Failed 12 (length s) 0 else Wrote s) (le-ltb limit (length s) small) (le-ltb space (length s) room)
 
-reads : (sch : Schema) (room : ℕ) (s : List ℕ) (qs : List Record) → badSchema sch ≡ none → length s ≤ limit → read sch 0 0 0 s ≡ after qs Done → length qs ≤ room
+reads : (sch : Schema) (room : ℕ) (s : List ℕ) (qs : List Record) → badSchema sch ≡ none → length s ≤ limit → read (says sch) 0 0 0 s ≡ after qs Done → length qs ≤ room
     → reading sch room s ≡ after qs Done
 unfolding reading refusedOr within
 reads sch room s qs v small e h =
-    ap₂ (λ (a : Bool) (x : Option ℕ). if a then Refused 11 0 else refusedOr x (within room (read sch 0 0 0 s))) (le-ltb limit (length s) small) v
+    ap₂ (λ (a : Bool) (x : Option ℕ). if a then Refused 11 0 else refusedOr x (within room (read (says sch) 0 0 0 s))) (le-ltb limit (length s) small) v
     ∙ ap (within room) e ∙ within-after room qs Done h
 
 -- ---- demand 3

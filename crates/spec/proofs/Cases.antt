@@ -1,18 +1,18 @@
--- Document 01's schemas A and B, and its starred cases, as one list under one statement.
+-- The schemas A and B of the user's rules, and the cases that the rules mark to be proved, as one list under one statement.
 -- Assumes nothing.
-use Prim.Native.Nat.{ℕ, zero, suc, _+_, _-_, _*_}
+use Prim.Native.Nat.{ℕ}
 use mathlib.Core.Path.{_≡_, refl}
 use mathlib.Core.Bool.{Bool, true, false}
 use mathlib.Core.List.{List, [], _∷_, _++_, map}
-use lib.ListN.{length, replicate}
+use lib.ListN.{replicate}
 use Rattle.spec.specs.Base.{Read, Took, No, meaning, require, longer, _>>=_, digit}
 use Rattle.spec.specs.Varint.{varint, unzigzag, fixed, tag}
 use Rattle.spec.specs.Utf8.{lead, followers, behind, char, chars, validPrefix}
 use Rattle.spec.specs.Kind.{kindWires, ownWires, wires, wire, shapes, shape, isScalar, extend, scalar}
-use Rattle.spec.specs.Schema.{Schema, goodEntry, badEntry, badSchema, lookup, unknownKind, kindOf}
+use Rattle.spec.specs.Schema.{Schema, goodEntry, badEntry, badSchema, lookup, unknownKind, kindOf, says, saysOf}
 use Rattle.spec.specs.Skip.{content, plain, skipField, skipGroup, skipFieldForTag}
-use Rattle.spec.specs.Record.{Record, numbers}
-use Rattle.spec.specs.Reading.{Reading, given, shaped, field, used, _followed-by_, element, elements, contents, records, fields, read, within, refusedOr, reading, number, place, listed}
+use Rattle.spec.specs.Record.{numbers}
+use Rattle.spec.specs.Reading.{given, shaped, field, used, _followed-by_, element, elements, contents, records, fields, read, within, refusedOr, reading, number, place, listed}
 use Rattle.spec.specs.declared.Entry.{Entry}
 
 abbrev entry : ℕ → ℕ → ℕ → Bool → ℕ → Entry
@@ -87,5 +87,5 @@ cases =
     ∷ []
 
 pub all-right : map (λ (c : Case). c .is) cases ≡ map (λ (c : Case). c .should) cases
-unfolding cases schemaA schemaB meaning require longer _>>=_ digit varint unzigzag fixed tag lead followers behind char chars validPrefix kindWires ownWires wires wire shapes shape isScalar extend scalar goodEntry badEntry badSchema lookup unknownKind kindOf content plain skipField skipGroup skipFieldForTag given shaped field used _followed-by_ element elements contents records fields read within refusedOr reading number place listed numbers
+unfolding cases schemaA schemaB meaning require longer _>>=_ digit varint unzigzag fixed tag lead followers behind char chars validPrefix kindWires ownWires wires wire shapes shape isScalar extend scalar goodEntry badEntry badSchema lookup unknownKind kindOf says saysOf content plain skipField skipGroup skipFieldForTag given shaped field used _followed-by_ element elements contents records fields read within refusedOr reading number place listed numbers
 all-right = refl

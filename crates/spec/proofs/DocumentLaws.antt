@@ -1,14 +1,14 @@
 -- The function decides the grammar: `isDocument s` is true exactly when s is a `Document`.
 -- Assumes nothing.
-use Prim.Native.Nat.{ℕ, zero, suc, _+_, _-_, _*_, _/_, _%_, _≤_, _<_}
+use Prim.Native.Nat.{ℕ, zero, suc, _+_, _-_, _/_, _%_, _≤_, _<_}
 use native.Mathlib.Omega.{arith}
 use mathlib.Core.Path.{_≡_, refl, sym, ap, ap₂, _∙_, subst}
 use mathlib.Core.Bool.{Bool, true, false, _&&_, false≢true}
 use mathlib.Core.List.{List, [], _∷_, _++_, append-assoc, append-nil}
-use lib.ListN.{length, take, drop, length-append, length-take, length-drop, take-append-drop}
-use lib.Seq.{take-add, length-take-le, take-length, drop-drop, drop-append-seam}
+use lib.ListN.{length, take, drop, length-drop, take-append-drop}
+use lib.Seq.{drop-drop, drop-append-seam}
 use lib.Dec.{leb, ltb, eqb}
-use borrow.Author.Tests.{leb-true, le-leb, ltb-true, lt-ltb, eqb-true, eqb-false, eq-eqb, ne-eqb}
+use borrow.Author.Tests.{ltb-true, lt-ltb, eqb-true, eq-eqb, ne-eqb}
 use Rattle.spec.specs.Base.{if_then_else_, limit, Read, Took, No, longer, require}
 use Rattle.spec.specs.Varint.{tag, varint}
 use Rattle.spec.specs.Skip.{plain}

@@ -6,16 +6,17 @@ use mathlib.Core.Path.{_≡_, refl, sym, ap, _∙_}
 use mathlib.Core.Bool.{Bool, true, false, _&&_, false≢true}
 use mathlib.Core.List.{List, _∷_}
 use lib.ListN.{length, drop}
-use lib.Dec.{eqb}
-use borrow.Author.Tests.{le-leb, lt-leb, eq-eqb, ne-eqb}
+use lib.Dec.{leb, eqb}
+use borrow.Author.Tests.{leb-true, leb-false, le-leb, eq-eqb, ne-eqb}
 use Rattle.spec.specs.Base.{if_then_else_, part, Read, Took, No, longer, _>>=_, digit}
 use Rattle.spec.specs.Varint.{varint, varint32, varint64, fixed, tag}
 use Rattle.spec.specs.Utf8.{utf8}
 use Rattle.spec.specs.Kind.{int32, uint32, uint64, bool, sint32, sint64, fixed32, sfixed32, fixed64, Shape, one, other, string, bytes, message, packed, wires, wire, shapes, shape, isScalar, scalar}
-use Rattle.spec.specs.Schema.{Schema, lookup, unknownKind, kindOf}
+use Rattle.spec.specs.Schema.{Schema, lookup, unknownKind, kindOf, insideOf, saysOf, says}
 use Rattle.spec.specs.Skip.{content, skipField, innerGroup, outerGroup}
 use Rattle.spec.specs.Record.{row}
-use Rattle.spec.specs.Reading.{Field, Value, Message, Packed, Dropped, Fault, given, shaped, field, Reading, Done, _then_, contents, records}
+use Rattle.spec.specs.Reading.{Look, Field, Value, Message, Packed, Dropped, Fault, given, shaped, field, Reading, Done, _then_, contents, records}
+use Rattle.spec.proofs.Laws.{if-so, if-not}
 use Rattle.spec.proofs.KindLaws.{wireOne, wireOf, wire-shape}
 use Rattle.spec.proofs.SkipLaws.{group-too-deep, group-closes, group-field-refused, tag-read}
 use Rattle.spec.specs.declared.Entry.{Entry}
@@ -61,27 +62,36 @@ kind-lacking e w k h = kind-unknown e w (λ p. omega (arith, p ∙ ap wire k)) (
 
 -- ---- what stands behind the tag, by its shape
 
-module _ (depth : ℕ) (e : Entry) (m kind n : ℕ) (s : List ℕ) where
+-- with what was read
+pub given-took : {r : Read} {v n : ℕ} (f : ℕ → ℕ → Field) → r ≡ Took v n → given r f ≡ f v n
+unfolding given
+given-took f e = ap (λ (r : Read). given r f) e
+
+pub given-no : {r : Read} {k : ℕ} (f : ℕ → ℕ → Field) → r ≡ No k → given r f ≡ Fault k 0
+unfolding given
+given-no f e = ap (λ (r : Read). given r f) e
+
+module _ (depth inner m kind n : ℕ) (s : List ℕ) where
   -- a message head stands below depth 100, whatever is behind its tag
-  pub message-too-deep : 100 ≤ depth → shaped (other message) depth e m kind n s ≡ Fault 7 0
+  pub message-too-deep : 100 ≤ depth → shaped (other message) depth inner m kind n s ≡ Fault 7 0
   unfolding shaped
-  message-too-deep h = simp (le-leb 100 depth h)
+  message-too-deep h = if-so (leb _ depth) _ (λ e. omega (arith, leb-false _ depth e))
 
   -- the length of a message and of a packed field is a varint64; a packed field's head may stand at every depth
-  pub message-head : depth < 100 → shaped (other message) depth e m kind n s ≡ given (content varint64 s) λ a z. Message m (e .child) (n + a) (n + z)
+  pub message-head : depth < 100 → shaped (other message) depth inner m kind n s ≡ given (content varint64 s) λ a z. Message m inner (n + a) (n + z)
   unfolding shaped
-  message-head h = simp (lt-leb 100 depth h)
+  message-head h = if-not (leb _ depth) _ (λ e. omega (arith, leb-true _ depth e))
 
-  pub packed-head : shaped (other packed) depth e m kind n s ≡ given (content varint64 s) λ a z. Packed m (e .kind) (n + a) (n + z)
+  pub packed-head : shaped (other packed) depth inner m kind n s ≡ given (content varint64 s) λ a z. Packed m inner (n + a) (n + z)
   unfolding shaped
   packed-head = refl
 
   -- that of a string and of bytes, which an unknown content is too, is a varint32; only a string is checked
-  pub string-value : shaped (other string) depth e m kind n s ≡ given (content varint32 s) λ a z. if utf8 (part a z s) then Value m kind 0 (n + a) (n + z) else Fault 6 0
+  pub string-value : shaped (other string) depth inner m kind n s ≡ given (content varint32 s) λ a z. if utf8 (part a z s) then Value m kind 0 (n + a) (n + z) else Fault 6 0
   unfolding shaped
   string-value = refl
 
-  pub bytes-value : shaped (other bytes) depth e m kind n s ≡ given (content varint32 s) λ a z. Value m kind 0 (n + a) (n + z)
+  pub bytes-value : shaped (other bytes) depth inner m kind n s ≡ given (content varint32 s) λ a z. Value m kind 0 (n + a) (n + z)
   unfolding shaped
   bytes-value = refl
 
@@ -98,48 +108,35 @@ module _ (s : List ℕ) where
   unfolding content varint digit longer _>>=_
   six-32 = refl
 
-  module _ (depth : ℕ) (e : Entry) (m kind n : ℕ) where
-    pub message-six : depth < 100 → shaped (other message) depth e m kind n (zeroInSix s) ≡ Message m (e .child) (n + 6) (n + 6)
-    unfolding given
-    message-six h = message-head depth e m kind n (zeroInSix s) h ∙ ap (λ (r : Read). given r λ a z. Message m (e .child) (n + a) (n + z)) six-64
+  module _ (depth inner m kind n : ℕ) where
+    pub message-six : depth < 100 → shaped (other message) depth inner m kind n (zeroInSix s) ≡ Message m inner (n + 6) (n + 6)
+    message-six h = message-head depth inner m kind n (zeroInSix s) h ∙ given-took _ six-64
 
-    pub packed-six : shaped (other packed) depth e m kind n (zeroInSix s) ≡ Packed m (e .kind) (n + 6) (n + 6)
-    unfolding given
-    packed-six = packed-head depth e m kind n (zeroInSix s) ∙ ap (λ (r : Read). given r λ a z. Packed m (e .kind) (n + a) (n + z)) six-64
+    pub packed-six : shaped (other packed) depth inner m kind n (zeroInSix s) ≡ Packed m inner (n + 6) (n + 6)
+    packed-six = packed-head depth inner m kind n (zeroInSix s) ∙ given-took _ six-64
 
-    pub string-six : shaped (other string) depth e m kind n (zeroInSix s) ≡ Fault 2 0
-    unfolding given
-    string-six = string-value depth e m kind n (zeroInSix s)
-        ∙ ap (λ (r : Read). given r λ a z. if utf8 (part a z (zeroInSix s)) then Value m kind 0 (n + a) (n + z) else Fault 6 0) six-32
+    pub string-six : shaped (other string) depth inner m kind n (zeroInSix s) ≡ Fault 2 0
+    string-six = string-value depth inner m kind n (zeroInSix s) ∙ given-no _ six-32
 
-    pub bytes-six : shaped (other bytes) depth e m kind n (zeroInSix s) ≡ Fault 2 0
-    unfolding given
-    bytes-six = bytes-value depth e m kind n (zeroInSix s) ∙ ap (λ (r : Read). given r λ a z. Value m kind 0 (n + a) (n + z)) six-32
+    pub bytes-six : shaped (other bytes) depth inner m kind n (zeroInSix s) ≡ Fault 2 0
+    bytes-six = bytes-value depth inner m kind n (zeroInSix s) ∙ given-no _ six-32
 
 -- ---- the field at the front of some bytes, by its tag
 
-given-took : {r : Read} {v n : ℕ} (f : ℕ → ℕ → Field) → r ≡ Took v n → given r f ≡ f v n
-unfolding given
-given-took f e = ap (λ (r : Read). given r f) e
-
-given-no : {r : Read} {k : ℕ} (f : ℕ → ℕ → Field) → r ≡ No k → given r f ≡ Fault k 0
-unfolding given
-given-no f e = ap (λ (r : Read). given r f) e
-
-pub bad-tag-fault : (sch : Schema) (depth type : ℕ) (s : List ℕ) (k : ℕ) → tag s ≡ No k → field sch depth type s ≡ Fault k 0
+pub bad-tag-fault : (look : Look) (depth type : ℕ) (s : List ℕ) (k : ℕ) → tag s ≡ No k → field look depth type s ≡ Fault k 0
 unfolding field
-bad-tag-fault sch depth type s k e = given-no _ e
+bad-tag-fault look depth type s k e = given-no _ e
 
 -- the field of the tag t, whose number has the entry e
 module _ (sch : Schema) (depth type : ℕ) (s : List ℕ) (t n : ℕ) (reads : tag s ≡ Took t n) (e : Entry) (is : lookup (sch .entries) type (t / 8) ≡ e) where
-  field-kind : (k : ℕ) → kindOf e (t % 8) ≡ k → field sch depth type s ≡ shaped (shape k) depth e (t / 8) k n (drop n s)
-  unfolding field
+  field-kind : (k : ℕ) → kindOf e (t % 8) ≡ k → field (says sch) depth type s ≡ shaped (shape k) depth (insideOf k e) (t / 8) k n (drop n s)
+  unfolding field says saysOf
   field-kind k h =
-      given-took _ reads ∙ ap (λ (x : Entry). shaped (shape (kindOf x (t % 8))) depth x (t / 8) (kindOf x (t % 8)) n (drop n s)) is
-      ∙ ap (λ (k : ℕ). shaped (shape k) depth e (t / 8) k n (drop n s)) h
+      given-took _ reads ∙ ap (λ (x : Entry). shaped (shape (kindOf x (t % 8))) depth (insideOf (kindOf x (t % 8)) x) (t / 8) (kindOf x (t % 8)) n (drop n s)) is
+      ∙ ap (λ (k : ℕ). shaped (shape k) depth (insideOf k e) (t / 8) k n (drop n s)) h
 
   -- with the entry's wire type it is of the entry's kind
-  pub typed-field : t % 8 ≡ wire (e .kind) → field sch depth type s ≡ shaped (shape (e .kind)) depth e (t / 8) (e .kind) n (drop n s)
+  pub typed-field : t % 8 ≡ wire (e .kind) → field (says sch) depth type s ≡ shaped (shape (e .kind)) depth (insideOf (e .kind) e) (t / 8) (e .kind) n (drop n s)
   typed-field w = field-kind (e .kind) (kind-typed e (t % 8) w)
 
   -- a message head at depth 100 is refused 7, whatever follows its tag
@@ -147,20 +144,20 @@ module _ (sch : Schema) (depth type : ℕ) (s : List ℕ) (t n : ℕ) (reads : t
   unfolding wire wires
   message-kind k w = kind-typed e (t % 8) (w ∙ ap wire (sym k)) ∙ k
 
-  pub message-refused : e .kind ≡ 11 → t % 8 ≡ 2 → 100 ≤ depth → field sch depth type s ≡ Fault 7 0
+  pub message-refused : e .kind ≡ 11 → t % 8 ≡ 2 → 100 ≤ depth → field (says sch) depth type s ≡ Fault 7 0
   unfolding shape shapes
-  message-refused k w h = field-kind 11 (message-kind k w) ∙ message-too-deep depth e (t / 8) 11 n (drop n s) h
+  message-refused k w h = field-kind 11 (message-kind k w) ∙ message-too-deep depth (e .child) (t / 8) 11 n (drop n s) h
 
   pub message-field : e .kind ≡ 11 → t % 8 ≡ 2 → depth < 100
-      → field sch depth type s ≡ given (content varint64 (drop n s)) λ a z. Message (t / 8) (e .child) (n + a) (n + z)
+      → field (says sch) depth type s ≡ given (content varint64 (drop n s)) λ a z. Message (t / 8) (e .child) (n + a) (n + z)
   unfolding shape shapes
-  message-field k w h = field-kind 11 (message-kind k w) ∙ message-head depth e (t / 8) 11 n (drop n s) h
+  message-field k w h = field-kind 11 (message-kind k w) ∙ message-head depth (e .child) (t / 8) 11 n (drop n s) h
 
   -- a packed head may stand at every depth
   pub packed-field : e .repeated ≡ true → isScalar (shape (e .kind)) ≡ true → t % 8 ≡ 2
-      → field sch depth type s ≡ given (content varint64 (drop n s)) λ a z. Packed (t / 8) (e .kind) (n + a) (n + z)
+      → field (says sch) depth type s ≡ given (content varint64 (drop n s)) λ a z. Packed (t / 8) (e .kind) (n + a) (n + z)
   unfolding shape shapes
-  packed-field r c w = field-kind 20 (ap (kindOf e) w ∙ kind-packed e r c) ∙ packed-head depth e (t / 8) 20 n (drop n s)
+  packed-field r c w = field-kind 20 (ap (kindOf e) w ∙ kind-packed e r c) ∙ packed-head depth (e .kind) (t / 8) 20 n (drop n s)
 
   -- ---- an unknown field, by its wire type: it has no entry, or one that `kind-unknown` says
 
@@ -172,36 +169,36 @@ module _ (sch : Schema) (depth type : ℕ) (s : List ℕ) (t n : ℕ) (reads : t
     unknown-is w h = unknown ∙ ap unknownKind h
 
     -- a varint as it stands: zigzag is not undone
-    pub unknown-varint : t % 8 ≡ 0 → field sch depth type s ≡ given (varint64 (drop n s)) λ v l. Value (t / 8) 21 v n (n + l)
+    pub unknown-varint : t % 8 ≡ 0 → field (says sch) depth type s ≡ given (varint64 (drop n s)) λ v l. Value (t / 8) 21 v n (n + l)
     unfolding unknownKind shape shapes shaped scalar
     unknown-varint w = field-kind 21 (unknown-is 0 w)
 
-    pub unknown-fixed64 : t % 8 ≡ 1 → field sch depth type s ≡ given (fixed 8 (drop n s)) λ v l. Value (t / 8) 22 v n (n + l)
+    pub unknown-fixed64 : t % 8 ≡ 1 → field (says sch) depth type s ≡ given (fixed 8 (drop n s)) λ v l. Value (t / 8) 22 v n (n + l)
     unfolding unknownKind shape shapes shaped scalar
     unknown-fixed64 w = field-kind 22 (unknown-is 1 w)
 
     -- a content as it stands: it is not checked for UTF-8
-    pub unknown-bytes : t % 8 ≡ 2 → field sch depth type s ≡ given (content varint32 (drop n s)) λ a z. Value (t / 8) 23 0 (n + a) (n + z)
+    pub unknown-bytes : t % 8 ≡ 2 → field (says sch) depth type s ≡ given (content varint32 (drop n s)) λ a z. Value (t / 8) 23 0 (n + a) (n + z)
     unfolding unknownKind shape shapes shaped
     unknown-bytes w = field-kind 23 (unknown-is 2 w)
 
-    pub unknown-fixed32 : t % 8 ≡ 5 → field sch depth type s ≡ given (fixed 4 (drop n s)) λ v l. Value (t / 8) 24 v n (n + l)
+    pub unknown-fixed32 : t % 8 ≡ 5 → field (says sch) depth type s ≡ given (fixed 4 (drop n s)) λ v l. Value (t / 8) 24 v n (n + l)
     unfolding unknownKind shape shapes shaped scalar
     unknown-fixed32 w = field-kind 24 (unknown-is 5 w)
 
-    pub unknown-end : t % 8 ≡ 4 → field sch depth type s ≡ Fault 4 0
+    pub unknown-end : t % 8 ≡ 4 → field (says sch) depth type s ≡ Fault 4 0
     unfolding unknownKind shape shapes shaped
     unknown-end w = field-kind 26 (unknown-is 4 w)
 
-    pub unknown-group : t % 8 ≡ 3 → field sch depth type s ≡ given (outerGroup depth (drop n s)) λ v l. Dropped (t / 8) (n + l)
+    pub unknown-group : t % 8 ≡ 3 → field (says sch) depth type s ≡ given (outerGroup depth (drop n s)) λ v l. Dropped (t / 8) (n + l)
     unfolding unknownKind shape shapes shaped
     unknown-group w = field-kind 25 (unknown-is 3 w)
 
     -- The outermost group is not counted: an empty one is taken at every depth, and so at 100, where one more in it is refused 7.
-    pub group-dropped : (u m : ℕ) → t % 8 ≡ 3 → tag (drop n s) ≡ Took u m → u % 8 ≡ 4 → field sch depth type s ≡ Dropped (t / 8) (n + m)
+    pub group-dropped : (u m : ℕ) → t % 8 ≡ 3 → tag (drop n s) ≡ Took u m → u % 8 ≡ 4 → field (says sch) depth type s ≡ Dropped (t / 8) (n + m)
     group-dropped u m w r c = unknown-group w ∙ given-took _ (group-closes (No 1) depth (drop n s) u m r c)
 
-    pub group-in-group : (u m : ℕ) → t % 8 ≡ 3 → tag (drop n s) ≡ Took u m → u % 8 ≡ 3 → 100 ≤ depth → field sch depth type s ≡ Fault 7 0
+    pub group-in-group : (u m : ℕ) → t % 8 ≡ 3 → tag (drop n s) ≡ Took u m → u % 8 ≡ 3 → 100 ≤ depth → field (says sch) depth type s ≡ Fault 7 0
     group-in-group u m w r c h =
         unknown-group w
         ∙ given-no _ (group-field-refused (No 1) depth (drop n s) u m 7 r (λ x. omega arith)

@@ -14,12 +14,12 @@ use Rattle.spec.specs.Base.{if_then_else_, part, Read, Took, No, refusal
 use Rattle.spec.specs.Varint.{varint, fixed, tag, varint32, varint64}
 use Rattle.spec.specs.Utf8.{utf8}
 use Rattle.spec.specs.Kind.{Scalar, int32, uint32, uint64, bool, sint32, sint64, fixed32, sfixed32, fixed64, Shape, one, other, string, bytes, message, packed, startGroup, endGroup, nothing, shape, scalar}
-use Rattle.spec.specs.Schema.{Schema, lookup, kindOf}
 use Rattle.spec.specs.Skip.{content, plain, skipField, skipGroup, innerGroup, outerGroup}
-use Rattle.spec.specs.Reading.{Field, Value, Message, Packed, Dropped, Fault, given, shaped, field, used}
-use Rattle.spec.specs.declared.Entry.{Entry}
+use Rattle.spec.specs.Reading.{Look, Field, Value, Message, Packed, Dropped, Fault, given, shaped, field, used}
 use Rattle.spec.proofs.Laws.{either-way, chosen, Takes, took, none, takes-tag}
 use Rattle.spec.proofs.SkipLaws.{takes-skipField, takes-skipGroup, group-step}
+use Rattle.spec.proofs.VarintLaws.{lower-or-not}
+use Rattle.spec.proofs.FieldLaws.{message-head, message-too-deep}
 
 -- what p reads in s it reads again in the bytes that it took, with u behind them
 pub data Again (p : List ℕ → Read) (s u : List ℕ) : Read → Type 0 where
@@ -297,9 +297,13 @@ module _ (n : ℕ) (s u : List ℕ) where
       (λ t. faulty)
   kept-string p good f h not-found = faulty
 
-  kept-unless : (b : Bool) (k : ℕ) (g : List ℕ → Field) → Kept n g s u (g s) → Kept n (λ x. if b then Fault k 0 else g x) s u (if b then Fault k 0 else g s)
-  kept-unless true k g x = faulty
-  kept-unless false k g x = x
+  -- of two that read alike
+  kept-same : (f g : List ℕ → Field) → ((x : List ℕ) → f x ≡ g x) → Kept n g s u (g s) → Kept n f s u (f s)
+  kept-same f g h k = subst (Kept n f s u) (sym (h s)) (go k)
+    where
+      go : {x : Field} → Kept n g s u x → Kept n f s u x
+      go (kept l e q) = kept l e (h _ ∙ q)
+      go faulty = faulty
 
 kept-behind : (f g : List ℕ → Field) (n : ℕ) (s u : List ℕ) → ((y : List ℕ) → f (take n s ++ y) ≡ g y) → {x : Field} → Kept n g (drop n s) u x
     → 1 ≤ used x → f (take (used x) s ++ u) ≡ x
@@ -309,42 +313,42 @@ kept-behind f g n s u h (kept l e q) some =
 kept-behind f g n s u h faulty some = absurd (omega arith)
 
 -- by the shape of the field
-shaped-kept : (x : Shape) (depth : ℕ) (e : Entry) (m kind n : ℕ) (s u : List ℕ) → Kept n (shaped x depth e m kind n) s u (shaped x depth e m kind n s)
+shaped-kept : (x : Shape) (depth inner m kind n : ℕ) (s u : List ℕ) → Kept n (shaped x depth inner m kind n) s u (shaped x depth inner m kind n s)
 unfolding shaped used
-shaped-kept (one c) depth e m kind n s u = kept-given n s u _ _ (λ v l. refl) (again-scalar c s u)
-shaped-kept (other string) depth e m kind n s u = kept-string n s u _ utf8 _ (λ a z. refl) (content-found _ _ s)
-shaped-kept (other bytes) depth e m kind n s u = kept-given n s u _ _ (λ a z. refl) (again-content _ _ s u)
-shaped-kept (other message) depth e m kind n s u =
-    kept-unless n s u (leb 100 depth) 7 _ (kept-given n s u _ _ (λ a z. refl) (again-content _ _ s u))
-shaped-kept (other packed) depth e m kind n s u = kept-given n s u _ _ (λ a z. refl) (again-content _ _ s u)
-shaped-kept (other startGroup) depth e m kind n s u = kept-given n s u _ _ (λ v l. refl) (again-outerGroup depth s u)
-shaped-kept (other endGroup) depth e m kind n s u = faulty
-shaped-kept (other nothing) depth e m kind n s u = faulty
+shaped-kept (one c) depth inner m kind n s u = kept-given n s u _ _ (λ v l. refl) (again-scalar c s u)
+shaped-kept (other string) depth inner m kind n s u = kept-string n s u _ utf8 _ (λ a z. refl) (content-found _ _ s)
+shaped-kept (other bytes) depth inner m kind n s u = kept-given n s u _ _ (λ a z. refl) (again-content _ _ s u)
+shaped-kept (other message) depth inner m kind n s u =
+    lower-or-not depth 100
+    (λ c. kept-same n s u _ _ (λ x. message-head depth inner m kind n x c) (kept-given n s u _ _ (λ a z. refl) (again-content _ _ s u)))
+    (λ c. subst (Kept n _ s u) (sym (message-too-deep depth inner m kind n s c)) faulty)
+shaped-kept (other packed) depth inner m kind n s u = kept-given n s u _ _ (λ a z. refl) (again-content _ _ s u)
+shaped-kept (other startGroup) depth inner m kind n s u = kept-given n s u _ _ (λ v l. refl) (again-outerGroup depth s u)
+shaped-kept (other endGroup) depth inner m kind n s u = faulty
+shaped-kept (other nothing) depth inner m kind n s u = faulty
 
-module _ (sch : Schema) (depth type : ℕ) where
+module _ (look : Look) (depth type : ℕ) where
   -- the field behind a tag t of n bytes
   abbrev behind : ℕ → ℕ → List ℕ → Field
   behind t n s =
-      let e = lookup (sch .entries) type (t / 8) in
-      let kind = kindOf e (t % 8) in
-      shaped (shape kind) depth e (t / 8) kind n s
+      shaped (shape (look type t .kind)) depth (look type t .inner) (t / 8) (look type t .kind) n s
 
-  field-behind : (s : List ℕ) (t n : ℕ) → n ≤ length s → (y : List ℕ) → Again tag s y (Took t n) → field sch depth type (take n s ++ y) ≡ behind t n y
+  field-behind : (s : List ℕ) (t n : ℕ) → n ≤ length s → (y : List ℕ) → Again tag s y (Took t n) → field look depth type (take n s ++ y) ≡ behind t n y
   unfolding field given
   field-behind s t n h y f =
       ap (λ (r : Read). given r λ t i. behind t i (drop i (take n s ++ y))) (again-read f)
       ∙ ap (behind t n) (drop-at (take n s) y n (length-take-le n s h))
 
   -- A field that is no fault, and so takes some bytes, is the same with anything behind them.
-  pub again-field : (s u : List ℕ) → 1 ≤ used (field sch depth type s)
-      → field sch depth type (take (used (field sch depth type s)) s ++ u) ≡ field sch depth type s
+  pub again-field : (s u : List ℕ) → 1 ≤ used (field look depth type s)
+      → field look depth type (take (used (field look depth type s)) s ++ u) ≡ field look depth type s
   unfolding field given used
   again-field s u some = go (tag s) (takes-tag s) (again-tag s) some
     where
       go : (r : Read) → Takes 1 (length s) r → ((y : List ℕ) → Again tag s y r) → 1 ≤ used (given r λ t n. behind t n (drop n s))
-          → field sch depth type (take (used (given r λ t n. behind t n (drop n s))) s ++ u) ≡ given r (λ t n. behind t n (drop n s))
+          → field look depth type (take (used (given r λ t n. behind t n (drop n s))) s ++ u) ≡ given r (λ t n. behind t n (drop n s))
       go (Took t n) (took h j) f =
-          kept-behind (field sch depth type) (behind t n) n s u (λ y. field-behind s t n j y (f y)) (shaped-kept _ depth _ (t / 8) _ n (drop n s) u)
+          kept-behind (field look depth type) (behind t n) n s u (λ y. field-behind s t n j y (f y)) (shaped-kept _ depth _ (t / 8) _ n (drop n s) u)
       go (No k) none f = λ h. absurd (omega arith)
 
 -- ---- a content of bytes
@@ -362,16 +366,19 @@ unfolding given
 of-given (Took v n) f h = h v n
 of-given (No j) f h = of-fault
 
-shaped-of : (x : Shape) (depth : ℕ) (e : Entry) (m k n : ℕ) (s : List ℕ) → Of k (shaped x depth e m k n s)
+shaped-of : (x : Shape) (depth inner m k n : ℕ) (s : List ℕ) → Of k (shaped x depth inner m k n s)
 unfolding shaped
-shaped-of (one c) depth e m k n s = of-given _ _ λ v l. of-value
-shaped-of (other string) depth e m k n s = of-given _ _ λ a z. either-way (Of k) (utf8 (part a z s)) of-value of-fault
-shaped-of (other bytes) depth e m k n s = of-given _ _ λ a z. of-value
-shaped-of (other message) depth e m k n s = either-way (Of k) (leb 100 depth) of-fault (of-given _ _ λ a z. of-message)
-shaped-of (other packed) depth e m k n s = of-given _ _ λ a z. of-packed
-shaped-of (other startGroup) depth e m k n s = of-given _ _ λ v l. of-dropped
-shaped-of (other endGroup) depth e m k n s = of-fault
-shaped-of (other nothing) depth e m k n s = of-fault
+shaped-of (one c) depth inner m k n s = of-given _ _ λ v l. of-value
+shaped-of (other string) depth inner m k n s = of-given _ _ λ a z. either-way (Of k) (utf8 (part a z s)) of-value of-fault
+shaped-of (other bytes) depth inner m k n s = of-given _ _ λ a z. of-value
+shaped-of (other message) depth inner m k n s =
+    lower-or-not depth 100
+    (λ c. subst (Of k) (sym (message-head depth inner m k n s c)) (of-given _ _ λ a z. of-message))
+    (λ c. subst (Of k) (sym (message-too-deep depth inner m k n s c)) of-fault)
+shaped-of (other packed) depth inner m k n s = of-given _ _ λ a z. of-packed
+shaped-of (other startGroup) depth inner m k n s = of-given _ _ λ v l. of-dropped
+shaped-of (other endGroup) depth inner m k n s = of-fault
+shaped-of (other nothing) depth inner m k n s = of-fault
 
 -- What g reads in s, behind a tag of n bytes, is a content that it does not look at: behind where that starts, any bytes will do that are enough.
 data Unseen (n : ℕ) (g : List ℕ → Field) (s : List ℕ) : Field → Type 0 where
@@ -379,9 +386,9 @@ data Unseen (n : ℕ) (g : List ℕ → Field) (s : List ℕ) : Field → Type 0
       → Unseen n g s (Value m k v (n + a) (n + (a + l)))
   faulty : {k p : ℕ} → Unseen n g s (Fault k p)
 
-bytes-unseen : (depth : ℕ) (e : Entry) (m k n : ℕ) (s : List ℕ) → Unseen n (shaped (other bytes) depth e m k n) s (shaped (other bytes) depth e m k n s)
+bytes-unseen : (depth inner m k n : ℕ) (s : List ℕ) → Unseen n (shaped (other bytes) depth inner m k n) s (shaped (other bytes) depth inner m k n s)
 unfolding shaped given
-bytes-unseen depth e m k n s = go (content-found _ _ s)
+bytes-unseen depth inner m k n s = go (content-found _ _ s)
   where
     go : {r : Read} → Found (content varint32) s r
         → Unseen n (λ x. given (content varint32 x) λ a z. Value m k 0 (n + a) (n + z)) s (given r λ a z. Value m k 0 (n + a) (n + z))
@@ -395,21 +402,21 @@ unseen-behind f g n s h (unseen a l q) y j = ap f (front-parts n a s y) ∙ h (t
 same-kind : {m j k v a e : ℕ} → Of k (Value m j v a e) → k ≡ j
 same-kind of-value = refl
 
-module _ (sch : Schema) (depth type : ℕ) where
+module _ (look : Look) (depth type : ℕ) where
   -- Where a field's kind is that of bytes, the bytes before its content say what it is: behind them, any bytes will do that are enough.
-  pub any-content : (s : List ℕ) (m kind v a e : ℕ) → field sch depth type s ≡ Value m kind v a e → shape kind ≡ other bytes
-      → (y : List ℕ) → e - a ≤ length y → field sch depth type (take a s ++ y) ≡ Value m kind v a e
+  pub any-content : (s : List ℕ) (m kind v a e : ℕ) → field look depth type s ≡ Value m kind v a e → shape kind ≡ other bytes
+      → (y : List ℕ) → e - a ≤ length y → field look depth type (take a s ++ y) ≡ Value m kind v a e
   unfolding field given
   any-content s m kind v a e p q y l = go (tag s) (takes-tag s) (again-tag s) p
     where
-      go : (r : Read) → Takes 1 (length s) r → ((x : List ℕ) → Again tag s x r) → given r (λ t n. behind sch depth type t n (drop n s)) ≡ Value m kind v a e
-          → field sch depth type (take a s ++ y) ≡ Value m kind v a e
+      go : (r : Read) → Takes 1 (length s) r → ((x : List ℕ) → Again tag s x r) → given r (λ t n. behind look depth type t n (drop n s)) ≡ Value m kind v a e
+          → field look depth type (take a s ++ y) ≡ Value m kind v a e
       go (Took t n) (took h j) f p =
-          let i : Entry = lookup (sch .entries) type (t / 8) in
-          let k : ℕ = kindOf i (t % 8) in
+          let i : ℕ = look type t .inner in
+          let k : ℕ = look type t .kind in
           let g : Shape → List ℕ → Field = λ x. shaped x depth i (t / 8) k n in
           let is : shape k ≡ other bytes = ap shape (same-kind (subst (Of k) p (shaped-of (shape k) depth i (t / 8) k n (drop n s)))) ∙ q in
-          unseen-behind (field sch depth type) (g (shape k)) n s (λ x. field-behind sch depth type s t n j x (f x))
+          unseen-behind (field look depth type) (g (shape k)) n s (λ x. field-behind look depth type s t n j x (f x))
           (subst (Unseen n (g (shape k)) (drop n s)) p
           (subst (λ (x : Shape). Unseen n (g x) (drop n s) (g x (drop n s))) (sym is) (bytes-unseen depth i (t / 8) k n (drop n s)))) y l
       go (No k) none f p = cc

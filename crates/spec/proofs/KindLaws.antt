@@ -1,17 +1,16 @@
 -- A value that fits is read back as it was written. Assumes nothing.
-use Prim.Native.Nat.{ℕ, zero, suc, _+_, _-_, _*_, _/_, _%_, _^_, _≤_, _<_, min}
+use Prim.Native.Nat.{ℕ, _-_, _%_, _^_, _≤_, _<_, min}
 use native.Mathlib.Omega.{arith}
 use native.Mathlib.Nat.{mod-eq-of-lt}
-use mathlib.Core.Path.{_≡_, refl, sym, ap, ap₂, _∙_, subst}
+use mathlib.Core.Path.{_≡_, refl, sym, ap, ap₂, _∙_}
 use mathlib.Core.Bool.{Bool, true, false, _||_, _&&_, false≢true}
-use mathlib.Core.Logic.{_⊎_, inl, inr}
-use mathlib.Core.List.{List, [], _∷_, _++_, map}
+use mathlib.Core.List.{List, _++_, map}
 use lib.ListN.{length, getD, List·getD-map}
-use lib.Dec.{leb, ltb, eqb}
-use borrow.Author.Tests.{lt-ltb, le-ltb, ltb-true, ltb-false, leb-true, leb-false}
-use Rattle.spec.specs.Base.{if_then_else_, between, Read, Took, No, meaning, require}
-use Rattle.spec.specs.Varint.{varint64, varint32, encode, zigzag, unzigzag, fixed, little}
-use Rattle.spec.specs.Kind.{Scalar, int32, uint32, uint64, bool, sint32, sint64, fixed32, sfixed32, fixed64, Special, Shape, one, other, string, bytes, message, packed, startGroup, endGroup, nothing, wires, wire, shapes, shape, signed32, extend, scalar, encoded, fits}
+use lib.Dec.{leb, ltb}
+use borrow.Author.Tests.{lt-ltb, le-ltb, ltb-true, leb-true}
+use Rattle.spec.specs.Base.{if_then_else_, Took, No, meaning, require}
+use Rattle.spec.specs.Varint.{varint64, varint32, encode, zigzag, unzigzag}
+use Rattle.spec.specs.Kind.{Scalar, int32, uint32, uint64, bool, sint32, sint64, fixed32, sfixed32, fixed64, Shape, one, other, string, bytes, message, packed, startGroup, endGroup, nothing, wires, wire, shapes, shape, signed32, extend, scalar, encoded, fits}
 use Rattle.spec.proofs.VarintLaws.{lower-or-not, varint-shortest, zigzag-back, fixed-little, length-little}
 
 -- the two ways to be a signed number of 32 bits

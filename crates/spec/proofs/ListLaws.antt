@@ -1,6 +1,6 @@
 -- A valid list is a `Tree`: its records nest as the depths say, and its bytes are those of its parts.
 -- Assumes nothing.
-use Prim.Native.Nat.{ℕ, zero, suc, _+_, _-_, _*_, _≤_, _<_}
+use Prim.Native.Nat.{ℕ, zero, suc, _+_, _-_, _≤_, _<_}
 use native.Mathlib.Omega.{arith}
 use mathlib.Core.Path.{_≡_, refl, sym, ap, ap₂, _∙_, subst}
 use mathlib.Core.Bool.{Bool, true, false, not, _&&_, _||_, false≢true}
@@ -8,17 +8,17 @@ use mathlib.Core.List.{List, [], _∷_, _++_, append-assoc, append-nil}
 use lib.ListN.{length, take, drop, getD, length-append}
 use lib.Seq.{take-append-seam, drop-append-seam}
 use lib.Dec.{leb, eqb}
-use borrow.Author.Tests.{leb-true, leb-false, eqb-true, eqb-false, ltb-true, ltb-false, lt-ltb, le-ltb, eq-eqb}
+use borrow.Author.Tests.{leb-true, leb-false, eqb-true, lt-ltb, le-ltb, eq-eqb}
 use Rattle.spec.specs.Base.{if_then_else_, between, part}
 use Rattle.spec.specs.Utf8.{utf8}
 use Rattle.spec.specs.Kind.{Scalar, Shape, Special, one, other, string, bytes, message, packed, startGroup, endGroup, nothing, shapes, shape, wire, isScalar, encoded, fits}
 use mathlib.Core.Option.{none}
-use Rattle.spec.specs.Schema.{Schema, badSchema, lookup, unknownKind, kindOf}
+use Rattle.spec.specs.Schema.{Schema, badSchema, lookup, unknownKind, kindOf, says}
 use Rattle.spec.proofs.Laws.{both, by-test}
 use Rattle.spec.specs.Record.{Record, deeper}
 use Rattle.spec.specs.declared.Entry.{Entry}
 use Rattle.spec.specs.Reading.{Done, read, after}
-use Rattle.spec.specs.Writing.{prefixed, body, tagOf, bytesOf, written, Place, Fields, Elements, recorded, expected, lies, fitting, nextDeeper, around, inside, recordFault, Verdict, Fine, Faulty, orElse, listFault}
+use Rattle.spec.specs.Writing.{prefixed, body, tagOf, bytesOf, written, Place, Fields, Elements, recorded, expected, lies, fitting, nextDeeper, around, inside, recordFault, Verdict, Fine, orElse, listFault}
 use Rattle.spec.proofs.VarintLaws.{lower-or-not}
 use Rattle.spec.proofs.SchemaLaws.{schema-kinds}
 use Rattle.spec.proofs.WritingLaws.{bytesIn, bytes-cons}
@@ -478,6 +478,6 @@ module _ (sch : Schema) (payload : List ℕ) where
 
 pub round-trip : (sch : Schema) (payload : List ℕ) (rs : List Record) → badSchema sch ≡ none → listFault sch payload 0 (Fields 0 ∷ []) rs ≡ Fine
     → length (written payload rs) ≤ 2147483647
-    → (qs : List Record) × (read sch 0 0 0 (written payload rs) ≡ after qs Done) × Alike (written payload rs) payload qs rs × Tree sch (written payload rs) 0 0 qs (written payload rs)
+    → (qs : List Record) × (read (says sch) 0 0 0 (written payload rs) ≡ after qs Done) × Alike (written payload rs) payload qs rs × Tree sch (written payload rs) 0 0 qs (written payload rs)
 round-trip sch payload rs valid fine small =
     back sch payload (written payload rs) (valid-tree sch payload (schema-kinds sch valid) rs fine) 0 (stands-self sch payload (written payload rs) (written payload rs)) small

@@ -1,24 +1,19 @@
 -- Laws of reading: a field takes at least one byte and lies in the bytes, and a message is its first field's records, followed by the rest's.
 -- Assumes nothing.
-use Prim.Native.Nat.{ℕ, zero, suc, _+_, _-_, _*_, _/_, _%_, _≤_, _<_, zero-le, suc-le-suc}
+use Prim.Native.Nat.{ℕ, zero, suc, _+_, _-_, _/_, _≤_, _<_}
 use native.Mathlib.Omega.{arith}
 use mathlib.Core.Path.{_≡_, refl, sym, ap, ap₂, _∙_, subst}
-use mathlib.Core.Bool.{Bool, true, false}
-use mathlib.Core.List.{List, [], _∷_, _++_}
-use lib.ListN.{length, take, drop, length-drop, length-take}
-use Rattle.spec.specs.Base.{if_then_else_, part, Read, Took, No}
-use Rattle.spec.specs.Varint.{tag}
+use mathlib.Core.List.{List, [], _∷_}
+use lib.ListN.{length, drop, length-drop, length-take}
+use Rattle.spec.specs.Base.{part, Read, No}
 use Rattle.spec.specs.Utf8.{utf8}
 use Rattle.spec.specs.Kind.{Scalar, Shape, one, other, string, bytes, message, packed, startGroup, endGroup, nothing, shape, scalar}
-use Rattle.spec.specs.Schema.{Schema, lookup, kindOf}
-use Rattle.spec.specs.Skip.{content, outerGroup}
-use Rattle.spec.specs.Reading.{Field, Value, Message, Packed, Dropped, Fault, given, shaped, field, used, Reading, Done, Refused, _then_, _followed-by_, element, elements, contents, records, fields, read}
+use Rattle.spec.specs.Reading.{Look, Field, Value, Message, Packed, Dropped, Fault, given, shaped, field, used, Reading, Done, Refused, _then_, _followed-by_, element, elements, records, fields, read}
 use Rattle.spec.specs.Record.{row}
 use Rattle.spec.proofs.Laws.{either-way, Takes, took, none, takes-tag, takes-scalar, takes-varint, Holds, holds, content-holds}
 use Rattle.spec.proofs.VarintLaws.{lower-or-not}
 use Rattle.spec.proofs.SkipLaws.{takes-skipGroup}
 use Rattle.spec.proofs.FieldLaws.{message-head, message-too-deep}
-use Rattle.spec.specs.declared.Entry.{Entry}
 
 -- from a up to e, behind at least one byte, and in the first `most`
 abbrev pub In : ℕ → ℕ → ℕ → Type 0
@@ -57,32 +52,31 @@ unfolding given
 sound-held (holds {a} {e} h i j) g = g a e h i j
 sound-held Holds.none g = is-fault
 
-shaped-sound : (x : Shape) (depth : ℕ) (e : Entry) (m k n : ℕ) (s : List ℕ) (most : ℕ) → 1 ≤ n → n + length s ≤ most
-    → Sound most (shaped x depth e m k n s)
+shaped-sound : (x : Shape) (depth inner m k n : ℕ) (s : List ℕ) (most : ℕ) → 1 ≤ n → n + length s ≤ most
+    → Sound most (shaped x depth inner m k n s)
 unfolding shaped
-shaped-sound (one c) depth e m k n s most h j = sound-given (takes-scalar c s) λ v i p q. value-in (omega arith)
-shaped-sound (other string) depth e m k n s most h j =
+shaped-sound (one c) depth inner m k n s most h j = sound-given (takes-scalar c s) λ v i p q. value-in (omega arith)
+shaped-sound (other string) depth inner m k n s most h j =
     sound-held (content-holds _ s (takes-varint _ _ s)) λ a z p o q.
     either-way (Sound most) (utf8 (part a z s)) (value-in (omega arith)) is-fault
-shaped-sound (other bytes) depth e m k n s most h j =
+shaped-sound (other bytes) depth inner m k n s most h j =
     sound-held (content-holds _ s (takes-varint _ _ s)) λ a z p o q. value-in (omega arith)
-shaped-sound (other message) depth e m k n s most h j =
+shaped-sound (other message) depth inner m k n s most h j =
     lower-or-not depth 100
-    (λ c. subst (Sound most) (sym (message-head depth e m k n s c)) (sound-held (content-holds _ s (takes-varint _ _ s)) λ a z p o q. message-in (omega arith)))
-    (λ c. subst (Sound most) (sym (message-too-deep depth e m k n s c)) is-fault)
-shaped-sound (other packed) depth e m k n s most h j =
+    (λ c. subst (Sound most) (sym (message-head depth inner m k n s c)) (sound-held (content-holds _ s (takes-varint _ _ s)) λ a z p o q. message-in (omega arith)))
+    (λ c. subst (Sound most) (sym (message-too-deep depth inner m k n s c)) is-fault)
+shaped-sound (other packed) depth inner m k n s most h j =
     sound-held (content-holds _ s (takes-varint _ _ s)) λ a z p o q. packed-in (omega arith)
-shaped-sound (other startGroup) depth e m k n s most h j =
+shaped-sound (other startGroup) depth inner m k n s most h j =
     sound-given (takes-skipGroup (length s) (No 1) none depth s) λ v i p q. dropped-in (omega arith)
-shaped-sound (other endGroup) depth e m k n s most h j = is-fault
-shaped-sound (other nothing) depth e m k n s most h j = is-fault
+shaped-sound (other endGroup) depth inner m k n s most h j = is-fault
+shaped-sound (other nothing) depth inner m k n s most h j = is-fault
 
-pub field-sound : (sch : Schema) (depth type : ℕ) (s : List ℕ) → Sound (length s) (field sch depth type s)
+pub field-sound : (look : Look) (depth type : ℕ) (s : List ℕ) → Sound (length s) (field look depth type s)
 unfolding field
-field-sound sch depth type s =
+field-sound look depth type s =
     sound-given (takes-tag s) λ t n h j.
-    shaped-sound (shape (kindOf (lookup (sch .entries) type (t / 8)) (t % 8))) depth (lookup (sch .entries) type (t / 8)) (t / 8)
-    (kindOf (lookup (sch .entries) type (t / 8)) (t % 8)) n (drop n s) (length s) h (omega (arith, length-drop n s))
+    shaped-sound (shape (look type t .kind)) depth (look type t .inner) (t / 8) (look type t .kind) n (drop n s) (length s) h (omega (arith, length-drop n s))
 
 -- ---- enough steps are enough
 
@@ -111,37 +105,37 @@ field-cong p q p′ q′ depth at s (Packed m k a e) (is-packed h) inner rest =
 field-cong p q p′ q′ depth at s (Dropped m e) (is-dropped h) inner rest = ap (λ (r : Reading). Done followed-by r) (rest (omega arith) (omega arith))
 field-cong p q p′ q′ depth at s (Fault n i) is-fault inner rest = refused-first n (at + i) p′ ∙ sym (refused-first n (at + i) q′)
 
-pub fields-enough : (f g : ℕ) (sch : Schema) (depth type at : ℕ) (s : List ℕ) → length s ≤ f → length s ≤ g
-    → fields f sch depth type at s ≡ fields g sch depth type at s
+pub fields-enough : (f g : ℕ) (look : Look) (depth type at : ℕ) (s : List ℕ) → length s ≤ f → length s ≤ g
+    → fields f look depth type at s ≡ fields g look depth type at s
 unfolding fields
-fields-enough zero zero sch depth type at s hf hg = refl
-fields-enough zero (suc g) sch depth type at [] hf hg = refl
-fields-enough (suc f) zero sch depth type at [] hf hg = refl
-fields-enough zero (suc g) sch depth type at (b ∷ s) hf hg = absurd (omega arith)
-fields-enough (suc f) zero sch depth type at (b ∷ s) hf hg = absurd (omega arith)
-fields-enough (suc f) (suc g) sch depth type at [] hf hg = refl
-fields-enough (suc f) (suc g) sch depth type at (b ∷ s) hf hg =
-    let x = field sch depth type (b ∷ s) in
-    field-cong (λ c a u. fields f sch (depth + 1) c a u) (λ c a u. fields g sch (depth + 1) c a u) _ _ depth at (b ∷ s) x (field-sound sch depth type (b ∷ s))
-    (λ c a u h. fields-enough f g sch (depth + 1) c a u (omega arith) (omega arith))
-    (λ h j. fields-enough f g sch depth type (at + used x) (drop (used x) (b ∷ s)) (omega (arith, length-drop (used x) (b ∷ s))) (omega (arith, length-drop (used x) (b ∷ s))))
+fields-enough zero zero look depth type at s hf hg = refl
+fields-enough zero (suc g) look depth type at [] hf hg = refl
+fields-enough (suc f) zero look depth type at [] hf hg = refl
+fields-enough zero (suc g) look depth type at (b ∷ s) hf hg = absurd (omega arith)
+fields-enough (suc f) zero look depth type at (b ∷ s) hf hg = absurd (omega arith)
+fields-enough (suc f) (suc g) look depth type at [] hf hg = refl
+fields-enough (suc f) (suc g) look depth type at (b ∷ s) hf hg =
+    let x = field look depth type (b ∷ s) in
+    field-cong (λ c a u. fields f look (depth + 1) c a u) (λ c a u. fields g look (depth + 1) c a u) _ _ depth at (b ∷ s) x (field-sound look depth type (b ∷ s))
+    (λ c a u h. fields-enough f g look (depth + 1) c a u (omega arith) (omega arith))
+    (λ h j. fields-enough f g look depth type (at + used x) (drop (used x) (b ∷ s)) (omega (arith, length-drop (used x) (b ∷ s))) (omega (arith, length-drop (used x) (b ∷ s))))
 
 -- ---- the equations of `read`: nothing reads as nothing, and else the first field's records are followed by the rest's
 
-pub read-nil : (sch : Schema) (depth type at : ℕ) → read sch depth type at [] ≡ Done
+pub read-nil : (look : Look) (depth type at : ℕ) → read look depth type at [] ≡ Done
 unfolding read fields
-read-nil sch depth type at = refl
+read-nil look depth type at = refl
 
-pub read-cons : (sch : Schema) (depth type at b : ℕ) (s : List ℕ)
-    → read sch depth type at (b ∷ s)
-    ≡ (records (λ c a u. read sch (depth + 1) c a u) depth at (b ∷ s) (field sch depth type (b ∷ s))
-    followed-by read sch depth type (at + used (field sch depth type (b ∷ s))) (drop (used (field sch depth type (b ∷ s))) (b ∷ s)))
+pub read-cons : (look : Look) (depth type at b : ℕ) (s : List ℕ)
+    → read look depth type at (b ∷ s)
+    ≡ (records (λ c a u. read look (depth + 1) c a u) depth at (b ∷ s) (field look depth type (b ∷ s))
+    followed-by read look depth type (at + used (field look depth type (b ∷ s))) (drop (used (field look depth type (b ∷ s))) (b ∷ s)))
 unfolding read fields
-read-cons sch depth type at b s =
-    let x = field sch depth type (b ∷ s) in
-    field-cong (λ c a u. fields (length s) sch (depth + 1) c a u) (λ c a u. fields (length u) sch (depth + 1) c a u) _ _ depth at (b ∷ s) x (field-sound sch depth type (b ∷ s))
-    (λ c a u h. fields-enough (length s) (length u) sch (depth + 1) c a u (omega arith) (omega arith))
-    (λ h j. fields-enough (length s) (length (drop (used x) (b ∷ s))) sch depth type (at + used x) (drop (used x) (b ∷ s)) (omega (arith, length-drop (used x) (b ∷ s))) (omega arith))
+read-cons look depth type at b s =
+    let x = field look depth type (b ∷ s) in
+    field-cong (λ c a u. fields (length s) look (depth + 1) c a u) (λ c a u. fields (length u) look (depth + 1) c a u) _ _ depth at (b ∷ s) x (field-sound look depth type (b ∷ s))
+    (λ c a u h. fields-enough (length s) (length u) look (depth + 1) c a u (omega arith) (omega arith))
+    (λ h j. fields-enough (length s) (length (drop (used x) (b ∷ s))) look depth type (at + used x) (drop (used x) (b ∷ s)) (omega (arith, length-drop (used x) (b ∷ s))) (omega arith))
 
 -- ---- the same for the values of a packed field
 

@@ -1,28 +1,28 @@
 -- Written bytes read back as the list: depths, numbers, kinds, values and contents. `Tree` is a valid list, by its nesting, with its bytes.
 -- Assumes nothing.
-use Prim.Native.Nat.{ℕ, zero, suc, _+_, _-_, _*_, _/_, _%_, _^_, _≤_, _<_}
+use Prim.Native.Nat.{ℕ, zero, suc, _+_, _-_, _*_, _≤_, _<_}
 use native.Mathlib.Omega.{arith}
 use mathlib.Core.Path.{_≡_, refl, sym, ap, ap₂, _∙_, subst}
-use mathlib.Core.Bool.{Bool, true, false, not, _&&_, false≢true}
+use mathlib.Core.Bool.{Bool, true, false, false≢true}
 use mathlib.Core.List.{List, [], _∷_, _++_, append-assoc, append-nil}
-use lib.ListN.{length, take, drop, length-append, length-take, length-drop}
-use lib.Seq.{drop-append-seam, take-append-seam, drop-drop, drop-at}
-use lib.Dec.{leb, ltb, eqb}
-use borrow.Author.Tests.{le-leb, lt-leb, leb-true, eqb-true, ne-eqb}
-use Rattle.spec.specs.Base.{if_then_else_, between, part, limit, Read, Took, No, require, longer, _>>=_}
-use Rattle.spec.specs.Varint.{varint, varint32, varint64, encode, shortest, tag}
+use lib.ListN.{length, take, drop, length-append}
+use lib.Seq.{drop-append-seam, take-append-seam, drop-at}
+use lib.Dec.{eqb}
+use borrow.Author.Tests.{le-leb, ne-eqb}
+use Rattle.spec.specs.Base.{if_then_else_, part, Read, Took, require}
+use Rattle.spec.specs.Varint.{varint, encode, shortest, tag}
 use Rattle.spec.specs.Record.{Record, row}
 use Rattle.spec.proofs.VarintLaws.{lower-or-not, shortest-ends, shortest-goes-on}
 use Rattle.spec.specs.Utf8.{utf8}
 use Rattle.spec.specs.Kind.{Scalar, Shape, Special, one, other, string, bytes, message, packed, startGroup, endGroup, nothing, shape, wire, scalar, encoded, fits}
-use Rattle.spec.specs.Schema.{Schema, lookup, kindOf}
-use Rattle.spec.specs.Reading.{Field, Value, Message, Packed, Fault, given, shaped, field, used, Reading, Done, Refused, _then_, _followed-by_, element, elements, contents, records, read, after}
+use Rattle.spec.specs.Schema.{Schema, lookup, kindOf, insideOf, saysOf, says}
+use Rattle.spec.specs.Reading.{Field, Value, Message, Packed, given, shaped, field, used, Reading, Done, _then_, _followed-by_, element, elements, contents, records, read, after}
 use Rattle.spec.specs.Writing.{prefixed, lies}
-use Rattle.spec.proofs.Laws.{both-true, Takes, took, none, takes-scalar}
+use Rattle.spec.proofs.Laws.{both-true, Takes, took, takes-scalar}
 use Rattle.spec.proofs.ReadingLaws.{read-nil, read-cons, elements-cons}
 use Rattle.spec.proofs.RecordLaws.{after-append, after-followed}
 use Rattle.spec.proofs.KindLaws.{scalar-encoded}
-use Rattle.spec.proofs.WritingLaws.{field-written, scalar-written, from, to, part-written, bytes-written, string-written, message-written, packed-written}
+use Rattle.spec.proofs.WritingLaws.{field-written, scalar-written, from, to, bytes-written, string-written, message-written, packed-written}
 use Rattle.spec.specs.declared.Entry.{Entry}
 
 -- ---- what is compared
@@ -90,13 +90,13 @@ stands-part {s} {at} b h e p =
 
 -- ---- one field
 
-read-at : (sch : Schema) (depth type at : ℕ) (s : List ℕ) (x : Field) → field sch depth type s ≡ x → 1 ≤ used x
-    → read sch depth type at s ≡ (records (λ c a u. read sch (depth + 1) c a u) depth at s x followed-by read sch depth type (at + used x) (drop (used x) s))
+read-at : (sch : Schema) (depth type at : ℕ) (s : List ℕ) (x : Field) → field (says sch) depth type s ≡ x → 1 ≤ used x
+    → read (says sch) depth type at s ≡ (records (λ c a u. read (says sch) (depth + 1) c a u) depth at s x followed-by read (says sch) depth type (at + used x) (drop (used x) s))
 unfolding field given tag require varint used
 read-at sch depth type at [] x e h = let z : used x ≡ 0 = sym (ap used e) in absurd (omega arith)
 read-at sch depth type at (b ∷ s) x e h =
-    read-cons sch depth type at b s
-    ∙ ap (λ (y : Field). records (λ c a u. read sch (depth + 1) c a u) depth at (b ∷ s) y followed-by read sch depth type (at + used y) (drop (used y) (b ∷ s))) e
+    read-cons (says sch) depth type at b s
+    ∙ ap (λ (y : Field). records (λ c a u. read (says sch) (depth + 1) c a u) depth at (b ∷ s) y followed-by read (says sch) depth type (at + used y) (drop (used y) (b ∷ s))) e
 
 -- a record's number and kind are what reading gives in a message of type t
 pub record Expected (sch : Schema) (t : ℕ) (r : Record) : Type 0 where
@@ -112,14 +112,20 @@ again x = record { low = x .low; high = x .high; wired = x .wired; reads = x .re
 abbrev pub tagBytes : Record → List ℕ
 tagBytes r = encode (r .number * 8 + wire (r .kind))
 
-field-is : (sch : Schema) (depth t : ℕ) (r : Record) (u : List ℕ) → Expected sch t r → (x : Shape) → shape (r .kind) ≡ x
-    → field sch depth t (tagBytes r ++ u) ≡ shaped x depth (lookup (sch .entries) t (r .number)) (r .number) (r .kind) (length (tagBytes r)) u
-field-is sch depth t r u h x e =
+-- the entry of a record's number
+abbrev entryFor : Schema → ℕ → Record → Entry
+entryFor sch t r = lookup (sch .entries) t (r .number)
+
+field-is : (sch : Schema) (depth t : ℕ) (r : Record) (u : List ℕ) → Expected sch t r → (x : Shape) → shape (r .kind) ≡ x → (k : ℕ) → r .kind ≡ k
+    → field (says sch) depth t (tagBytes r ++ u) ≡ shaped x depth (insideOf k (entryFor sch t r)) (r .number) (r .kind) (length (tagBytes r)) u
+unfolding saysOf
+field-is sch depth t r u h x e k p =
     let n : ℕ = length (tagBytes r) in
-    let y : Entry = lookup (sch .entries) t (r .number) in
+    let y : Entry = entryFor sch t r in
     field-written sch depth t (r .number) (wire (r .kind)) u (h .low) (h .high) (h .wired)
-    ∙ ap (λ (k : ℕ). shaped (shape k) depth y (r .number) k n u) (h .reads)
-    ∙ ap (λ (z : Shape). shaped z depth y (r .number) (r .kind) n u) e
+    ∙ ap (λ (k : ℕ). shaped (shape k) depth (insideOf k y) (r .number) k n u) (h .reads)
+    ∙ ap (λ (z : Shape). shaped z depth (insideOf (r .kind) y) (r .number) (r .kind) n u) e
+    ∙ ap (λ (j : ℕ). shaped x depth (insideOf j y) (r .number) (r .kind) n u) p
 
 -- ---- a list by its nesting, with its bytes
 
@@ -150,12 +156,12 @@ pub data Tree (sch : Schema) (payload : List ℕ) : (t d : ℕ) → List Record 
       → Tree sch payload t d rs b → Tree sch payload t d (r ∷ (qs ++ rs)) (tagBytes r ++ prefixed i ++ b)
 
 abbrev pub Back : Schema → List ℕ → List ℕ → (t d at : ℕ) → List Record → List ℕ → Type 0
-Back sch payload s t d at rs b = (qs : List Record) × (read sch d t at b ≡ after qs Done) × Alike s payload qs rs × Tree sch s t d qs b
+Back sch payload s t d at rs b = (qs : List Record) × (read (says sch) d t at b ≡ after qs Done) × Alike s payload qs rs × Tree sch s t d qs b
 
 -- one more record q in front, where the first field of x ++ b is it, and takes x
 in-front : (sch : Schema) (payload s : List ℕ) (t d at : ℕ) (q r : Record) (rs : List Record) (x b : List ℕ) (f : Field)
-    → field sch d t (x ++ b) ≡ f → used f ≡ length x → 1 ≤ length x
-    → records (λ c a u. read sch (d + 1) c a u) d at (x ++ b) f ≡ (q then Done)
+    → field (says sch) d t (x ++ b) ≡ f → used f ≡ length x → 1 ≤ length x
+    → records (λ c a u. read (says sch) (d + 1) c a u) d at (x ++ b) f ≡ (q then Done)
     → Same s payload q r → ((qs : List Record) → Tree sch s t d qs b → Tree sch s t d (q ∷ qs) (x ++ b))
     → Back sch payload s t d (at + length x) rs b → Back sch payload s t d at (r ∷ rs) (x ++ b)
 unfolding after _followed-by_
@@ -163,7 +169,7 @@ in-front sch payload s t d at q r rs x b f e l h g same grown (qs, p, alike, tre
   q ∷ qs,
   read-at sch d t at (x ++ b) f e (omega arith)
       ∙ ap₂ (λ (y z : Reading). y followed-by z) g
-      (ap₂ (λ (n : ℕ) (u : List ℕ). read sch d t (at + n) u) l (ap (λ (n : ℕ). drop n (x ++ b)) l ∙ drop-append-seam x b) ∙ p),
+      (ap₂ (λ (n : ℕ) (u : List ℕ). read (says sch) d t (at + n) u) l (ap (λ (n : ℕ). drop n (x ++ b)) l ∙ drop-append-seam x b) ∙ p),
   and-so-on same alike,
   grown qs tree,
 )
@@ -211,7 +217,7 @@ module _ (sch : Schema) (payload s : List ℕ) where
     placed = row d (r .number) (r .kind) 0 (at + (n + from c)) (at + (n + to c)) at
 
     content-front : c ≡ part (r .start) (r .stop) payload
-        → field sch d t (tagBytes r ++ prefixed c ++ b) ≡ Value (r .number) (r .kind) 0 (n + from c) (n + to c)
+        → field (says sch) d t (tagBytes r ++ prefixed c ++ b) ≡ Value (r .number) (r .kind) 0 (n + from c) (n + to c)
         → ((qs : List Record) → part (at + (n + from c)) (at + (n + to c)) s ≡ c → lies s placed ≡ true → Tree sch s t d qs b
         → Tree sch s t d (placed ∷ qs) (tagBytes r ++ prefixed (part (at + (n + from c)) (at + (n + to c)) s) ++ b))
         → Back sch payload s t d (at + length (tagBytes r ++ prefixed c)) rs b → Back sch payload s t d at (r ∷ rs) (tagBytes r ++ prefixed c ++ b)
@@ -303,10 +309,10 @@ module _ (sch : Schema) (payload s : List ℕ) where
     rest-stands h = subst (λ (k : ℕ). Stands s k b) (ap (λ (k : ℕ). at + k) (length-append (tagBytes r) (prefixed i))) (stands-right (tagBytes r ++ prefixed i) b h)
 
     -- what the head's field gives, followed by the rest
-    head-back : (f : Field) (kind : ℕ) (qs rs xs ys : List Record) → field sch d t whole ≡ f → used f ≡ stop → 1 ≤ stop
+    head-back : (f : Field) (kind : ℕ) (qs rs xs ys : List Record) → field (says sch) d t whole ≡ f → used f ≡ stop → 1 ≤ stop
         → r .depth ≡ d → r .kind ≡ kind → r .value ≡ 0 → hasContent (shape kind) ≡ false
-        → records (λ c a u. read sch (d + 1) c a u) d at whole f ≡ (row d (r .number) kind 0 (at + start) (at + stop) at then after xs Done)
-        → Alike s payload xs qs → read sch d t (at + stop) b ≡ after ys Done → Alike s payload ys rs
+        → records (λ c a u. read (says sch) (d + 1) c a u) d at whole f ≡ (row d (r .number) kind 0 (at + start) (at + stop) at then after xs Done)
+        → Alike s payload xs qs → read (says sch) d t (at + stop) b ≡ after ys Done → Alike s payload ys rs
         → Tree sch s t d (row d (r .number) (r .kind) 0 (at + start) (at + stop) at ∷ (xs ++ ys)) whole
         → Back sch payload s t d at (r ∷ (qs ++ rs)) whole
     unfolding after _followed-by_
@@ -322,7 +328,7 @@ module _ (sch : Schema) (payload s : List ℕ) where
           q ∷ (xs ++ ys),
           read-at sch d t at whole f e (omega arith)
               ∙ ap₂ (λ (y z : Reading). y followed-by z) g
-              (ap₂ (λ (n : ℕ) (u : List ℕ). read sch d t (at + n) u) l
+              (ap₂ (λ (n : ℕ) (u : List ℕ). read (says sch) d t (at + n) u) l
               (ap (λ (n : ℕ). drop n whole) (l ∙ sym (length-append (tagBytes r) (prefixed i))) ∙ drop-append-seam (tagBytes r ++ prefixed i) b) ∙ p)
               ∙ ap (_then_ q) (after-followed xs Done (after ys Done) ∙ sym (after-append xs ys Done)),
           and-so-on same (alike-append al al′),
@@ -333,7 +339,7 @@ module _ (sch : Schema) (payload s : List ℕ) where
 
   pub back : {t d : ℕ} {rs : List Record} {b : List ℕ} → Tree sch payload t d rs b → (at : ℕ) → Stands s at b → length b ≤ 2147483647 → Back sch payload s t d at rs b
   unfolding after used records contents
-  back {t} {d} no-field at h l = ([], read-nil sch d t at, nothing-left, no-field)
+  back {t} {d} no-field at h l = ([], read-nil (says sch) d t at, nothing-left, no-field)
   back {t} {d} (number {r = r} {rs = rs} {b = b} c dep ex sh f rest) at h l =
       let e : List ℕ = encoded c (r .value) in
       let n : ℕ = length (tagBytes r) in
@@ -346,8 +352,8 @@ module _ (sch : Schema) (payload s : List ℕ) where
         contents = not-content (one c) sh refl;
       } in
       in-front sch payload s t d at (row d (r .number) (r .kind) (r .value) (at + n) (at + (n + length e)) at) r rs x b (Value (r .number) (r .kind) (r .value) n (n + length e))
-      (ap (field sch d t) (append-assoc (tagBytes r) e b) ∙ field-is sch d t r (e ++ b) ex (one c) sh
-      ∙ scalar-written c d (lookup (sch .entries) t (r .number)) (r .number) (r .kind) n (r .value) b f)
+      (ap (field (says sch) d t) (append-assoc (tagBytes r) e b) ∙ field-is sch d t r (e ++ b) ex (one c) sh (r .kind) refl
+      ∙ scalar-written c d (insideOf (r .kind) (entryFor sch t r)) (r .number) (r .kind) n (r .value) b f)
       (sym (length-append (tagBytes r) e)) (omega (arith, length-append (tagBytes r) e, encode-pos 9 (r .number * 8 + wire (r .kind)))) refl same
       (λ qs tree. number c refl (again ex) sh f tree)
       (back rest (at + length x) (stands-right x b h) (omega (arith, length-append x b)))
@@ -355,8 +361,8 @@ module _ (sch : Schema) (payload s : List ℕ) where
       let c : List ℕ = part (r .start) (r .stop) payload in
       let x : List ℕ = tagBytes r ++ prefixed c in
       content-front t d at r rs c b string dep ex val h refl
-      (ap (field sch d t) (append-assoc (tagBytes r) (prefixed c) b) ∙ field-is sch d t r (prefixed c ++ b) ex (other string) sh
-      ∙ string-written d (lookup (sch .entries) t (r .number)) (r .number) (r .kind) (length (tagBytes r)) c b
+      (ap (field (says sch) d t) (append-assoc (tagBytes r) (prefixed c) b) ∙ field-is sch d t r (prefixed c ++ b) ex (other string) sh (r .kind) refl
+      ∙ string-written d (insideOf (r .kind) (entryFor sch t r)) (r .number) (r .kind) (length (tagBytes r)) c b
       (omega (arith, length-append x b, length-append (tagBytes r) (prefixed c), length-append (encode (length c)) c)) u)
       (λ qs found fine tree. text refl (again ex) sh refl fine (ap utf8 found ∙ u) tree)
       (back rest (at + length x) (stands-right x b h) (omega (arith, length-append x b)))
@@ -364,13 +370,13 @@ module _ (sch : Schema) (payload s : List ℕ) where
       let c : List ℕ = part (r .start) (r .stop) payload in
       let x : List ℕ = tagBytes r ++ prefixed c in
       content-front t d at r rs c b bytes dep ex val h refl
-      (ap (field sch d t) (append-assoc (tagBytes r) (prefixed c) b) ∙ field-is sch d t r (prefixed c ++ b) ex (other bytes) sh
-      ∙ bytes-written d (lookup (sch .entries) t (r .number)) (r .number) (r .kind) (length (tagBytes r)) c b
+      (ap (field (says sch) d t) (append-assoc (tagBytes r) (prefixed c) b) ∙ field-is sch d t r (prefixed c ++ b) ex (other bytes) sh (r .kind) refl
+      ∙ bytes-written d (insideOf (r .kind) (entryFor sch t r)) (r .number) (r .kind) (length (tagBytes r)) c b
       (omega (arith, length-append x b, length-append (tagBytes r) (prefixed c), length-append (encode (length c)) c)))
       (λ qs found fine tree. blob refl (again ex) sh refl fine tree)
       (back rest (at + length x) (stands-right x b h) (omega (arith, length-append x b)))
   back {t} {d} (inner {r = r} {rs = rs} {qs = qs} {b = b} {i = i} dep ex kin val deep in-it rest) at h l =
-      let y : Entry = lookup (sch .entries) t (r .number) in
+      let y : Entry = entryFor sch t r in
       let x : List ℕ = tagBytes r ++ prefixed i in
       let small : length i ≤ 2147483647 = omega (arith, length-append x b, length-append (tagBytes r) (prefixed i), length-append (encode (length i)) i) in
       let a : ℕ = length (tagBytes r) + from i in
@@ -378,13 +384,13 @@ module _ (sch : Schema) (payload s : List ℕ) where
       let xs = back in-it (at + a) (inner-stands t d at r i b h) small in
       let ys = back rest (at + z) (rest-stands t d at r i b h) (omega (arith, length-append x b)) in
       head-back t d at r i b (Message (r .number) (y .child) a z) 11 qs rs (xs .0) (ys .0)
-      (ap (field sch d t) (append-assoc (tagBytes r) (prefixed i) b) ∙ field-is sch d t r (prefixed i ++ b) ex (other message) (ap shape kin ∙ shape-11)
-      ∙ message-written d y (r .number) (r .kind) (length (tagBytes r)) i b small deep)
+      (ap (field (says sch) d t) (append-assoc (tagBytes r) (prefixed i) b) ∙ field-is sch d t r (prefixed i ++ b) ex (other message) (ap shape kin ∙ shape-11) 11 kin
+      ∙ message-written d (y .child) (r .number) (r .kind) (length (tagBytes r)) i b small deep)
       refl (omega (arith, encode-pos 9 (r .number * 8 + wire (r .kind)))) dep kin val (ap hasContent shape-11)
-      (ap (_then_ (row d (r .number) 11 0 (at + a) (at + z) at)) (ap (read sch (d + 1) (y .child) (at + a)) (inner-part t d at r i b) ∙ xs .1))
+      (ap (_then_ (row d (r .number) 11 0 (at + a) (at + z) at)) (ap (read (says sch) (d + 1) (y .child) (at + a)) (inner-part t d at r i b) ∙ xs .1))
       (xs .2) (ys .1) (ys .2) (inner refl (again ex) kin refl deep (xs .3) (ys .3))
   back {t} {d} (row-of {r = r} {rs = rs} {qs = qs} {b = b} {i = i} c dep ex kin val sh in-it some rest) at h l =
-      let y : Entry = lookup (sch .entries) t (r .number) in
+      let y : Entry = entryFor sch t r in
       let x : List ℕ = tagBytes r ++ prefixed i in
       let small : length i ≤ 2147483647 = omega (arith, length-append x b, length-append (tagBytes r) (prefixed i), length-append (encode (length i)) i) in
       let a : ℕ = length (tagBytes r) + from i in
@@ -394,8 +400,8 @@ module _ (sch : Schema) (payload s : List ℕ) where
       let ys = back rest (at + z) (rest-stands t d at r i b h) (omega (arith, length-append x b)) in
       let top : Record = row d (r .number) 20 0 (at + a) (at + z) at in
       head-back t d at r i b (Packed (r .number) (y .kind) a z) 20 qs rs (xs .0) (ys .0)
-      (ap (field sch d t) (append-assoc (tagBytes r) (prefixed i) b) ∙ field-is sch d t r (prefixed i ++ b) ex (other packed) (ap shape kin ∙ shape-20)
-      ∙ packed-written d y (r .number) (r .kind) (length (tagBytes r)) i b small)
+      (ap (field (says sch) d t) (append-assoc (tagBytes r) (prefixed i) b) ∙ field-is sch d t r (prefixed i ++ b) ex (other packed) (ap shape kin ∙ shape-20) 20 kin
+      ∙ packed-written d (y .kind) (r .number) (r .kind) (length (tagBytes r)) i b small)
       refl (omega (arith, encode-pos 9 (r .number * 8 + wire (r .kind)))) dep kin val (ap hasContent shape-20)
       (ap (λ (w : Bool). if w then Done else (top then contents (shape (y .kind)) (d + 1) (r .number) (y .kind) at (at + a) (part a z (x ++ b)))) apart
       ∙ ap (_then_ top)

@@ -7,11 +7,11 @@ use mathlib.Core.Bool.{Bool, true, false, _&&_}
 use mathlib.Core.List.{List, [], _∷_}
 use lib.ListN.{length, drop, length-drop}
 use lib.Dec.{leb, ltb, eqb}
-use borrow.Author.Tests.{leb-true, le-leb, lt-leb, lt-ltb, le-ltb, eqb-true, eqb-false, eq-eqb, ne-eqb}
+use borrow.Author.Tests.{leb-true, leb-false, le-leb, lt-leb, ltb-true, ltb-false, eqb-true, eqb-false, eq-eqb, ne-eqb}
 use Rattle.spec.specs.Base.{if_then_else_, limit, Read, Took, No, require, longer, _>>=_}
 use Rattle.spec.specs.Varint.{varint, varint32, varint64, fixed, tag, goodTag}
 use Rattle.spec.specs.Skip.{content, plain, skipField, skipGroup, innerGroup, outerGroup, checked, skipFieldForTag, readUnknownOrSkipGroup}
-use Rattle.spec.proofs.Laws.{either-way, by-test, both, both-true, Takes, took, none, takes-weaker, takes-next, takes-tag, takes-plain, next-cong, next-took, next-no, longer-longer}
+use Rattle.spec.proofs.Laws.{either-way, if-so, if-not, by-test, both, both-true, Takes, took, none, takes-weaker, takes-next, takes-tag, takes-plain, next-cong, next-took, next-no, longer-longer}
 use Rattle.spec.proofs.VarintLaws.{lower-or-not}
 
 -- ---- a field, by its wire type
@@ -41,11 +41,11 @@ module _ (s : List ℕ) where
 module _ (group : ℕ → List ℕ → Read) (level : ℕ) (s : List ℕ) where
   pub group-too-deep : 100 ≤ level → skipField group level 3 s ≡ No 7
   unfolding skipField
-  group-too-deep h = simp (le-leb 100 level h)
+  group-too-deep h = if-so (leb _ level) _ (λ e. omega (arith, leb-false _ level e))
 
   pub group-entered : level < 100 → skipField group level 3 s ≡ group (level + 1) s
   unfolding skipField
-  group-entered h = simp (lt-leb 100 level h)
+  group-entered h = if-not (leb _ level) _ (λ e. omega (arith, leb-true _ level e))
 
   pub no-group : (w : ℕ) → (w ≡ 3 → ⊥) → skipField group level w s ≡ plain w s
   unfolding skipField
@@ -200,13 +200,13 @@ tag-read s t n e = go (varint32 s) e
 
 module _ (t : ℕ) (s : List ℕ) where
   checked-long : (r : Read) → 2147483647 < length s → checked t s r ≡ No 11
-  checked-long r h = simp (lt-ltb 2147483647 (length s) h)
+  checked-long r h = if-so (ltb _ (length s)) _ (λ e. omega (arith, ltb-false _ (length s) e))
 
   checked-bad : (r : Read) → length s ≤ 2147483647 → goodTag t ≡ false → checked t s r ≡ No 3
-  checked-bad r h g = simp (le-ltb 2147483647 (length s) h, g)
+  checked-bad r h g = if-not (ltb _ (length s)) _ (λ e. omega (arith, ltb-true _ (length s) e)) ∙ simp g
 
   checked-good : (r : Read) → length s ≤ 2147483647 → goodTag t ≡ true → checked t s r ≡ r
-  checked-good r h g = simp (le-ltb 2147483647 (length s) h, g)
+  checked-good r h g = if-not (ltb _ (length s)) _ (λ e. omega (arith, ltb-true _ (length s) e)) ∙ simp g
 
 module _ (t level : ℕ) (s : List ℕ) where
   pub skip-long : 2147483647 < length s → skipFieldForTag t level s ≡ No 11

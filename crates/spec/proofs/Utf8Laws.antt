@@ -1,7 +1,7 @@
 -- Laws of UTF-8: the longest valid prefix lies in the bytes, and is a character and the longest valid prefix of the rest; it is valid,
 -- and no valid prefix is longer.
 -- Assumes nothing.
-use Prim.Native.Nat.{ℕ, zero, suc, _+_, _-_, _≤_, _<_}
+use Prim.Native.Nat.{ℕ, zero, suc, _+_, _≤_, _<_}
 use native.Mathlib.Omega.{arith}
 use mathlib.Core.Path.{_≡_, refl, sym, ap, _∙_}
 use mathlib.Core.Bool.{Bool, true, false, _&&_, false≢true}
@@ -12,18 +12,14 @@ use lib.Dec.{eqb}
 use borrow.Author.Tests.{eqb-true, eqb-false, ne-eqb, eq-eqb, le-leb}
 use Rattle.spec.specs.Base.{if_then_else_, between}
 use Rattle.spec.specs.Utf8.{Lead, Follow, NoLead, lead, followers, behind, char, chars, validPrefix, utf8}
-use Rattle.spec.proofs.Laws.{chosen}
-
-and-right : (a b : Bool) → (a && b) ≡ true → b ≡ true
-and-right true b e = e
-and-right false b e = absurd (false≢true e)
+use Rattle.spec.proofs.Laws.{both, chosen}
 
 followers-le : (n lo hi : ℕ) (s : List ℕ) → followers n lo hi s ≡ true → n ≤ length s
 unfolding followers
 followers-le zero lo hi s e = omega arith
 followers-le (suc n) lo hi [] e = absurd (false≢true e)
 followers-le (suc n) lo hi (b ∷ s) e =
-    let h : n ≤ length s = followers-le n 0x80 0xbf s (and-right (between lo hi b) (followers n 0x80 0xbf s) e) in omega arith
+    let h : n ≤ length s = followers-le n 0x80 0xbf s (both (between lo hi b) (followers n 0x80 0xbf s) e .1) in omega arith
 
 behind-le : (l : Lead) (s : List ℕ) → behind l s ≤ suc (length s)
 unfolding behind

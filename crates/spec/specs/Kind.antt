@@ -1,10 +1,10 @@
 -- The kinds of descriptor.proto and our own, what stands on the wire for each, and how its value is read and written.
 -- Assumes nothing: these are definitions.
-use Prim.Native.Nat.{ℕ, zero, suc, _+_, _-_, _^_, min}
-use mathlib.Core.Bool.{Bool, true, false, _||_, _&&_}
+use Prim.Native.Nat.{ℕ, _+_, _-_, _^_, min}
+use mathlib.Core.Bool.{Bool, true, false, _||_}
 use mathlib.Core.List.{List, [], _∷_, _++_}
 use lib.ListN.{getD}
-use lib.Dec.{leb, ltb, eqb}
+use lib.Dec.{ltb}
 use Rattle.spec.specs.Base.{if_then_else_, between, Read, meaning, require}
 use Rattle.spec.specs.Varint.{varint32, varint64, encode, zigzag, unzigzag, fixed, little}
 

@@ -1,6 +1,5 @@
 -- The pull reader: a state, what it may be asked, and what a step says and where it leaves the reader. Assumes nothing: these are definitions.
 use Prim.Native.Nat.{ℕ, _+_}
-use mathlib.Core.Bool.{Bool, true, false}
 use mathlib.Core.List.{List, []}
 use lib.ListN.{length, drop}
 use lib.Dec.{leb, ltb}

@@ -1,7 +1,6 @@
 -- What bytes read as under a schema. Assumes nothing: these are definitions.
-use Prim.Native.Nat.{ℕ, zero, suc, _+_, _/_, _%_}
-use mathlib.Core.Bool.{Bool, true, false}
-use mathlib.Core.List.{List, [], _∷_, _++_}
+use Prim.Native.Nat.{ℕ, zero, suc, _+_, _/_}
+use mathlib.Core.List.{List, [], _∷_}
 use mathlib.Core.Option.{Option, none, some}
 use lib.ListN.{length, drop}
 use lib.Dec.{leb, ltb, eqb}
@@ -9,10 +8,9 @@ use Rattle.spec.specs.Base.{if_then_else_, part, filled, limit, Read, To
 use Rattle.spec.specs.Varint.{varint32, varint64, tag}
 use Rattle.spec.specs.Utf8.{utf8}
 use Rattle.spec.specs.Kind.{Scalar, Shape, one, other, string, bytes, message, packed, startGroup, endGroup, nothing, shape, scalar}
-use Rattle.spec.specs.Schema.{Schema, badSchema, lookup, kindOf}
+use Rattle.spec.specs.Schema.{Schema, badSchema, Says, says}
 use Rattle.spec.specs.Skip.{content, outerGroup}
 use Rattle.spec.specs.Record.{Record, row, stored}
-use Rattle.spec.specs.declared.Entry.{Entry}
 
 -- ---- one field
 
@@ -28,27 +26,29 @@ unfoldable pub given : Read → (ℕ → ℕ → Field) → Field
 given (Took v n) f = f v n
 given (No k) f = Fault k 0
 
--- The field m of this kind, whose tag took n bytes, with s behind them; e is its entry.
-unfoldable pub shaped : Shape → (depth : ℕ) → Entry → (m kind n : ℕ) → List ℕ → Field
-shaped (one c) depth e m kind n s = given (scalar c s) λ v l. Value m kind v n (n + l)
-shaped (other string) depth e m kind n s =
+-- The field m of this kind, whose tag took n bytes, with s behind them; `inner` is what is in it.
+unfoldable pub shaped : Shape → (depth inner m kind n : ℕ) → List ℕ → Field
+shaped (one c) depth inner m kind n s = given (scalar c s) λ v l. Value m kind v n (n + l)
+shaped (other string) depth inner m kind n s =
     given (content varint32 s) λ a z. if utf8 (part a z s) then Value m kind 0 (n + a) (n + z) else Fault 6 0
-shaped (other bytes) depth e m kind n s = given (content varint32 s) λ a z. Value m kind 0 (n + a) (n + z)
-shaped (other message) depth e m kind n s =
+shaped (other bytes) depth inner m kind n s = given (content varint32 s) λ a z. Value m kind 0 (n + a) (n + z)
+shaped (other message) depth inner m kind n s =
     if leb 100 depth then Fault 7 0 else
-    given (content varint64 s) λ a z. Message m (e .child) (n + a) (n + z)
-shaped (other packed) depth e m kind n s = given (content varint64 s) λ a z. Packed m (e .kind) (n + a) (n + z)
-shaped (other startGroup) depth e m kind n s = given (outerGroup depth s) λ v l. Dropped m (n + l)
-shaped (other endGroup) depth e m kind n s = Fault 4 0
-shaped (other nothing) depth e m kind n s = Fault 3 0  -- no kind of a valid schema
+    given (content varint64 s) λ a z. Message m inner (n + a) (n + z)
+shaped (other packed) depth inner m kind n s = given (content varint64 s) λ a z. Packed m inner (n + a) (n + z)
+shaped (other startGroup) depth inner m kind n s = given (outerGroup depth s) λ v l. Dropped m (n + l)
+shaped (other endGroup) depth inner m kind n s = Fault 4 0
+shaped (other nothing) depth inner m kind n s = Fault 3 0  -- no kind of a valid schema
+
+-- what is known of a tag in a message of a type: for a schema sch that is `says sch`
+abbrev pub Look : Type 0
+Look = (type tag : ℕ) → Says
 
 -- the field at the front of s, in a message of this type and depth
-unfoldable pub field : Schema → ℕ → ℕ → List ℕ → Field
-field sch depth type s =
+unfoldable pub field : Look → (depth type : ℕ) → List ℕ → Field
+field look depth type s =
     given (tag s) λ t n.
-    let e = lookup (sch .entries) type (t / 8) in
-    let kind = kindOf e (t % 8) in
-    shaped (shape kind) depth e (t / 8) kind n (drop n s)
+    shaped (shape (look type t .kind)) depth (look type t .inner) (t / 8) (look type t .kind) n (drop n s)
 
 -- how many bytes it took
 unfoldable pub used : Field → ℕ
@@ -110,16 +110,16 @@ records inner depth at s (Dropped m e) = Done
 records inner depth at s (Fault m p) = Refused m (at + p)
 
 -- The fields s of a message of this depth and type, which stand at `at`. k is no less than the number of bytes.
-unfoldable pub fields : ℕ → Schema → (depth type at : ℕ) → List ℕ → Reading
-fields zero sch depth type at s = Done
-fields (suc k) sch depth type at [] = Done
-fields (suc k) sch depth type at (b ∷ s) =
-    let x = field sch depth type (b ∷ s) in
-    let rest = fields k sch depth type (at + used x) (drop (used x) (b ∷ s)) in
-    records (λ child a u. fields k sch (depth + 1) child a u) depth at (b ∷ s) x followed-by rest
+unfoldable pub fields : ℕ → Look → (depth type at : ℕ) → List ℕ → Reading
+fields zero look depth type at s = Done
+fields (suc k) look depth type at [] = Done
+fields (suc k) look depth type at (b ∷ s) =
+    let x = field look depth type (b ∷ s) in
+    let rest = fields k look depth type (at + used x) (drop (used x) (b ∷ s)) in
+    records (λ child a u. fields k look (depth + 1) child a u) depth at (b ∷ s) x followed-by rest
 
-unfoldable pub read : Schema → (depth type at : ℕ) → List ℕ → Reading
-read sch depth type at s = fields (length s) sch depth type at s
+unfoldable pub read : Look → (depth type at : ℕ) → List ℕ → Reading
+read look depth type at s = fields (length s) look depth type at s
 
 -- ---- the call
 
@@ -137,7 +137,7 @@ refusedOr (some i) q = Refused 9 i
 unfoldable pub reading : Schema → ℕ → List ℕ → Reading
 reading sch room s =
     if ltb limit (length s) then Refused 11 0 else
-    refusedOr (badSchema sch) (within room (read sch 0 0 0 s))
+    refusedOr (badSchema sch) (within room (read (says sch) 0 0 0 s))
 
 -- ---- its parts: number, place and records, whose count is their length
 

@@ -77,10 +77,11 @@ pub record Says : Type 0 where
   pub kind : ℕ
   pub inner : ℕ
 
+abbrev pub insideOf : ℕ → Entry → ℕ
+insideOf kind e = if eqb kind 20 then e .kind else if eqb kind 11 then e .child else 0
+
 unfoldable pub saysOf : Entry → ℕ → Says
-saysOf e w =
-    let k = kindOf e w in
-    record { kind = k; inner = if eqb k 20 then e .kind else if eqb k 11 then e .child else 0 }
+saysOf e w = record { kind = kindOf e w; inner = insideOf (kindOf e w) e }
 
 -- of a tag in a message of this type
 unfoldable pub says : Schema → (type tag : ℕ) → Says

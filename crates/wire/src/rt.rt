@@ -2,19 +2,50 @@
 ghost use mathlib.Core.Path.{_≡_};
 ghost use mir.Syntax.{w64};
 ghost use mir.Val.{ofZ};
-ghost use Rattle.spec.specs.Varint.{size, tagSize, zigzag};
+ghost use Rattle.spec.specs.Varint.{size, tagSize};
 ghost use Rattle.spec.specs.Kind.{shape};
 ghost use Rattle.spec.specs.Sizes.{prefixedSize, valueSize};
 ghost use Rattle.wire.specs.SizeParts.{capped, coded};
+
+pub mod packed;
+pub mod singular;
+pub mod unknown_or_group;
+
+pub use self::packed::packed_size;
+pub use self::packed::vec_packed_bool_size;
+pub use self::packed::vec_packed_double_size;
+pub use self::packed::vec_packed_enum_or_unknown_size;
+pub use self::packed::vec_packed_fixed32_size;
+pub use self::packed::vec_packed_fixed64_size;
+pub use self::packed::vec_packed_float_size;
+pub use self::packed::vec_packed_int32_size;
+pub use self::packed::vec_packed_int64_size;
+pub use self::packed::vec_packed_sfixed32_size;
+pub use self::packed::vec_packed_sfixed64_size;
+pub use self::packed::vec_packed_sint32_size;
+pub use self::packed::vec_packed_sint64_size;
+pub use self::packed::vec_packed_uint32_size;
+pub use self::packed::vec_packed_uint64_size;
+pub use self::singular::bytes_size;
+pub use self::singular::field_size;
+pub use self::singular::int32_size;
+pub use self::singular::int64_size;
+pub use self::singular::sint32_size;
+pub use self::singular::sint64_size;
+pub use self::singular::string_size;
+pub use self::singular::uint32_size;
+pub use self::singular::uint64_size;
+pub use self::unknown_or_group::unknown_fields_size;
+use crate::varint::encode::encoded_varint64_len;
 use crate::wire_format::MAX_MESSAGE_SIZE;
 use crate::wire_format::wire_of;
+use crate::zigzag::zigzag;
 
-// How many bytes the varint of a value takes: its significant bits, at least 1, plus 6, divided by 7. That is (9 * bits + 64) / 64 for all 65 counts.
+// How many bytes the varint of a value takes.
 pub fn compute_raw_varint64_size(value: u64) -> u64
     ensures { λ r. ⌜ r ≡ size value ⌝ }
 {
-    let zeros = u64::leading_zeros(value) as u64;
-    (640 - 9 * zeros) / 64
+    encoded_varint64_len(value) as u64
 }
 
 pub fn compute_raw_varint32_size(value: u32) -> u64
@@ -35,21 +66,17 @@ fn pattern(value: i64) -> u64
     ensures { λ r. ⌜ r ≡ ofZ w64 value ⌝ }
 {
     if value < 0 {
-        !(!value as u64)
+        let below = !value as u64;
+        0xffff_ffff_ffff_ffff - below
     } else {
         value as u64
     }
 }
 
-// What is written for a sint32 or sint64 of this pattern.
-fn zigzag_of(pattern: u64) -> u64
-    ensures { λ r. ⌜ r ≡ zigzag pattern ⌝ }
+fn pattern32(value: i32) -> u64
+    ensures { λ r. ⌜ r ≡ ofZ w64 value ⌝ }
 {
-    if pattern < 0x8000_0000_0000_0000 {
-        pattern * 2
-    } else {
-        (0xffff_ffff_ffff_ffff - pattern) * 2 + 1
-    }
+    pattern(value as i64)
 }
 
 // A length and as many bytes, cut off above the limit.
@@ -71,7 +98,7 @@ fn coded_of(kind: u32, value: u64) -> u64
     ensures { λ r. ⌜ r ≡ coded kind value ⌝ }
 {
     match kind {
-        17 | 18 => zigzag_of(value),
+        17 | 18 => zigzag(value),
         _ => value,
     }
 }
