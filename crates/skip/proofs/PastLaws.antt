@@ -50,21 +50,6 @@ module _ (k last at : ℕ) (s : List ℕ) (inside : at < length s) where
   behind-byte h =
       rw (drop-cons s at 0, varint-goes-on k last (getD s at 0) (drop (suc at) s) h) (behind-digit at 128 _ _ ∙ rw add-one refl)
 
--- two and three bytes
-module _ (k last at : ℕ) (s : List ℕ) (first : 128 ≤ getD s at 0) where
-  pub two-bytes : at + 1 < length s → getD s (at + 1) 0 < 128 → To (at + 2) ≡ behind at (varint (suc (suc k)) last (drop at s))
-  two-bytes h b =
-      let e : at + 2 ≡ at + 1 + 1 = omega arith in
-      rw e (ends-behind (at + 1) 1 (ends-here k last (at + 1) s h b) ∙ sym (behind-byte (suc k) last at s (omega arith) first))
-
-  pub three-bytes : at + 2 < length s → 128 ≤ getD s (at + 1) 0 → getD s (at + 2) 0 < 128 → To (at + 3) ≡ behind at (varint (suc (suc (suc k))) last (drop at s))
-  three-bytes h b c =
-      let e : at + 2 ≡ at + 1 + 1 = omega arith in
-      let e′ : at + 3 ≡ at + 1 + 1 + 1 = omega arith in
-      rw e′
-      (ends-behind (at + 1 + 1) 1 (ends-here k last (at + 1 + 1) s (omega arith) (rw e at c))
-      ∙ sym (behind-byte (suc (suc k)) last at s (omega arith) first ∙ behind-byte (suc k) last (at + 1) s (omega arith) b))
-
 -- a fixed value: as many bytes as it has, where they are there
 pub fixed-ends : (n : ℕ) (s : List ℕ) → n ≤ length s → Ends n (fixed n s)
 unfolding fixed

@@ -34,8 +34,8 @@ module _ {s : List ℕ} {at n : ℕ} (h : Along s at n) where
       left : 9 - n ≡ suc (8 - n)
       left = omega arith
 
-      pub stopped : getD s (at + n) 0 < 128 → To (at + n + 1) ≡ behind at (varint64 (drop at s))
-      stopped b = sym (h .rest ∙ rw left (sym (ends-behind (at + n) 1 (ends-here (8 - n) 1 (at + n) s l b))))
+      pub stopped : (q : ℕ) → at + n + 1 ≡ q → getD s (at + n) 0 < 128 → To q ≡ behind at (varint64 (drop at s))
+      stopped q e b = rw (← e) (sym (h .rest ∙ rw left (sym (ends-behind (at + n) 1 (ends-here (8 - n) 1 (at + n) s l b)))))
 
       pub turned : 128 ≤ getD s (at + n) 0 → Along s at (n + 1)
       turned b =
@@ -55,3 +55,14 @@ module _ {s : List ℕ} {at n : ℕ} (h : Along s at n) where
       pub bad-last : 1 < getD s (at + n) 0 → Refused 2 ≡ behind at (varint64 (drop at s))
       unfolding varint behind
       bad-last b = sym (h .rest ∙ rw (none-left, drop-cons s (at + n) 0, lt-leb (getD s (at + n) 0) 1 b) refl)
+
+-- the first byte, where there is no loop
+module _ (s : List ℕ) (at : ℕ) (l : at < length s) where
+  zero-on : at + 0 ≡ at
+  zero-on = omega arith
+
+  pub first-stopped : getD s at 0 < 128 → To (at + 1) ≡ behind at (varint64 (drop at s))
+  first-stopped b = stopped (begin s at) (omega arith) (omega arith) (at + 1) (omega arith) (rw zero-on b)
+
+  pub first-turned : 128 ≤ getD s at 0 → Along s at 1
+  first-turned b = turned (begin s at) (omega arith) (omega arith) (rw zero-on b)

@@ -54,14 +54,14 @@ fn long_tag(s: &[u8], at: usize) -> Found
     f
 }
 
-// The values that are most frequent, with no call: varints of one to three bytes, fixed values, and contents whose length is one byte. The
+// The values that are most frequent, with no call: varints of one to five bytes, fixed values, and contents whose length is one byte. The
 // position behind the value, or `at` itself where it is none of these or ends too soon, of which nothing is said.
 
 fn quick_varint(s: &[u8], at: usize) -> usize
     requires { ⌜ at ≤ length (now s) ⌝ }
     ensures { λ r. ⌜ (at < r → To r ≡ behind at (varint64 (drop at (now (s .entry))))) ⌝ }
 {
-    if s.len() - at < 3 {
+    if s.len() - at < 5 {
         return at;
     }
     if s[at] < 128 {
@@ -72,6 +72,12 @@ fn quick_varint(s: &[u8], at: usize) -> usize
     }
     if s[at + 2] < 128 {
         return at + 3;
+    }
+    if s[at + 3] < 128 {
+        return at + 4;
+    }
+    if s[at + 4] < 128 {
+        return at + 5;
     }
     at
 }

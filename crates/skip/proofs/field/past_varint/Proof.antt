@@ -1,5 +1,6 @@
 -- `skip::field::past_varint` meets its contract. The loop passes a byte a turn. Assumes nothing.
 use Prim.Native.Nat.{_-_}
+use mathlib.Core.Path.{refl}
 use native.Mathlib.Omega.{arith}
 use borrow.Author.Needs.{needs}
 use Rattle.skip.proofs.VarintTurn.{Along, begin, ended, stopped, turned, ends-last, bad-last}
@@ -19,7 +20,7 @@ returns : tie.Need-returns Inv-loop μ-loop
 returns c = ended (c .before .before .loop .inv) (omega arith)
 
 returns-2 : tie.Need-returns-2 Inv-loop μ-loop
-returns-2 c = let i = c .before .before .before in stopped (i .before .loop .inv) (omega arith) (omega arith) (c .if2 .taken)
+returns-2 c = let i = c .before .before .before in stopped (i .before .loop .inv) (omega arith) (omega arith) _ refl (c .if2 .taken)
 
 loop-again : tie.Need-loop-again Inv-loop μ-loop
 loop-again c = let i = c .before .before .before in turned (i .before .loop .inv) (omega arith) (omega arith) (c .if2 .left)
