@@ -14,12 +14,13 @@ use Rattle.spec.specs.Base.{limit, Read, Took, No, longer}
 use Rattle.spec.specs.Varint.{tag}
 use Rattle.spec.specs.Skip.{plain}
 use Rattle.spec.specs.Document.{Step, Stop, passed, closed, step, goOn, isNil, isRun, isDocument}
-use Rattle.spec.proofs.Laws.{takes-tag}
+use Rattle.spec.proofs.VarintLaws.{top}
 use Rattle.spec.proofs.DocumentLaws.{walk, walk-step, step-start, step-end, step-value}
+use Rattle.wire.proofs.FoundLaws.{Placed}
 use Rattle.skip.specs.declared.field.Past.the-variants.{To, Refused}
 use Rattle.skip.specs.Passed.{behind}
 use Rattle.skip.specs.Opened.{opened}
-use Rattle.skip.proofs.PastLaws.{Placed, placed, placed-of, refused-of, next-bounds, drop-to}
+use Rattle.skip.proofs.PastLaws.{Behind, stands, behind-of, refused-of, tag-placed, drop-to}
 use Rattle.skip.proofs.GroupTurn.{no-value}
 
 -- ---- the open groups
@@ -80,11 +81,11 @@ module _ {s numbers : List ℕ} {n at : ℕ} (h : Here s numbers n at) where
 
   -- a tag, and the position behind it
   module _ (t next : ℕ) (r : Took t (next - at) ≡ tag (drop at s)) where
-    pub tag-bounds : (at < next) × (next ≤ length s)
-    tag-bounds = next-bounds at t next s r (takes-tag (drop at s))
+    pub bounds : Placed (top 4 15) s at t next
+    bounds = tag-placed s at t next r
 
     behind-tag : drop (next - at) (drop at s) ≡ drop next s
-    behind-tag = let b = tag-bounds in drop-to at next s (omega arith)
+    behind-tag = let b = bounds in drop-to at next s (omega arith)
 
     turned : (x : Step) → step (opened numbers n) (drop at s) (Took t (next - at)) ≡ x
         → run s ≡ goOn x (λ o m. walk o (drop m (drop at s)))
@@ -134,11 +135,11 @@ module _ {s numbers : List ℕ} {n at : ℕ} (h : Here s numbers n at) where
 
     pub value : (q : ℕ) → To q ≡ behind next (plain (t % 8) (drop next s)) → (next ≤ q) × Here s numbers n q
     unfolding passed longer goOn
-    value q f = go (plain (t % 8) (drop next s)) refl (placed-of next q _ f)
+    value q f = go (plain (t % 8) (drop next s)) refl (behind-of next q _ f)
       where
-        go : (x : Read) → plain (t % 8) (drop next s) ≡ x → Placed next q x → (next ≤ q) × Here s numbers n q
-        go (Took v m) e (placed p) =
-            let b = tag-bounds in
+        go : (x : Read) → plain (t % 8) (drop next s) ≡ x → Behind next q x → (next ≤ q) × Here s numbers n q
+        go (Took v m) e (stands p) =
+            let b = bounds in
             let p′ : next - at + m ≡ q - at = omega arith in (
               omega arith,
               record {

@@ -9,12 +9,13 @@ use lib.ListN.{length, drop, length-drop, drop-of-length-le}
 use Rattle.spec.specs.Base.{Read, Took, No}
 use Rattle.spec.specs.Varint.{tag}
 use Rattle.spec.specs.Skip.{plain, skipField, skipGroup, innerGroup}
-use Rattle.spec.proofs.Laws.{takes-tag}
+use Rattle.spec.proofs.VarintLaws.{top}
 use Rattle.spec.proofs.SkipLaws.{plain-other, no-group, group-bad-tag, group-closes, group-field-refused, group-goes-on}
+use Rattle.wire.proofs.FoundLaws.{Placed}
 use Rattle.skip.specs.declared.field.Past.{Past}
 use Rattle.skip.specs.declared.field.Past.the-variants.{To, Refused}
 use Rattle.skip.specs.Passed.{behind, atEnd}
-use Rattle.skip.proofs.PastLaws.{behind-longer, Placed, placed, placed-of, refused-of, refused-behind, next-bounds, drop-to}
+use Rattle.skip.proofs.PastLaws.{behind-longer, Behind, stands, behind-of, refused-of, refused-behind, tag-placed, drop-to}
 
 -- the place behind a group whose fields stand at a position; e is what the end of the bytes means
 abbrev pub groupFrom : Read → ℕ → List ℕ → ℕ → Past
@@ -49,19 +50,19 @@ module _ {e : Read} {level : ℕ} {s : List ℕ} {from at : ℕ} (h : Here e lev
 
   -- a tag, and the position behind it
   module _ (t next : ℕ) (r : Took t (next - at) ≡ tag (drop at s)) where
-    pub tag-bounds : (at < next) × (next ≤ length s)
-    tag-bounds = next-bounds at t next s r (takes-tag (drop at s))
+    pub bounds : Placed (top 4 15) s at t next
+    bounds = tag-placed s at t next r
 
     pub closes : t % 8 ≡ 4 → To next ≡ groupFrom e level s from
     unfolding behind
     closes w =
-        let b = tag-bounds in
+        let b = bounds in
         let q : at + (next - at) ≡ next = omega arith in
         ap To (sym q) ∙ sym (h .rest ∙ ap (behind at) (group-closes e level (drop at s) t (next - at) (sym r) w))
 
     -- the bytes behind the tag, as the laws of a group have them
     behind-tag : drop (next - at) (drop at s) ≡ drop next s
-    behind-tag = let b = tag-bounds in drop-to at next s (omega arith)
+    behind-tag = let b = bounds in drop-to at next s (omega arith)
 
     -- the field behind the tag was skipped
     module _ (w : t % 8 ≡ 4 → ⊥) (p : Past) (f : p ≡ behind next (skipField innerGroup level (t % 8) (drop next s))) where
@@ -71,11 +72,11 @@ module _ {e : Read} {level : ℕ} {s : List ℕ} {from at : ℕ} (h : Here e lev
           z ∙ refused-behind at (group-field-refused e level (drop at s) t (next - at) k (sym r) w (rw behind-tag g)) ∙ sym (h .rest)
 
       pub onward : (q : ℕ) → p ≡ To q → (next ≤ q) × Here e level s from q
-      onward q z = go (skipField innerGroup level (t % 8) (drop next s)) refl (placed-of next q _ (sym z ∙ f))
+      onward q z = go (skipField innerGroup level (t % 8) (drop next s)) refl (behind-of next q _ (sym z ∙ f))
         where
-          go : (x : Read) → skipField innerGroup level (t % 8) (drop next s) ≡ x → Placed next q x → (next ≤ q) × Here e level s from q
-          go (Took v n) g (placed j) =
-              let b = tag-bounds in
+          go : (x : Read) → skipField innerGroup level (t % 8) (drop next s) ≡ x → Behind next q x → (next ≤ q) × Here e level s from q
+          go (Took v n) g (stands j) =
+              let b = bounds in
               let j′ : next - at + n ≡ q - at = omega arith in
               let j″ : at + (q - at) ≡ q = omega arith in (
                 omega arith,

@@ -1,6 +1,6 @@
 -- Laws of a position behind what was read: of varints, fixed values and contents, and of one reading behind another.
 -- Assumes nothing.
-use Prim.Native.Nat.{ℕ, zero, suc, _+_, _-_, _*_, _%_, _^_, _≤_, _<_}
+use Prim.Native.Nat.{ℕ, zero, suc, _+_, _-_, _≤_, _<_}
 use native.Mathlib.Omega.{arith}
 use native.Mathlib.Numerals.{add-one}
 use native.Mathlib.Nat.{add-assoc}
@@ -9,13 +9,14 @@ use mathlib.Core.Bool.{true, false}
 use mathlib.Core.List.{List, [], _∷_}
 use lib.ListN.{length, drop, getD, length-drop}
 use lib.Seq.{drop-cons, drop-drop}
-use lib.Dec.{leb, ltb}
-use borrow.Author.Tests.{le-leb, lt-leb, leb-true, ltb-true}
+use borrow.Author.Tests.{le-leb, lt-leb}
 use Rattle.spec.specs.Base.{Read, Took, No, longer, require, _>>=_, digit}
 use Rattle.spec.specs.Varint.{varint, varint32, fixed, tag, goodTag}
 use Rattle.spec.specs.Skip.{content}
-use Rattle.spec.proofs.Laws.{Takes, took, none, takes-varint, chosen}
+use Rattle.spec.proofs.Laws.{chosen}
 use Rattle.spec.proofs.VarintLaws.{top, varint-ends, varint-goes-on}
+use Rattle.wire.proofs.FoundLaws.{Placed, varint-placed}
+use Rattle.wire.specs.declared.found.Found.the-variants.{Value}
 use Rattle.skip.specs.declared.field.Past.the-variants.{To, Refused}
 use Rattle.skip.specs.Passed.{behind}
 
@@ -94,6 +95,20 @@ module _ (s : List ℕ) where
     unfolding tag require
     tag-bad g = rw (e, g) refl
 
+  -- a tag that was read is a varint
+  tag-varint : {t n : ℕ} → Took t n ≡ tag s → Took t n ≡ varint32 s
+  unfolding tag require
+  tag-varint {t} {n} e = go (varint32 s) e
+    where
+      go : (r : Read) → Took t n ≡ require 3 goodTag r → Took t n ≡ r
+      go (Took v m) e =
+          chosen (λ x. Took t n ≡ x → Took t n ≡ Took v m) (goodTag v) (λ g q. q) (λ g q. let z : _≡_ {A = ℕ} 0 1 = cc in absurd (omega arith)) e
+      go (No k) e = e
+
+-- so the position that was told with it lies behind it and within the bytes, and it is below 2 ^ 32
+pub tag-placed : (s : List ℕ) (at t next : ℕ) → Took t (next - at) ≡ tag (drop at s) → Placed (top 4 15) s at t next
+tag-placed s at t next e = varint-placed 4 15 s at {f = Value t next} (tag-varint (drop at s) e) refl
+
 -- ---- positions
 
 pub refused-behind : (at : ℕ) {k : ℕ} {r : Read} → r ≡ No k → Refused k ≡ behind at r
@@ -106,26 +121,18 @@ behind-longer at n (Took v m) = ap To (sym (add-assoc at n m))
 behind-longer at n (No k) = refl
 
 -- what was read, where the position behind it is known
-pub data Placed (at next : ℕ) : Read → Type 0 where
-  placed : {v n : ℕ} → at + n ≡ next → Placed at next (Took v n)
+pub data Behind (at next : ℕ) : Read → Type 0 where
+  stands : {v n : ℕ} → at + n ≡ next → Behind at next (Took v n)
 
-pub placed-of : (at next : ℕ) (r : Read) → To next ≡ behind at r → Placed at next r
+pub behind-of : (at next : ℕ) (r : Read) → To next ≡ behind at r → Behind at next r
 unfolding behind
-placed-of at next (Took v n) e = placed (let q : next ≡ at + n = cc in sym q)
-placed-of at next (No k) e = let z : _≡_ {A = ℕ} 0 1 = cc in absurd (omega arith)
+behind-of at next (Took v n) e = stands (let q : next ≡ at + n = cc in sym q)
+behind-of at next (No k) e = let z : _≡_ {A = ℕ} 0 1 = cc in absurd (omega arith)
 
 pub refused-of : (at k : ℕ) (r : Read) → Refused k ≡ behind at r → r ≡ No k
 unfolding behind
 refused-of at k (Took v n) e = let z : _≡_ {A = ℕ} 0 1 = cc in absurd (omega arith)
 refused-of at k (No j) e = let q : k ≡ j = cc in ap No (sym q)
-
--- a position that was told lies behind the one where reading began, and within the bytes
-pub next-bounds : (at v next : ℕ) (s : List ℕ) {r : Read} → Took v (next - at) ≡ r → Takes 1 (length (drop at s)) r → (at < next) × (next ≤ length s)
-next-bounds at v next s e (took {n = n} h j) =
-    let q : next - at ≡ n = cc in
-    let l : length (drop at s) ≡ length s - at = length-drop at s in
-    omega arith
-next-bounds at v next s e none = let z : _≡_ {A = ℕ} 0 1 = cc in absurd (omega arith)
 
 -- the bytes at a later position
 pub drop-to : (at next : ℕ) (s : List ℕ) → at ≤ next → drop (next - at) (drop at s) ≡ drop next s
@@ -133,48 +140,14 @@ drop-to at next s h = let q : at + (next - at) ≡ next = omega arith in drop-dr
 
 -- a content whose length was told, and the bytes behind it
 module _ (at m next : ℕ) (s : List ℕ) (e : Took m (next - at) ≡ varint32 (drop at s)) where
-  pub length-bounds : (at < next) × (next ≤ length s)
-  length-bounds = next-bounds at m next s e (takes-varint 4 15 (drop at s))
+  pub length-placed : Placed (top 4 15) s at m next
+  length-placed = varint-placed 4 15 s at {f = Value m next} e refl
 
   pub content-behind : next + m ≤ length s → To (next + m) ≡ behind at (content varint32 (drop at s))
   content-behind h =
-      let b = length-bounds in
+      let b = length-placed in
       let q : at + (next - at + m) ≡ next + m = omega arith in
       rw (← q) (ends-behind at (next - at + m) (content-ends varint32 (drop at s) (sym e) (rw length-drop (omega arith))))
 
   pub content-cut : length s < next + m → Refused 1 ≡ behind at (content varint32 (drop at s))
-  content-cut h = let b = length-bounds in refused-behind at (content-short varint32 (drop at s) (sym e) (rw length-drop (omega arith)))
-
--- ---- a varint is below the top of its width, and so a tag below 2 ^ 32
-
-data Low (least : ℕ) : Read → Type 0 where
-  low : {v n : ℕ} → v < least → Low least (Took v n)
-  nothing : {k : ℕ} → Low least (No k)
-
--- the same as a function, whose arguments are read off what is to be proved
-below : {least v n : ℕ} → v < least → Low least (Took v n)
-below h = low h
-
-low-digit : (b : ℕ) {least : ℕ} {r : Read} → Low least r → Low (least * 128) (digit 128 (b % 128) r)
-unfolding digit
-low-digit b (low h) = below (omega arith)
-low-digit b nothing = nothing
-
-top-some : (k last : ℕ) → 1 ≤ top k last
-top-some zero last = omega arith
-top-some (suc k) last = omega (arith, top-some k last)
-
-varint-low : (k last : ℕ) (s : List ℕ) → Low (top k last) (varint k last s)
-unfolding varint
-varint-low k last [] = nothing
-varint-low zero last (b ∷ s) = chosen (Low (suc last)) (leb b last) (λ e. low (omega (arith, leb-true b last e))) (λ e. nothing)
-varint-low (suc k) last (b ∷ s) =
-    chosen (Low (top k last * 128)) (ltb b 128) (λ e. low (omega (arith, ltb-true b 128 e, top-some k last))) (λ e. low-digit b (varint-low k last s))
-
-pub tag-low : (s : List ℕ) (t n : ℕ) → Took t n ≡ tag s → t < 2 ^ 32
-unfolding tag require
-tag-low s t n e = go (varint32 s) (varint-low 4 15 s) e
-  where
-    go : (r : Read) → Low (2 ^ 32) r → Took t n ≡ require 3 goodTag r → t < 2 ^ 32
-    go (Took v m) (low h) e = chosen (λ x. Took t n ≡ x → t < 2 ^ 32) (goodTag v) (λ g q. let p : t ≡ v = cc in omega arith) (λ g q. let z : _≡_ {A = ℕ} 0 1 = cc in absurd (omega arith)) e
-    go (No k) nothing e = let z : _≡_ {A = ℕ} 0 1 = cc in absurd (omega arith)
+  content-cut h = let b = length-placed in refused-behind at (content-short varint32 (drop at s) (sym e) (rw length-drop (omega arith)))

@@ -17,7 +17,7 @@ use Rattle.skip.specs.declared.field.Past.the-variants.{To, Refused}
 use Rattle.skip.specs.declared.unknown_or_group.Skipped.{Skipped}
 use Rattle.skip.specs.Checked.{Checked, long, bad, good}
 use Rattle.skip.specs.Passed.{past, behind}
-use Rattle.skip.proofs.PastLaws.{Placed, placed, placed-of}
+use Rattle.skip.proofs.PastLaws.{Behind, stands, behind-of}
 use Rattle.skip.proofs.GroupTurn.{no-value}
 
 -- ---- a group's value is 0, so its answer says all of it
@@ -59,10 +59,10 @@ answer-no e = rw e (refl, refl)
 
 answer-to : (q : ℕ) (r : Read) → To q ≡ behind 0 r → (0 ≡ refusal r) × (q ≡ taken r)
 unfolding refusal taken
-answer-to q r e = go r (placed-of 0 q r e)
+answer-to q r e = go r (behind-of 0 q r e)
   where
-    go : (x : Read) → Placed 0 q x → (0 ≡ refusal x) × (q ≡ taken x)
-    go (Took v n) (placed p) = (refl, omega arith)
+    go : (x : Read) → Behind 0 q x → (0 ≡ refusal x) × (q ≡ taken x)
+    go (Took v n) (stands p) = (refl, omega arith)
 
 pub answer-past : (p : Past) (r : Read) {x y : ℕ} → p ≡ behind 0 r → (x ≡ refusal (past 0 p)) × (y ≡ taken (past 0 p)) → (x ≡ refusal r) × (y ≡ taken r)
 unfolding refusal taken behind

@@ -8,8 +8,7 @@ use lib.ListN.{length, drop}
 use Rattle.spec.specs.Base.{Took}
 use Rattle.spec.specs.Varint.{tag}
 use Rattle.wire.specs.Answers.{told}
-use Rattle.skip.proofs.PastLaws.{tag-low}
-use Rattle.skip.proofs.DocumentTurn.{Here, start, finish, bad-tag, tag-bounds, opens, too-many, closes, none-open, value, lost}
+use Rattle.skip.proofs.DocumentTurn.{Here, start, finish, bad-tag, bounds, opens, too-many, closes, none-open, value, lost}
 use Rattle.skip.proofs.document.is_run.Statement.{statement}
 use Rattle.skip.proofs.document.is_run.Tie as tie
 
@@ -37,10 +36,10 @@ returns : tie.Need-returns Inv-loop μ-loop
 returns c = let g = c .before .before in bad-tag (g .before .before .loop .inv) _ (g .before .loop-test .taken) (ap (told _) (sym (c .enum-told .given .1)) ∙ g .tag-at .ensures)
 
 quick-value-requires : tie.Need-quick-value-requires Inv-loop μ-loop
-quick-value-requires c κs = tag-bounds (here c) _ _ (tagged c) .1
+quick-value-requires c κs = bounds (here c) _ _ (tagged c) .inside
 
 loop-less : tie.Need-loop-less Inv-loop μ-loop
-loop-less c = let k = c .before .before in omega (arith, tag-bounds (here k) _ _ (tagged k))
+loop-less c = let k = c .before .before in omega (arith, bounds (here k) _ _ (tagged k))
 
 loop-again : tie.Need-loop-again Inv-loop μ-loop
 loop-again c = let k = c .before .before in value (here k) _ _ (tagged k) _ (c .before .quick-value .ensures (c .if1 .taken)) .1
@@ -49,7 +48,7 @@ returns-2 : tie.Need-returns-2 Inv-loop μ-loop
 returns-2 c = let k = c .before .before .before .before in too-many (here k) _ _ (tagged k) (c .before .match2 .keys1) (omega arith)
 
 cast-numbers : tie.Need-cast-numbers Inv-loop μ-loop
-cast-numbers c = let k = c .before .before .before .before in omega (arith, tag-low _ _ _ (tagged k))
+cast-numbers c = let k = c .before .before .before .before in omega (arith, bounds (here k) _ _ (tagged k))
 
 mul-numbers : tie.Need-mul-numbers Inv-loop μ-loop
 mul-numbers c = omega arith
@@ -61,7 +60,7 @@ add-n : tie.Need-add-n Inv-loop μ-loop
 add-n c = omega arith
 
 loop-less-2 : tie.Need-loop-less-2 Inv-loop μ-loop
-loop-less-2 c = let k = c .before .before .before .before in omega (arith, tag-bounds (here k) _ _ (tagged k))
+loop-less-2 c = let k = c .before .before .before .before in omega (arith, bounds (here k) _ _ (tagged k))
 
 loop-again-2 : tie.Need-loop-again-2 Inv-loop μ-loop
 loop-again-2 c = let k = c .before .before .before .before in opens (here k) _ _ (tagged k) (c .before .match2 .keys1) (omega arith)
@@ -73,13 +72,13 @@ sub-n : tie.Need-sub-n Inv-loop μ-loop
 sub-n c = omega arith
 
 loop-less-3 : tie.Need-loop-less-3 Inv-loop μ-loop
-loop-less-3 c = let k = c .before .before .before .before in omega (arith, tag-bounds (here k) _ _ (tagged k))
+loop-less-3 c = let k = c .before .before .before .before in omega (arith, bounds (here k) _ _ (tagged k))
 
 loop-again-3 : tie.Need-loop-again-3 Inv-loop μ-loop
 loop-again-3 c = let k = c .before .before .before .before in closes (here k) _ _ (tagged k) (c .before .match2 .keys2) (c .if3 .left)
 
 past-plain-requires : tie.Need-past-plain-requires Inv-loop μ-loop
-past-plain-requires c κs = let k = c .before .before .before in tag-bounds (here k) _ _ (tagged k) .1
+past-plain-requires c κs = let k = c .before .before .before in bounds (here k) _ _ (tagged k) .inside
 
 returns-4 : tie.Need-returns-4 Inv-loop μ-loop
 returns-4 c =
@@ -100,7 +99,7 @@ beyond c =
     value (here k) _ _ (tagged k) _ (sym (c .before .e .given .1) ∙ p .past-plain .ensures)
 
 loop-less-4 : tie.Need-loop-less-4 Inv-loop μ-loop
-loop-less-4 c = let k = c .before .before .before .before .before .before .before in omega (arith, beyond c .0, tag-bounds (here k) _ _ (tagged k))
+loop-less-4 c = let k = c .before .before .before .before .before .before .before in omega (arith, beyond c .0, bounds (here k) _ _ (tagged k))
 
 loop-again-4 : tie.Need-loop-again-4 Inv-loop μ-loop
 loop-again-4 c = beyond c .1

@@ -7,7 +7,7 @@ use lib.ListN.{drop}
 use Rattle.spec.specs.Base.{Took}
 use Rattle.spec.specs.Varint.{varint32}
 use Rattle.wire.specs.Answers.{told}
-use Rattle.skip.proofs.PastLaws.{length-bounds, content-behind, content-cut, content-refused, refused-behind}
+use Rattle.skip.proofs.PastLaws.{length-placed, content-behind, content-cut, content-refused, refused-behind}
 use Rattle.skip.proofs.field.past_bytes.Statement.{statement}
 use Rattle.skip.proofs.field.past_bytes.Tie as tie
 
@@ -20,13 +20,13 @@ told-here c =
     ap (told _) (sym (c .before .value .given .1)) ∙ d .decode-varint32 .ensures
 
 sub-if1 : tie.Need-sub-if1
-sub-if1 c = omega (arith, length-bounds _ _ _ _ (told-here c))
+sub-if1 c = omega (arith, length-placed _ _ _ _ (told-here c))
 
 returns : tie.Need-returns
-returns c = let b = length-bounds _ _ _ _ (told-here (c .before)) in content-cut _ _ _ _ (told-here (c .before)) (omega arith)
+returns c = let b = length-placed _ _ _ _ (told-here (c .before)) in content-cut _ _ _ _ (told-here (c .before)) (omega arith)
 
 returns-2 : tie.Need-returns-2
-returns-2 c = let b = length-bounds _ _ _ _ (told-here (c .before)) in content-behind _ _ _ _ (told-here (c .before)) (omega arith)
+returns-2 c = let b = length-placed _ _ _ _ (told-here (c .before)) in content-behind _ _ _ _ (told-here (c .before)) (omega arith)
 
 returns-3 : tie.Need-returns-3
 returns-3 c =

@@ -12,7 +12,7 @@ use Rattle.spec.proofs.SkipLaws.{group-too-deep, group-entered, no-group}
 use Rattle.wire.specs.Answers.{told}
 use Rattle.skip.specs.Passed.{behind, atEnd}
 use Rattle.skip.proofs.PastLaws.{refused-behind}
-use Rattle.skip.proofs.GroupTurn.{Here, refused, tag-bounds, closes, lost, lost-value, onward, value, ends-refused, ends-closed}
+use Rattle.skip.proofs.GroupTurn.{Here, refused, bounds, closes, lost, lost-value, onward, value, ends-refused, ends-closed}
 use borrow.Fn.Kinds.{In}
 use borrow.Fn.PlainCycle.{Measures, is, falls, and}
 use Rattle.skip.proofs.unknown_or_group.skip_field.Reads as skip-field
@@ -103,10 +103,10 @@ skip-group-enum-known-f : (t : ℕ) → skip-group-lts.Need-enum-known-f (skip-g
 skip-group-enum-known-f t c = search needs
 
 skip-group-quick-value-requires : (t : ℕ) → skip-group-lts.Need-quick-value-requires (skip-group-claims t) (skip-group-at t) skip-group.Post skip-group-Inv-loop skip-group-μ-loop
-skip-group-quick-value-requires t c κs = tag-bounds (here t c) _ _ (tagged t c) .1
+skip-group-quick-value-requires t c κs = bounds (here t c) _ _ (tagged t c) .inside
 
 skip-group-loop-less : (t : ℕ) → skip-group-lts.Need-loop-less (skip-group-claims t) (skip-group-at t) skip-group.Post skip-group-Inv-loop skip-group-μ-loop
-skip-group-loop-less t c = omega (arith, tag-bounds (here t (c .before .before)) _ _ (tagged t (c .before .before)))
+skip-group-loop-less t c = omega (arith, bounds (here t (c .before .before)) _ _ (tagged t (c .before .before)))
 
 skip-group-loop-again : (t : ℕ) → skip-group-lts.Need-loop-again (skip-group-claims t) (skip-group-at t) skip-group.Post skip-group-Inv-loop skip-group-μ-loop
 skip-group-loop-again t c = let k = c .before .before in value (here t k) _ _ (tagged t k) _ (c .before .quick-value .ensures (c .if1 .taken)) _ refl .1
@@ -114,7 +114,7 @@ skip-group-loop-again t c = let k = c .before .before in value (here t k) _ _ (t
 skip-group-skip-field-requires : (t : ℕ) → skip-group-lts.Need-skip-field-requires (skip-group-claims t) (skip-group-at t) skip-group.Post skip-group-Inv-loop skip-group-μ-loop
 skip-group-skip-field-requires t c κs =
     let k = c .before .before .before in
-    (omega (arith, here t k .ahead, tag-bounds (here t k) _ _ (tagged t k)), tag-bounds (here t k) _ _ (tagged t k) .1)
+    (omega (arith, here t k .ahead, bounds (here t k) _ _ (tagged t k)), bounds (here t k) _ _ (tagged t k) .inside)
 
 skip-group-enum-known-p : (t : ℕ) → skip-group-lts.Need-enum-known-p (skip-group-claims t) (skip-group-at t) skip-group.Post skip-group-Inv-loop skip-group-μ-loop
 skip-group-enum-known-p t c = search needs
@@ -141,7 +141,7 @@ within t c =
     onward (here t k) _ _ (tagged t k) (λ w. omega (arith, f .before .match2 .keys1)) _ (f .skip-field .ensures) _ (c .before .p .given .1)
 
 skip-group-loop-less-2 : (t : ℕ) → skip-group-lts.Need-loop-less-2 (skip-group-claims t) (skip-group-at t) skip-group.Post skip-group-Inv-loop skip-group-μ-loop
-skip-group-loop-less-2 t c = let k = c .before .before .before .before .before .before .before in omega (arith, within t c .0, tag-bounds (here t k) _ _ (tagged t k))
+skip-group-loop-less-2 t c = let k = c .before .before .before .before .before .before .before in omega (arith, within t c .0, bounds (here t k) _ _ (tagged t k))
 
 skip-group-loop-again-2 : (t : ℕ) → skip-group-lts.Need-loop-again-2 (skip-group-claims t) (skip-group-at t) skip-group.Post skip-group-Inv-loop skip-group-μ-loop
 skip-group-loop-again-2 t c = within t c .1
@@ -150,7 +150,7 @@ skip-group-returns-2 : (t : ℕ) → skip-group-lts.Need-returns-2 (skip-group-c
 skip-group-returns-2 t c = let k = c .before .before .before in closes (here t k) _ _ (tagged t k) (c .match2 .keys2)
 
 skip-group-past-plain-requires : (t : ℕ) → skip-group-lts.Need-past-plain-requires (skip-group-claims t) (skip-group-at t) skip-group.Post skip-group-Inv-loop skip-group-μ-loop
-skip-group-past-plain-requires t c κs = let k = c .before .before .before in tag-bounds (here t k) _ _ (tagged t k) .1
+skip-group-past-plain-requires t c κs = let k = c .before .before .before in bounds (here t k) _ _ (tagged t k) .inside
 
 skip-group-enum-known-p-2 : (t : ℕ) → skip-group-lts.Need-enum-known-p-2 (skip-group-claims t) (skip-group-at t) skip-group.Post skip-group-Inv-loop skip-group-μ-loop
 skip-group-enum-known-p-2 t c = search needs
@@ -178,7 +178,7 @@ beyond t c =
     value (here t k) _ _ (tagged t k) _ (f .past-plain .ensures) _ (c .before .p2 .given .1)
 
 skip-group-loop-less-3 : (t : ℕ) → skip-group-lts.Need-loop-less-3 (skip-group-claims t) (skip-group-at t) skip-group.Post skip-group-Inv-loop skip-group-μ-loop
-skip-group-loop-less-3 t c = let k = c .before .before .before .before .before .before .before in omega (arith, beyond t c .0, tag-bounds (here t k) _ _ (tagged t k))
+skip-group-loop-less-3 t c = let k = c .before .before .before .before .before .before .before in omega (arith, beyond t c .0, bounds (here t k) _ _ (tagged t k))
 
 skip-group-loop-again-3 : (t : ℕ) → skip-group-lts.Need-loop-again-3 (skip-group-claims t) (skip-group-at t) skip-group.Post skip-group-Inv-loop skip-group-μ-loop
 skip-group-loop-again-3 t c = beyond t c .1
