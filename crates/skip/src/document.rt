@@ -53,6 +53,7 @@ fn is_run(s: &[u8]) -> bool
     n == 0
 }
 
+// Whether the bytes are a document. Input above the size limit is none.
 pub fn is_document(s: &[u8]) -> bool
     ensures { λ r. ⌜ r ≡ isDocument (now (s .entry)) ⌝ }
 {

@@ -18,7 +18,8 @@ pub struct Skipped {
     pub used: usize,
 }
 
-// Skips the fields of a group from `from` on, and the end-group tag that closes it. A loop, so that the stack grows with the groups only.
+// Skips the fields of a group from `from` on, and the end-group tag that closes it. A loop, so that the stack grows with the groups only;
+// what is no group's is passed in it, and skip_field is called for a group within.
 fn skip_group(s: &[u8], from: usize, level: u32, outer: bool) -> Past
     ensures { λ r. ⌜ r ≡ behind from (skipGroup (length (drop from (now (s .entry)))) (atEnd outer) level (drop from (now (s .entry)))) ⌝ }
 {
