@@ -1,6 +1,6 @@
 #!/bin/bash
-# setup.sh: fetches what the bench needs and unpacks it below this folder (110 MB to fetch, 700 MB on disk). It installs nothing and changes nothing outside
-# this folder; run again, it does what is missing. Of the machine it needs Debian 12 on aarch64 with gcc, cargo, curl and python3. A real x86-64 is not supported yet.
+# setup.sh: fetches what the bench needs and unpacks it below this folder (220 MB to fetch, 1.1 GB on disk). It installs nothing and changes nothing outside
+# this folder; run again, it does what is missing. Of the machine it needs Debian 12 on aarch64 with gcc, cargo and python3. A real x86-64 is not supported yet.
 #   apt/    a private state of apt, with the machine's own source of Debian packages
 #   debs/   the packages: a C compiler and binutils for x86-64, rustc 1.85 with the standard library of both machines, qemu-user 7.2
 #           (its emulator takes plugins), and the sources of the Rust crate protobuf 3.7.2 and of the crates it uses
