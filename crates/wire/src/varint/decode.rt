@@ -138,7 +138,7 @@ fn fifth_of_five(s: &[u8], at: usize, v4: u64) -> Found
     Found::Value { value: whole, next }
 }
 
-// A varint of two or more bytes. One function for both widths, as two calls of it keep it out of its callers' loops.
+// A varint of two or more bytes, for both widths.
 fn long(s: &[u8], at: usize, narrow: bool) -> Found
     requires { ⌜ (at < length (now s)) × (128 ≤ getD (now s) at 0) ⌝ }
     ensures { λ r. ⌜ told at r ≡ varintOf narrow (drop at (now (s .entry))) ⌝ }
@@ -152,7 +152,8 @@ fn long(s: &[u8], at: usize, narrow: bool) -> Found
     by_bytes(s, at, 9, 1)
 }
 
-// The width by a flag, so that both public functions are one body.
+// The width by a flag, so that both public functions are one body. `long` is called at two places, and so stays a call: with one, it would be made a part of
+// this function, which would then be too large for its callers' loops. Its answer is taken apart, as the caller's can then be in registers.
 fn decode(s: &[u8], at: usize, narrow: bool) -> Found
     ensures { λ r. ⌜ told at r ≡ varintOf narrow (drop at (now (s .entry))) ⌝ }
 {
@@ -171,6 +172,11 @@ fn decode(s: &[u8], at: usize, narrow: bool) -> Found
             let next = at + 2;
             return Found::Value { value: v2, next };
         }
+        let f = long(s, at, narrow);
+        let Found::Value { value, next } = f else {
+            return f;
+        };
+        return Found::Value { value, next };
     }
     long(s, at, narrow)
 }

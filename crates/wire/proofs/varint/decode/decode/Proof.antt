@@ -1,9 +1,11 @@
 -- `wire::varint::decode::decode` meets its contract: one and two bytes by the laws of `VarintSteps`, and the others by `long`.
 -- Assumes nothing.
 use Prim.Native.Nat.{suc, _+_}
+use mathlib.Core.Path.{sym, ap, _∙_}
 use native.Mathlib.Omega.{arith}
 use lib.ListN.{drop}
 use borrow.Author.Needs.{needs}
+use Rattle.wire.specs.Answers.{told}
 use Rattle.wire.proofs.VarintSteps.{begin, ended, either-width, one-byte, first-byte, stopped}
 use Rattle.wire.proofs.varint.decode.decode.Statement.{statement}
 use Rattle.wire.proofs.varint.decode.decode.Tie as tie
@@ -31,6 +33,9 @@ returns-3 c =
     either-width (a .narrow) (drop (a .at) (a .s .now)) λ k last.
     stopped {s = a .s .now} {at = a .at} (omega arith) (first-byte (suc (suc (suc k))) last _ _ (omega arith) (first .if2 .left)) (c .if4 .taken)
 
+returns-5 : tie.Need-returns-5
+returns-5 c = let k = c .before in ap (told _) (sym (k .f .given .1)) ∙ k .before .before .long .ensures
+
 pub decode-spec : {M : Type 1} → statement M
 decode-spec =
     tie.close
@@ -48,5 +53,10 @@ decode-spec =
     (λ c. search needs)
     (λ c. search needs)
     returns-3
+    (λ c κs. search needs)
+    (λ c. search needs)
+    (λ c. search needs)
+    (λ c. search needs)
+    returns-5
     (λ c κs. search needs)
     (λ c. search needs))
