@@ -12,4 +12,5 @@ pub mod RoundTrip
 pub mod ListLaws
 pub mod TreeLaws
 pub mod SizeLaws
+pub mod RunLaws
 pub mod Cases
