@@ -1,0 +1,3 @@
+pub mod FormatLaws
+pub mod Upto
+pub mod ValueSizes

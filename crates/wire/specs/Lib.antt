@@ -1,0 +1,2 @@
+pub mod FormatTold
+pub mod SizeParts
