@@ -5,26 +5,28 @@ use Prim.Native.Nat.{ℕ, zero, suc, _+_, _-_, _*_, _≤_, _<_}
 use native.Mathlib.Omega.{arith}
 use native.Mathlib.Nat.{add-zero}
 use mathlib.Core.Path.{_≡_, refl, sym, ap, ap₂, _∙_, subst}
+use mathlib.Core.Logic.{_≢_}
 use mathlib.Core.Bool.{Bool, true, false, not, false≢true}
 use mathlib.Core.List.{List, [], _∷_, _++_, append-assoc, append-nil}
 use mathlib.Core.Option.{none}
-use lib.ListN.{length, take, drop, getD, length-append, length-drop, drop-of-length-le}
+use lib.ListN.{length, take, drop, getD, length-append, length-drop, drop-of-length-le, List·getD-eq-default}
 use lib.Seq.{take-append-seam, drop-append-seam, drop-drop, drop-nil, getD-drop}
 use lib.Dec.{leb, ltb, eqb}
 use borrow.Author.Tests.{le-leb, lt-leb, leb-true, leb-false}
 use Rattle.spec.specs.Base.{if_then_else_, part}
 use Rattle.spec.specs.Varint.{encode, tagSize}
-use Rattle.spec.specs.Kind.{Scalar, Shape, one, other, string, bytes, message, packed, nothing, shape, wire, encoded, fits}
+use Rattle.spec.specs.Kind.{Scalar, int32, uint32, uint64, bool, sint32, sint64, fixed32, sfixed32, fixed64, Shape, one, other, string, bytes, message, packed, startGroup, endGroup, nothing, shapes, shape, wire, encoded, fits}
 use Rattle.spec.specs.Schema.{Schema, badSchema, lookup}
 use Rattle.spec.specs.Record.{Record, row, deeper, stride, loaded, broken, recordsOf}
 use Rattle.spec.specs.Sizes.{bodySize, sizeOf, sizeUpTo}
 use Rattle.spec.specs.Writing.{prefixed, body, tagOf, written, Fields, lies, Fine, listFault}
 use Rattle.spec.proofs.Laws.{either-way, chosen}
 use Rattle.spec.proofs.VarintLaws.{lower-or-not}
+use Rattle.spec.proofs.KindLaws.{wireOne, wireOf, wire-shape}
 use Rattle.spec.proofs.WritingLaws.{bytesIn}
 use Rattle.spec.proofs.FlatLaws.{records-nil, records-broken, records-cons}
-use Rattle.spec.proofs.RoundTrip.{Expected, tagBytes, Values, no-value, value, Tree, no-field, number, text, blob, inner, row-of, shape-11, shape-20, encode-pos, encoded-pos}
-use Rattle.spec.proofs.ListLaws.{both, Over, over-nil, over-cons, Low, deeper-run, bytes-run, values-low, tree-low, valid-tree, schema-kinds}
+use Rattle.spec.proofs.RoundTrip.{hasContent, Expected, tagBytes, Values, no-value, value, Tree, no-field, number, text, blob, inner, row-of, shape-11, shape-20, encode-pos, encoded-pos}
+use Rattle.spec.proofs.ListLaws.{both, kind-11, kind-20, Over, over-nil, over-cons, Low, deeper-run, bytes-run, values-low, tree-low, valid-tree, schema-kinds}
 use Rattle.spec.proofs.TreeLaws.{low-append, low-weaker}
 use Rattle.spec.proofs.SizeLaws.{sizeIn, size-cons, size-written}
 
@@ -184,6 +186,95 @@ row-low {rs = []} w = tt
 row-low {rs = r ∷ rs} (row-end l) = omega arith
 row-low {rs = r ∷ rs} (row-more dep num kin w) = omega arith
 
+-- which shapes a record has
+has-record : Shape → Bool
+has-record (one c) = true
+has-record (other string) = true
+has-record (other bytes) = true
+has-record (other message) = true
+has-record (other packed) = true
+has-record (other startGroup) = false
+has-record (other endGroup) = false
+has-record (other nothing) = false
+
+nested-record : {r : Record} {rs : List Record} {x : Shape} → Nested r rs x → has-record x ≡ true
+unfolding has-record
+nested-record (a-scalar f l) = refl
+nested-record (a-string o l) = refl
+nested-record (a-bytes o l) = refl
+nested-record (a-message l) = refl
+nested-record (a-row sh dep num w) = refl
+
+no-record : (k : ℕ) → 25 ≤ k → has-record (shape k) ≡ false
+unfolding has-record shape shapes
+no-record k h =
+    lower-or-not k 26
+    (λ l. let e : k ≡ 25 = omega arith in ap (λ (n : ℕ). has-record (shape n)) e)
+    (λ m. lower-or-not k 27
+    (λ l. let e : k ≡ 26 = omega arith in ap (λ (n : ℕ). has-record (shape n)) e)
+    (λ l. let past : length shapes ≤ k = omega arith in ap has-record (List·getD-eq-default shapes (other nothing) past)))
+
+-- what the tests of a pass show of a record: its wire type, and whether it is a head
+wire-one : (c : Scalar) → wireOne c ≢ 2
+unfolding wireOne
+wire-one int32 e = omega arith
+wire-one uint32 e = omega arith
+wire-one uint64 e = omega arith
+wire-one bool e = omega arith
+wire-one sint32 e = omega arith
+wire-one sint64 e = omega arith
+wire-one fixed32 e = omega arith
+wire-one sfixed32 e = omega arith
+wire-one fixed64 e = omega arith
+
+pub record Number (r : Record) (rs : List Record) (x : Shape) : Type 0 where
+  pub c : Scalar
+  pub is : x ≡ one c
+  pub no-deeper : Low (r .depth + 1) rs
+
+pub record Content (r : Record) (rs : List Record) (x : Shape) : Type 0 where
+  pub is : hasContent x ≡ true
+  pub in-order : r .start ≤ r .stop
+  pub no-deeper : Low (r .depth + 1) rs
+
+module _ {r : Record} {rs : List Record} (f : Fit r rs) where
+  pub kind-small : r .kind < 25
+  kind-small = lower-or-not (r .kind) 25 (λ l. l) (λ l. absurd (false≢true (sym (no-record (r .kind) l) ∙ nested-record (f .nested))))
+
+  pub is-number : wire (r .kind) ≢ 2 → Number r rs (shape (r .kind))
+  unfolding wireOf
+  is-number h = go (f .nested) refl
+    where
+      other-wise : {qs : List Record} (x : Shape) → shape (r .kind) ≡ x → wireOf x ≡ 2 → Number r qs x
+      other-wise x e w = absurd (h (wire-shape (r .kind) ∙ ap wireOf e ∙ w))
+
+      go : {qs : List Record} {x : Shape} → Nested r qs x → shape (r .kind) ≡ x → Number r qs x
+      go (a-scalar {c = c} fit l) e = record { c = c; is = refl; no-deeper = l }
+      go (a-string o l) e = other-wise (other string) e refl
+      go (a-bytes o l) e = other-wise (other bytes) e refl
+      go (a-message l) e = other-wise (other message) e refl
+      go (a-row sh dep num w) e = other-wise (other packed) e refl
+
+  pub is-content : wire (r .kind) ≡ 2 → r .kind ≢ 11 → r .kind ≢ 20 → Content r rs (shape (r .kind))
+  unfolding wireOf
+  is-content w no11 no20 = go (f .nested) refl
+    where
+      go : {qs : List Record} {x : Shape} → Nested r qs x → shape (r .kind) ≡ x → Content r qs x
+      go (a-scalar {c = c} fit l) e = absurd (wire-one c (sym (ap wireOf e) ∙ sym (wire-shape (r .kind)) ∙ w))
+      go (a-string o l) e = record { is = refl; in-order = o; no-deeper = l }
+      go (a-bytes o l) e = record { is = refl; in-order = o; no-deeper = l }
+      go (a-message l) e = absurd (no11 (kind-11 (r .kind) e))
+      go (a-row sh dep num q) e = absurd (no20 (kind-20 (r .kind) e))
+
+  pub is-message : r .kind ≡ 11 → Low (r .depth + 1 + 1) rs
+  is-message k = go (subst (Nested r rs) (ap shape k ∙ shape-11) (f .nested))
+    where
+      go : Nested r rs (other message) → Low (r .depth + 1 + 1) rs
+      go (a-message l) = l
+
+  pub is-row : r .kind ≡ 20 → Nested r rs (other packed)
+  is-row k = subst (Nested r rs) (ap shape k ∙ shape-20) (f .nested)
+
 -- ---- a list without fault is sane: first by its nesting, in front of records that are
 
 joined : {r : Record} {rs : List Record} (x : Shape) → shape (r .kind) ≡ x → r .number ≤ 536870911 → r .depth ≤ 101 → Nested r rs x → Sane rs → Sane (r ∷ rs)
@@ -313,16 +404,9 @@ records-count (suc k) ns h =
     rw (records-cons ns l) (omega (arith, c .0, c .1, length-drop stride ns), omega (arith, c .0, c .1, length-drop stride ns)))
 
 -- where some numbers are left in a sane list, a whole record is
-broken-not : {r : Record} {rs : List Record} {x : Shape} → Nested r rs x → x ≡ other nothing → ⊥
-broken-not (a-scalar f l) e = let z : _≡_ {A = ℕ} 0 1 = cc in omega arith
-broken-not (a-string h l) e = let z : _≡_ {A = ℕ} 0 1 = cc in omega arith
-broken-not (a-bytes h l) e = let z : _≡_ {A = ℕ} 0 1 = cc in omega arith
-broken-not (a-message l) e = let z : _≡_ {A = ℕ} 0 1 = cc in omega arith
-broken-not (a-row sh dep num w) e = let z : _≡_ {A = ℕ} 0 1 = cc in omega arith
-
 pub sane-whole : (ns : List ℕ) → Sane (recordsOf ns) → 0 < length ns → stride ≤ length ns
-unfolding shape
+unfolding shape has-record
 sane-whole ns s h =
     lower-or-not (length ns) stride
-    (λ l. absurd (broken-not (sane-first (subst Sane (records-broken ns h l) s) .nested) refl))
+    (λ l. absurd (false≢true (nested-record (sane-first (subst Sane (records-broken ns h l) s) .nested))))
     (λ l. l)
