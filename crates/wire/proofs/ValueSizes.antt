@@ -22,7 +22,7 @@ size-most v = omega arith
 
 -- ---- by wire type
 
-unfoldable zigzags : Shape → Bool
+unfoldable pub zigzags : Shape → Bool
 zigzags (one int32) = false
 zigzags (one uint32) = false
 zigzags (one uint64) = false
@@ -45,7 +45,7 @@ bit-once true false e = absurd (omega arith)
 bit-once false true e = absurd (omega arith)
 bit-once false false e = refl
 
-zigzag-kind : (k : ℕ) → zigzags (shape k) ≡ between 17 18 k
+pub zigzag-kind : (k : ℕ) → zigzags (shape k) ≡ between 17 18 k
 unfolding shape shapes zigzags bit
 zigzag-kind k =
     elim (decLt k 27) [

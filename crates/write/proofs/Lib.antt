@@ -1,0 +1,3 @@
+pub mod EncodeLaws
+pub mod PlainLaws
+pub mod StoreLaws
