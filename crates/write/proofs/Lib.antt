@@ -1,3 +1,4 @@
 pub mod EncodeLaws
 pub mod PlainLaws
+pub mod SpanLaws
 pub mod StoreLaws
