@@ -1,4 +1,5 @@
+pub mod BodyLaws
+pub mod CheckedLaws
 pub mod EncodeLaws
-pub mod PlainLaws
 pub mod SpanLaws
 pub mod StoreLaws

@@ -54,10 +54,10 @@ shorter (suc k) tags payload d ys h (over-cons {r} {rs} j o) l =
 
 module _ (list : List ℕ) where
   -- those from index i on
-  abbrev from : ℕ → List Record
+  abbrev pub from : ℕ → List Record
   from i = recordsOf (drop (6 * i) list)
 
-  from-cons : (i : ℕ) → 6 * i + 6 ≤ length list → from i ≡ at list i ∷ from (i + 1)
+  pub from-cons : (i : ℕ) → 6 * i + 6 ≤ length list → from i ≡ at list i ∷ from (i + 1)
   from-cons i h =
       let next : 6 * i + 6 ≡ 6 * (i + 1) = omega arith in
       records-at list (6 * i) h ∙ ap (λ (n : ℕ). at list i ∷ recordsOf (drop n list)) next
@@ -71,7 +71,7 @@ module _ (list : List ℕ) where
   unfolding span
   span-none a e h = let none : e - a ≡ 0 = omega arith in ap (λ (n : ℕ). take n (from a)) none
 
-  span-cons : (a e : ℕ) → a < e → 6 * e ≤ length list → span list a e ≡ at list a ∷ span list (a + 1) e
+  pub span-cons : (a e : ℕ) → a < e → 6 * e ≤ length list → span list a e ≡ at list a ∷ span list (a + 1) e
   unfolding span
   span-cons a e h l = let count : e - a ≡ suc (e - (a + 1)) = omega arith in ap₂ take count (from-cons a (omega arith))
 

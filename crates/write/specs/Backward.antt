@@ -38,6 +38,9 @@ pub record Room (new : List ℕ) (p : ℕ) (out : List ℕ) : Type 0 where
 abbrev pub depthAt : List ℕ → ℕ → ℕ
 depthAt list i = getD list (6 * i) 0
 
+abbrev pub numberAt : List ℕ → ℕ → ℕ
+numberAt list i = getD list (6 * i + 1) 0
+
 abbrev pub kindAt : List ℕ → ℕ → ℕ
 kindAt list i = getD list (6 * i + 2) 0
 

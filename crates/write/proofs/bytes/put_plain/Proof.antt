@@ -9,7 +9,7 @@ use Rattle.spec.specs.Varint.{encode, little}
 use Rattle.spec.specs.Kind.{shape}
 use Rattle.wire.specs.SizeParts.{coded}
 use Rattle.write.specs.Backward.{Room, plain}
-use Rattle.write.proofs.PlainLaws.{plain-by-wire}
+use Rattle.write.proofs.BodyLaws.{plain-by-wire}
 use Rattle.write.proofs.StoreLaws.{stored-as}
 use Rattle.write.proofs.bytes.put_plain.Statement.{statement}
 use Rattle.write.proofs.bytes.put_plain.Tie as tie
