@@ -1,5 +1,6 @@
 pub mod BodyLaws
 pub mod CheckedLaws
 pub mod EncodeLaws
+pub mod HereLaws
 pub mod SpanLaws
 pub mod StoreLaws

@@ -6,7 +6,7 @@ use native.Mathlib.Omega.{arith}
 use native.Mathlib.Numerals.{add-one}
 use lib.ListN.{length, take, drop, set, length-append, length-take, length-set}
 use lib.Seq.{sets, sets-eq, length-sets, length-take-le, take-append-le, take-take, drop-at}
-use Rattle.write.specs.Backward.{store, Stored}
+use Rattle.write.specs.Backward.{store, Stored, Room}
 
 -- one byte after the other
 pub store-sets : (q : ℕ) (new out : List ℕ) → q + length new ≤ length out → store q new out ≡ sets out q new
@@ -51,6 +51,12 @@ stored-then {a} {b} {out} {next} {now} {p} {q} {r} s t h = record {
 
 pub stored-as : {a b out now : List ℕ} {p q : ℕ} → a ≡ b → Stored a p out q now → Stored b p out q now
 stored-as {out = out} {now} {p} {q} e s = subst (λ (l : List ℕ). Stored l p out q now) e s
+
+pub stored-at : {new out now next : List ℕ} {p q r : ℕ} → Stored new p out q now → r ≡ q → next ≡ now → Stored new p out r next
+stored-at {new} {out} s e f = record { starts = omega (arith, s .starts); holds = f ∙ s .holds ∙ ap (λ (n : ℕ). store n new out) (sym e) }
+
+pub room-as : {a b out : List ℕ} {p : ℕ} → a ≡ b → Room a p out → Room b p out
+room-as {out = out} {p} e r = subst (λ (l : List ℕ). Room l p out) e r
 
 pub stored-none : (p : ℕ) (out : List ℕ) → p ≤ length out → Stored [] p out p out
 stored-none p out h = record { starts = omega arith; holds = sym (store-nil p out h) }

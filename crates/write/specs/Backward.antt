@@ -2,16 +2,15 @@
 -- Record i has the six numbers of the list from 6 * i on. Assumes nothing: these are definitions.
 use Prim.Native.Nat.{ℕ, zero, suc, _+_, _-_, _*_, _/_, _≤_, _<_}
 use mathlib.Core.Path.{_≡_}
-use mathlib.Core.Logic.{_≢_}
-use mathlib.Core.Bool.{Bool, true, false, not, _||_}
+use mathlib.Core.Bool.{Bool, true, false, _||_}
 use mathlib.Core.List.{List, [], _∷_, _++_}
 use lib.ListN.{length, take, drop, getD}
 use lib.Dec.{ltb, eqb}
 use Rattle.spec.specs.Base.{if_then_else_, part}
 use Rattle.spec.specs.Varint.{encode}
-use Rattle.spec.specs.Kind.{Shape, one, other, string, bytes, message, packed, startGroup, endGroup, nothing, wires, shape, wire, isScalar, encoded}
+use Rattle.spec.specs.Kind.{Shape, one, other, string, bytes, message, packed, startGroup, endGroup, nothing, wires, shape, isScalar, encoded}
 use Rattle.spec.specs.Record.{Record, row, recordsOf}
-use Rattle.spec.specs.Writing.{prefixed, tagOf}
+use Rattle.spec.specs.Writing.{prefixed}
 use Rattle.spec.proofs.WritingLaws.{bytesIn}
 use Rattle.spec.proofs.SizeLaws.{Held}
 use Rattle.spec.proofs.RunLaws.{Passed}
@@ -82,56 +81,59 @@ isHead kind = eqb kind 11 || eqb kind 20
 
 -- ---- what is asked
 
--- a table of wire types, and a list without fault whose contents lie in the payload
-pub record Given (table list payload : List ℕ) : Type 0 where
-  pub types : table ≡ take 25 wires
+-- a list without fault whose contents lie in the payload
+pub record Given (list payload : List ℕ) : Type 0 where
   pub passed : Passed (recordsOf list)
   pub held : Held payload (recordsOf list)
 
+-- The record at the place b of the list. What is in it starts at p and ends before `mark`; where it is no head, that is nothing.
+pub record Here (list payload : List ℕ) (b mark p : ℕ) : Type 0 where
+  pub given : Given list payload
+  pub six : b ≡ 6 * (b / 6)
+  pub inside : b + 6 ≤ length list
+  pub before : p ≤ mark
+  pub alone : isHead (kindAt list (b / 6)) ≡ false → mark ≡ p
+
+-- what stands between its tag and what is in it
+abbrev pub leadOf : List ℕ → List ℕ → ℕ → ℕ → List ℕ
+leadOf list payload b n = lead (shape (kindAt list (b / 6))) payload (at list (b / 6)) n
+
 -- whole records before the place `upto`
 pub record Upto (list : List ℕ) (upto : ℕ) : Type 0 where
+  pub passed : Passed (recordsOf list)
   pub six : upto ≡ 6 * (upto / 6)
   pub inside : upto ≤ length list
-
--- Record i: it has n bytes of others in it, which end before `mark` and start at p, or none where it is no head; and there is room before them.
-pub record Own (table list payload out : List ℕ) (i mark p : ℕ) : Type 0 where
-  pub given : Given table list payload
-  pub inside : 6 * i + 6 ≤ length list
-  pub before : p ≤ mark
-  pub head : isHead (kindAt list i) ≡ false → mark ≡ p
-  pub room : Room (tagOf true (at list i) ++ lead (shape (kindAt list i)) payload (at list i) (mark - p)) p out
 
 -- the run at depth d that ends before `upto`, with its tags or without
 abbrev pub runBytes : Bool → List ℕ → List ℕ → ℕ → ℕ → List ℕ
 runBytes tags list payload d upto = bytesIn tags payload (span list (start list d (upto / 6)) (upto / 6))
 
 pub record Run (tags : Bool) (table list payload out : List ℕ) (d upto pos : ℕ) : Type 0 where
-  pub given : Given table list payload
-  pub whole : Upto list upto
+  pub types : table ≡ take 25 wires
+  pub given : Given list payload
+  pub ends : Upto list upto
   pub room : Room (runBytes tags list payload d upto) pos out
 
--- the same run where it is what lies in a head: there is a record in it, and one before it
-pub record In (list : List ℕ) (d upto : ℕ) : Type 0 where
+-- The same run where it is what lies in a head: there is a record in it, and one before it, which says whether it has tags.
+pub record Inner (list : List ℕ) (d upto : ℕ) : Type 0 where
   pub some : start list d (upto / 6) < upto / 6
   pub head : 1 ≤ start list d (upto / 6)
 
--- whether the run that ends there has tags: its head says so
-abbrev pub tagged : List ℕ → ℕ → ℕ → Bool
-tagged list d upto = not (eqb (kindAt list (start list d (upto / 6) - 1)) 20)
+abbrev pub isPacked : List ℕ → ℕ → ℕ → Bool
+isPacked list d upto = eqb (kindAt list (start list d (upto / 6) - 1)) 20
 
--- the values of a packed field, all of one kind
-pub record Values (table list out : List ℕ) (from upto pos : ℕ) : Type 0 where
+-- the values of a packed field, from the place `first` on
+pub record Values (table list payload out : List ℕ) (first upto pos : ℕ) : Type 0 where
   pub types : table ≡ take 25 wires
-  pub begins : from ≡ 6 * (from / 6)
-  pub whole : Upto list upto
-  pub some : from < upto
-  pub passed : Passed (recordsOf list)
-  pub kinds : (j : ℕ) → from / 6 ≤ j → j < upto / 6 → kindAt list j ≡ getD list (upto - 4) 0
-  pub depths : (j : ℕ) → from / 6 ≤ j → j < upto / 6 → depthAt list j ≡ depthAt list (from / 6)
+  pub six : first ≡ 6 * (first / 6)
+  pub ends : Upto list upto
+  pub some : first < upto
+  pub kinds : (j : ℕ) → first / 6 ≤ j → j < upto / 6 → kindAt list j ≡ getD list (upto - 4) 0
+  pub depths : (j : ℕ) → first / 6 ≤ j → j < upto / 6 → depthAt list j ≡ depthAt list (first / 6)
   pub scalar : isScalar (shape (getD list (upto - 4) 0)) ≡ true
-  pub room : Room (bytesIn false [] (span list (from / 6) (upto / 6))) pos out
+  pub room : Room (bytesIn false payload (span list (first / 6) (upto / 6))) pos out
 
 -- ---- what is answered of a run: where it begins, and its bytes
-pub record Ran (tags : Bool) (list payload out : List ℕ) (d upto pos : ℕ) (b p : ℕ) (now : List ℕ) : Type 0 where
+pub record Ran (tags : Bool) (list payload out : List ℕ) (d upto pos b p : ℕ) (now : List ℕ) : Type 0 where
   pub begins : b ≡ 6 * start list d (upto / 6)
   pub stored : Stored (runBytes tags list payload d upto) pos out p now

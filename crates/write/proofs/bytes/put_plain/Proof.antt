@@ -1,21 +1,14 @@
 -- `write::bytes::put_plain` meets its contract: the wire type of the kind says how the value is written. Assumes nothing.
-use Prim.Native.Nat.{ℕ}
-use mathlib.Core.Path.{_≡_, refl, sym, ap, _∙_, subst}
-use mathlib.Core.List.{List}
-use native.Mathlib.Omega.{arith}
+use mathlib.Core.Path.{_≡_, sym, ap, _∙_}
 use borrow.Author.Needs.{needs}
 use borrow.Author.Tests.{eq-eqb, ne-eqb}
 use Rattle.spec.specs.Varint.{encode, little}
 use Rattle.spec.specs.Kind.{shape}
-use Rattle.wire.specs.SizeParts.{coded}
-use Rattle.write.specs.Backward.{Room, plain}
+use Rattle.write.specs.Backward.{plain}
 use Rattle.write.proofs.BodyLaws.{plain-by-wire}
-use Rattle.write.proofs.StoreLaws.{stored-as}
+use Rattle.write.proofs.StoreLaws.{stored-as, room-as}
 use Rattle.write.proofs.bytes.put_plain.Statement.{statement}
 use Rattle.write.proofs.bytes.put_plain.Tie as tie
-
-room-as : {a b out : List ℕ} {p : ℕ} → a ≡ b → Room a p out → Room b p out
-room-as {out = out} {p} e r = subst (λ (l : List ℕ). Room l p out) e r
 
 varint : (c : tie.After-coded-of) → let a = c .before .before .before .before .args in plain (shape (a .kind)) (a .v) ≡ encode (c .coded-of .result)
 varint c =
