@@ -67,7 +67,7 @@ module _ (list : List ℕ) where
       let there : 6 * i + 6 * n ≡ 6 * (i + n) = omega arith in
       records-drop n (drop (6 * i) list) ∙ ap recordsOf (drop-drop (6 * n) (6 * i) list ∙ ap (λ (k : ℕ). drop k list) there)
 
-  pub span-none : (a e : ℕ) → e ≤ a → span list a e ≡ []
+  span-none : (a e : ℕ) → e ≤ a → span list a e ≡ []
   unfolding span
   span-none a e h = let none : e - a ≡ 0 = omega arith in ap (λ (n : ℕ). take n (from a)) none
 
@@ -107,6 +107,10 @@ module _ (list : List ℕ) where
         ∙ bytes-run tags payload (at list a) (span list (a + 1) m) (span list m e)
         (span-over m (depthAt list a + 1) (a + 1) m (omega arith) (omega arith) (λ j g i. omega (arith, deep j (omega arith) i)))
         (span-low (depthAt list a + 1) m e inside (λ b. omega (arith, low b)))
+
+  pub bytes-none : (tags : Bool) (payload : List ℕ) (a e : ℕ) → e ≤ a → bytesIn tags payload (span list a e) ≡ []
+  unfolding bytesOf
+  bytes-none tags payload a e h = ap (λ (x : List Record). bytesIn tags payload x) (span-none a e h)
 
   -- the bytes from index m on, where the records before it are no less deep
   pub bytes-from : (tags : Bool) (payload : List ℕ) (d a m e : ℕ) → a ≤ m → m ≤ e → 6 * e ≤ length list → ((j : ℕ) → a ≤ j → j < m → d ≤ depthAt list j)
