@@ -26,6 +26,11 @@ pub record Back (list payload out : List ℕ) (d upto pos b p : ℕ) (now : List
   first : b < upto → depthAt list (b / 6) ≤ d
   pub stored : Stored (bytesIn true payload (span list (b / 6) (upto / 6))) pos out p now
 
+-- the same answer, under other names
+pub ran-at : {tags : Bool} {list payload out now next : List ℕ} {d upto pos b c p q : ℕ} → Ran tags list payload out d upto pos b p now → c ≡ b → q ≡ p → next ≡ now
+    → Ran tags list payload out d upto pos c q next
+ran-at x e f g = record { begins = e ∙ x .begins; stored = stored-at (x .stored) f g }
+
 module _ {table list payload out : List ℕ} {d upto pos : ℕ} (r : Run true table list payload out d upto pos) where
   pub begin : Back list payload out d upto pos upto pos out
   begin = record {
