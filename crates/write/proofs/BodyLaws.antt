@@ -8,7 +8,7 @@ use borrow.Author.Tests.{ne-eqb}
 use lib.Dec.{eqb}
 use Rattle.spec.specs.Base.{if_then_else_}
 use Rattle.spec.specs.Varint.{encode, zigzag, little}
-use Rattle.spec.specs.Kind.{Scalar, int32, uint32, uint64, bool, sint32, sint64, fixed32, sfixed32, fixed64, Shape, one, other, string, bytes, message, packed, startGroup, endGroup, nothing, shape, wire, isScalar, encoded}
+use Rattle.spec.specs.Kind.{int32, uint32, uint64, bool, sint32, sint64, fixed32, sfixed32, fixed64, Shape, one, other, string, bytes, message, packed, startGroup, endGroup, nothing, shape, wire, isScalar, encoded}
 use Rattle.spec.specs.Record.{Record}
 use Rattle.spec.specs.Writing.{body}
 use Rattle.spec.proofs.RoundTrip.{shape-11, shape-20}

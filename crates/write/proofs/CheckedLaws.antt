@@ -1,11 +1,11 @@
 -- What the check of a list says of its records by their index: how deep the next stands, and what the values of a packed field are.
 -- Assumes nothing.
-use Prim.Native.Nat.{ℕ, zero, suc, _+_, _-_, _*_, _/_, _≤_, _<_}
+use Prim.Native.Nat.{ℕ, zero, suc, _+_, _*_, _/_, _≤_, _<_}
 use native.Mathlib.Omega.{arith}
 use mathlib.Core.Path.{_≡_, refl, sym, ap, _∙_, subst}
-use mathlib.Core.Bool.{Bool, true, false, false≢true}
+use mathlib.Core.Bool.{true, false, false≢true}
 use mathlib.Core.List.{List, _∷_}
-use lib.ListN.{length, drop, getD, length-drop}
+use lib.ListN.{length, drop, length-drop}
 use Rattle.spec.specs.Kind.{Shape, other, packed, shape, isScalar}
 use Rattle.spec.specs.Record.{Record, recordsOf}
 use Rattle.spec.specs.Writing.{lies}

@@ -1,19 +1,19 @@
 -- Laws of the record at a place of a checked list: its numbers as they are read there, and what they say of the bytes in front of what is in it.
 -- Assumes nothing.
-use Prim.Native.Nat.{ℕ, _+_, _-_, _*_, _/_, _≤_, _<_, min}
+use Prim.Native.Nat.{ℕ, _+_, _*_, _/_, _≤_, _<_, min}
 use native.Mathlib.Omega.{arith}
-use mathlib.Core.Path.{_≡_, refl, sym, ap, ap₂, _∙_, subst}
+use mathlib.Core.Path.{_≡_, refl, sym, ap, ap₂, _∙_}
 use mathlib.Core.Logic.{_≢_}
 use mathlib.Core.Bool.{Bool, true, false, _||_, false≢true}
 use mathlib.Core.List.{List}
 use lib.ListN.{length, take, getD}
 use lib.Dec.{eqb, leb}
-use borrow.Author.Tests.{leb-true, eqb-true, eq-eqb}
+use borrow.Author.Tests.{leb-true, eqb-true}
 use Rattle.spec.specs.Base.{part}
 use Rattle.spec.specs.Varint.{encode}
 use Rattle.spec.specs.Kind.{Shape, one, other, string, bytes, message, packed, startGroup, endGroup, nothing, kindWires, ownWires, wires, shape, wire, isScalar}
 use Rattle.spec.specs.Record.{Record}
-use Rattle.spec.specs.Writing.{prefixed, tagOf, lies}
+use Rattle.spec.specs.Writing.{prefixed, tagOf}
 use Rattle.spec.proofs.RoundTrip.{hasContent, shape-11, shape-20}
 use Rattle.spec.proofs.ListLaws.{both}
 use Rattle.spec.proofs.RunLaws.{Fit, kind-small as kind-below, is-number, is-content}
@@ -54,10 +54,11 @@ module _ {list payload : List ℕ} {b mark p : ℕ} (h : Here list payload b mar
       → (isScalar (shape (getD list (b + 2) 0)) ≡ true) × (plain (shape (getD list (b + 2) 0)) (getD list (b + 3) 0) ≡ leadOf list payload b n)
   unfolding isScalar plain lead
   number-lead n w =
-      let x = is-number fit w in
-      (ap (λ (k : ℕ). isScalar (shape k)) (read 2) ∙ ap isScalar (x .is),
-      ap₂ (λ (k v : ℕ). plain (shape k) v) (read 2) (read 3)
-      ∙ ap (λ (s : Shape). plain s (at list (b / 6) .value)) (x .is) ∙ sym (ap (λ (s : Shape). lead s payload (at list (b / 6)) n) (x .is)))
+      let x = is-number fit w in (
+        ap (λ (k : ℕ). isScalar (shape k)) (read 2) ∙ ap isScalar (x .is),
+        ap₂ (λ (k v : ℕ). plain (shape k) v) (read 2) (read 3)
+            ∙ ap (λ (s : Shape). plain s (at list (b / 6) .value)) (x .is) ∙ sym (ap (λ (s : Shape). lead s payload (at list (b / 6)) n) (x .is)),
+      )
 
   pub content-at : wire (kindAt list (b / 6)) ≡ 2 → isHead (kindAt list (b / 6)) ≡ false
       → (getD list (b + 4) 0 ≤ getD list (b + 5) 0) × (getD list (b + 5) 0 ≤ length payload)
@@ -70,9 +71,11 @@ module _ {list payload : List ℕ} {b mark p : ℕ} (h : Here list payload b mar
       let l = both (leb (at list i .start) (at list i .stop)) (leb (at list i .stop) (length payload))
       (lies-at list payload (h .given .held) i (omega (arith, h .six, h .inside)) (x .is)) in
       let in-order : at list i .start ≤ at list i .stop = leb-true (at list i .start) (at list i .stop) (l .0) in
-      let inside : at list i .stop ≤ length payload = leb-true (at list i .stop) (length payload) (l .1) in
-      (omega (arith, read 4, read 5), omega (arith, read 5),
-      λ n. content-lead (shape (kindAt list i)) payload (at list i) n (x .is) ∙ sym (ap₂ (λ (a e : ℕ). prefixed (part a e payload)) (read 4) (read 5)))
+      let inside : at list i .stop ≤ length payload = leb-true (at list i .stop) (length payload) (l .1) in (
+        omega (arith, read 4, read 5),
+        omega (arith, read 5),
+        λ n. content-lead (shape (kindAt list i)) payload (at list i) n (x .is) ∙ sym (ap₂ (λ (a e : ℕ). prefixed (part a e payload)) (read 4) (read 5)),
+      )
 
   pub head-lead : (n : ℕ) → isHead (kindAt list (b / 6)) ≡ true → leadOf list payload b n ≡ encode n
   unfolding lead

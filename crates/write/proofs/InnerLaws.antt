@@ -3,15 +3,14 @@
 use Prim.Native.Nat.{ℕ, _+_, _-_, _*_, _/_, _≤_, _<_}
 use native.Mathlib.Omega.{arith}
 use mathlib.Core.Path.{_≡_, refl, sym, ap, _∙_, subst}
-use mathlib.Core.Bool.{Bool, true, false, not, false≢true}
+use mathlib.Core.Bool.{Bool, true, false, not}
 use mathlib.Core.List.{List}
-use lib.Dec.{eqb}
-use lib.ListN.{length, getD}
+use lib.ListN.{getD}
 use borrow.Author.Tests.{eqb-true}
 use Rattle.spec.specs.Base.{if_then_else_}
 use Rattle.spec.specs.Kind.{shape, isScalar}
 use Rattle.spec.proofs.WritingLaws.{bytesIn}
-use Rattle.write.specs.Backward.{Stored, Room, depthAt, kindAt, span, start, Upto, runBytes, Run, Inner, isPacked, Values, Ran}
+use Rattle.write.specs.Backward.{Stored, depthAt, kindAt, span, start, Upto, runBytes, Run, Inner, isPacked, Values, Ran}
 use Rattle.write.proofs.StoreLaws.{room-as, stored-as}
 use Rattle.write.proofs.SpanLaws.{start-over, start-low}
 use Rattle.write.proofs.CheckedLaws.{Value, values-scalar, value-at}

@@ -1,29 +1,24 @@
 -- Laws of records by their index: the records from one index up to another, with their bytes, and what the check of a list says of each.
 -- Assumes nothing.
-use Prim.Native.Nat.{ℕ, zero, suc, _+_, _-_, _*_, _/_, _≤_, _<_}
+use Prim.Native.Nat.{ℕ, zero, suc, _+_, _-_, _*_, _≤_, _<_}
 use native.Mathlib.Omega.{arith}
-use native.Mathlib.Numerals.{add-one}
-use mathlib.Core.Path.{_≡_, refl, sym, ap, ap₂, _∙_, subst}
-use mathlib.Core.Logic.{_≢_}
-use mathlib.Core.Bool.{Bool, true, false, not, _||_, false≢true}
+use mathlib.Core.Path.{_≡_, sym, ap, ap₂, _∙_, subst}
+use mathlib.Core.Bool.{Bool, not}
 use mathlib.Core.List.{List, [], _∷_, _++_, append-assoc}
-use lib.ListN.{length, take, drop, getD, length-append, length-drop}
+use lib.ListN.{length, take, drop, length-append, length-drop}
 use lib.Seq.{take-add, drop-drop}
 use lib.Dec.{eqb, leb, ltb}
-use borrow.Author.Tests.{ltb-true, ltb-false, lt-ltb, le-ltb, eq-eqb, ne-eqb}
-use Rattle.spec.specs.Base.{if_then_else_}
-use Rattle.spec.specs.Kind.{Shape, one, other, string, bytes, message, packed, shape, isScalar}
-use Rattle.spec.specs.Record.{Record, recordsOf, deeper}
-use Rattle.spec.specs.Writing.{body, tagOf, bytesOf, lies}
+use borrow.Author.Tests.{lt-ltb, le-ltb}
+use Rattle.spec.specs.Kind.{one, bytes, shape}
+use Rattle.spec.specs.Record.{Record, recordsOf}
+use Rattle.spec.specs.Writing.{body, tagOf, bytesOf}
 use Rattle.spec.proofs.Laws.{chosen}
 use Rattle.spec.proofs.VarintLaws.{lower-or-not}
 use Rattle.spec.proofs.WritingLaws.{bytesIn}
-use Rattle.spec.proofs.RoundTrip.{hasContent}
-use Rattle.spec.proofs.ListLaws.{kind-11, kind-20, Over, over-nil, over-cons, Low, bytes-run}
+use Rattle.spec.proofs.ListLaws.{Over, over-nil, over-cons, Low, bytes-run}
 use Rattle.spec.proofs.TreeLaws.{low-append, low-weaker}
-use Rattle.spec.proofs.SizeLaws.{Held, held-nil, held-cons, held-drop}
-use Rattle.spec.proofs.RunLaws.{front, behind, front-over, low-behind, front-behind, behind-drop, Row, row-end, row-more, Nested, a-scalar, a-string, a-bytes, a-message, a-row, Fit, is-row, Sane, sane-first, sane-drop, Passed, records-at, records-drop, sane-whole}
-use Rattle.write.specs.Backward.{depthAt, kindAt, at, span, start, isHead}
+use Rattle.spec.proofs.RunLaws.{front, behind, front-over, low-behind, front-behind, behind-drop, records-at, records-drop}
+use Rattle.write.specs.Backward.{depthAt, kindAt, at, span, start}
 
 -- ---- bytes of what stands behind
 

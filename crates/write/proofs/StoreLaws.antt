@@ -1,10 +1,10 @@
 -- Laws of bytes that are stored in the output: byte by byte, and one run of bytes before another. Assumes nothing.
-use Prim.Native.Nat.{ℕ, suc, _+_, _≤_, _<_}
+use Prim.Native.Nat.{ℕ, suc, _+_, _≤_}
 use mathlib.Core.Path.{_≡_, refl, sym, ap, ap₂, _∙_, subst}
-use mathlib.Core.List.{List, [], _∷_, _++_, append-assoc, append-nil}
+use mathlib.Core.List.{List, [], _∷_, _++_, append-assoc}
 use native.Mathlib.Omega.{arith}
 use native.Mathlib.Numerals.{add-one}
-use lib.ListN.{length, take, drop, set, length-append, length-take, length-set}
+use lib.ListN.{length, take, drop, set, length-append, length-set}
 use lib.Seq.{sets, sets-eq, length-sets, length-take-le, take-append-le, take-take, drop-at}
 use Rattle.write.specs.Backward.{store, Stored, Room}
 
@@ -44,9 +44,9 @@ pub stored-then : {a b out next now : List ℕ} {p q r : ℕ} → Stored b p out
 stored-then {a} {b} {out} {next} {now} {p} {q} {r} s t h = record {
   starts = omega (arith, s .starts, t .starts, length-append a b);
   holds =
-    let at : q ≡ r + length a = sym (t .starts) in
-    t .holds ∙ ap (store r a) (s .holds ∙ ap (λ (n : ℕ). store n b out) at)
-    ∙ sym (store-append r a b out (omega (arith, s .starts, t .starts)));
+      let at : q ≡ r + length a = sym (t .starts) in
+      t .holds ∙ ap (store r a) (s .holds ∙ ap (λ (n : ℕ). store n b out) at)
+      ∙ sym (store-append r a b out (omega (arith, s .starts, t .starts)));
 }
 
 pub stored-as : {a b out now : List ℕ} {p q : ℕ} → a ≡ b → Stored a p out q now → Stored b p out q now
@@ -82,8 +82,8 @@ module _ {new todo out₀ out : List ℕ} {q p i : ℕ} (g : Going new todo out�
       let count : length todo ≡ suc (length rest) = ap length e in
       record {
         same =
-          g .same ∙ ap (λ (l : List ℕ). store i l out) e ∙ store-cons i b rest out (omega (arith, g .ends, g .inside))
-          ∙ ap (λ (k : ℕ). store k rest (set out i b)) (sym next);
+            g .same ∙ ap (λ (l : List ℕ). store i l out) e ∙ store-cons i b rest out (omega (arith, g .ends, g .inside))
+            ∙ ap (λ (k : ℕ). store k rest (set out i b)) (sym next);
         starts = g .starts;
         ends = omega (arith, g .ends);
         inside = omega (arith, g .inside, length-set out i b);

@@ -12,7 +12,7 @@ use Rattle.spec.specs.Kind.{shape}
 use Rattle.spec.specs.Writing.{body, tagOf}
 use Rattle.spec.proofs.VarintLaws.{lower-or-not}
 use Rattle.spec.proofs.WritingLaws.{bytesIn}
-use Rattle.write.specs.Backward.{Stored, Room, depthAt, kindAt, at, span, start, lead, isHead, Here, leadOf, Upto, runBytes, Run, Inner, isPacked, Ran}
+use Rattle.write.specs.Backward.{Stored, Room, depthAt, kindAt, at, span, start, lead, isHead, Here, leadOf, runBytes, Run, Inner, isPacked, Ran}
 use Rattle.write.proofs.StoreLaws.{stored-then, stored-as, stored-at, stored-none, stored-length, room-as}
 use Rattle.write.proofs.SpanLaws.{bytes-none, bytes-at, bytes-from, start-le, start-over, start-low, start-same, start-here}
 use Rattle.write.proofs.CheckedLaws.{next-depth, leaf-next, deep-at}
@@ -218,8 +218,8 @@ module _ {table list payload out : List ℕ} {d upto pos : ℕ} (r : Run true ta
             same = ap (start list d) place ∙ kept;
             first = λ l. omega (arith, head-depth, ap (depthAt list) place);
             stored =
-              stored-as (whole ∙ ap (λ (j : ℕ). bytesIn true payload (span list j (upto / 6))) (sym place))
-              (stored-then (stored-then (h .stored) (x .stored) (r .room .inside)) (stored-as own-is s) (r .room .inside));
+                stored-as (whole ∙ ap (λ (j : ℕ). bytesIn true payload (span list j (upto / 6))) (sym place))
+                (stored-then (stored-then (h .stored) (x .stored) (r .room .inside)) (stored-as own-is s) (r .room .inside));
           }
 
           pub less : c - 6 < b

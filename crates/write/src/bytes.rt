@@ -5,7 +5,7 @@ ghost use mathlib.Core.Path.{_≡_};
 ghost use mathlib.Core.Bool.{true, false, not};
 ghost use mathlib.Core.List.{_++_};
 ghost use Prim.Native.Nat.{_-_, _*_, _/_, _%_, _≤_};
-ghost use lib.ListN.{length, getD, take};
+ghost use lib.ListN.{length, take};
 ghost use Rattle.spec.specs.Base.{if_then_else_, part, filled};
 ghost use Rattle.spec.specs.Varint.{encode, little};
 ghost use Rattle.spec.specs.Kind.{wires, shape, wire, isScalar};
@@ -134,7 +134,15 @@ fn is_head(kind: u64) -> bool
 }
 
 // What stands between the tag of the record at b and what is in it, which ends before `mark` and starts at p.
-fn put_body(list: &[u64], payload: &[u8], out: &mut [u8], b: usize, w: u8, mark: usize, p: usize) -> usize
+fn put_body(
+    list: &[u64],
+    payload: &[u8],
+    out: &mut [u8],
+    b: usize,
+    w: u8,
+    mark: usize,
+    p: usize,
+) -> usize
     requires { ⌜ Here (now list) (now payload) b mark p × (w ≡ wire (kindAt (now list) (b / 6))) × Room (leadOf (now list) (now payload) b (mark - p)) p (now out) ⌝ }
     ensures { λ q. ⌜ Stored (leadOf (now (list .entry)) (now (payload .entry)) b (mark - p)) p (now (out .entry)) q (now (out .exit)) ⌝ }
 {
@@ -150,7 +158,15 @@ fn put_body(list: &[u64], payload: &[u8], out: &mut [u8], b: usize, w: u8, mark:
 }
 
 // The record at b, in front of what is in it.
-fn put_record(table: &[u8; 25], list: &[u64], payload: &[u8], out: &mut [u8], b: usize, mark: usize, p: usize) -> usize
+fn put_record(
+    table: &[u8; 25],
+    list: &[u64],
+    payload: &[u8],
+    out: &mut [u8],
+    b: usize,
+    mark: usize,
+    p: usize,
+) -> usize
     requires { ⌜ (now table ≡ take 25 wires) × Here (now list) (now payload) b mark p × Room (tagOf true (at (now list) (b / 6)) ++ leadOf (now list) (now payload) b (mark - p)) p (now out) ⌝ }
     ensures { λ q. ⌜ Stored (tagOf true (at (now (list .entry)) (b / 6)) ++ leadOf (now (list .entry)) (now (payload .entry)) b (mark - p)) p (now (out .entry)) q (now (out .exit)) ⌝ }
 {
@@ -186,7 +202,15 @@ fn packed_from(list: &[u64], depth: u64, upto: usize) -> usize
 }
 
 // The values of a packed field, from the last to the first.
-fn put_values(table: &[u8; 25], list: &[u64], payload: &[u8], out: &mut [u8], first: usize, upto: usize, pos: usize) -> usize
+fn put_values(
+    table: &[u8; 25],
+    list: &[u64],
+    payload: &[u8],
+    out: &mut [u8],
+    first: usize,
+    upto: usize,
+    pos: usize,
+) -> usize
     requires { ⌜ Values (now table) (now list) (now payload) (now out) first upto pos ⌝ }
     ensures { λ q. ⌜ Stored (bytesIn false (now (payload .entry)) (span (now (list .entry)) (first / 6) (upto / 6))) pos (now (out .entry)) q (now (out .exit)) ⌝ }
 {
@@ -203,7 +227,15 @@ fn put_values(table: &[u8; 25], list: &[u64], payload: &[u8], out: &mut [u8], fi
 }
 
 // The run at this depth that ends before upto and lies in a head.
-fn put_inner(table: &[u8; 25], list: &[u64], payload: &[u8], out: &mut [u8], depth: u64, upto: usize, pos: usize) -> Back
+fn put_inner(
+    table: &[u8; 25],
+    list: &[u64],
+    payload: &[u8],
+    out: &mut [u8],
+    depth: u64,
+    upto: usize,
+    pos: usize,
+) -> Back
     requires { ⌜ Run (not (isPacked (now list) depth upto)) (now table) (now list) (now payload) (now out) depth upto pos × Inner (now list) depth upto ⌝ }
     ensures { λ r. ⌜ Ran (not (isPacked (now (list .entry)) depth upto)) (now (list .entry)) (now (payload .entry)) (now (out .entry)) depth upto pos (r .at) (r .pos) (now (out .exit)) ⌝ }
 {
@@ -216,7 +248,15 @@ fn put_inner(table: &[u8; 25], list: &[u64], payload: &[u8], out: &mut [u8], dep
 }
 
 // The run at this depth that ends before upto, with its tags.
-fn put_run(table: &[u8; 25], list: &[u64], payload: &[u8], out: &mut [u8], depth: u64, upto: usize, pos: usize) -> Back
+fn put_run(
+    table: &[u8; 25],
+    list: &[u64],
+    payload: &[u8],
+    out: &mut [u8],
+    depth: u64,
+    upto: usize,
+    pos: usize,
+) -> Back
     requires { ⌜ Run true (now table) (now list) (now payload) (now out) depth upto pos ⌝ }
     ensures { λ r. ⌜ Ran true (now (list .entry)) (now (payload .entry)) (now (out .entry)) depth upto pos (r .at) (r .pos) (now (out .exit)) ⌝ }
 {

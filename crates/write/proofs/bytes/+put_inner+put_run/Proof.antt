@@ -1,14 +1,11 @@
 -- The cycle of calls {put_inner, put_run}: the loop over a run calls put_inner for the run in a record, which calls put_run where that run has tags.
 -- The measure is how many records are left to be written: those before `upto`, less the heads around the run, of which there is one for each level
 -- and which the callers write. Assumes nothing.
-use Prim.Native.Nat.{ℕ, _+_, _-_, _*_, _/_, _≤_, _<_}
-use mathlib.Core.Path.{_≡_}
+use Prim.Native.Nat.{ℕ, _+_, _-_, _*_, _<_}
 use mathlib.Core.Logic.{⊎-elim}
 use mathlib.Core.Bool.{not}
 use native.Mathlib.Omega.{arith}
-use borrow.Author.Needs.{needs}
-use lib.ListN.{getD}
-use Rattle.write.specs.Backward.{isPacked, Run, Ran}
+use Rattle.write.specs.Backward.{isPacked, Ran}
 use Rattle.write.proofs.StoreLaws.{stored-length}
 use Rattle.write.proofs.InnerLaws.{values, ran-values, run, ran-run}
 use Rattle.write.proofs.Turn.{Back, ran-at, begin, ran-all, ran-to, inner-run, inner-in, falls as level-falls, fits, none-in, below, here, room, again, less}

@@ -1,11 +1,11 @@
 -- `write::bytes::long_varint` meets its contract: the loop stores the varint's bytes but the last, and what is left is the varint of what is left of
 -- the number. Assumes nothing.
-use Prim.Native.Nat.{ℕ, _+_, _/_, _%_, _^_, _<_}
+use Prim.Native.Nat.{ℕ, _/_, _^_, _<_}
 use mathlib.Core.Path.{_≡_, refl, ap, _∙_}
-use mathlib.Core.List.{List, [], _∷_}
+use mathlib.Core.List.{[], _∷_}
 use native.Mathlib.Omega.{arith}
 use borrow.Author.Needs.{needs}
-use lib.ListN.{length, length-set}
+use lib.ListN.{length}
 use Rattle.spec.specs.Varint.{encode}
 use Rattle.spec.proofs.VarintLaws.{length-encode}
 use Rattle.write.proofs.EncodeLaws.{encode-ends, encode-goes-on}

@@ -1,19 +1,17 @@
 -- `write::bytes::packed_from` meets its contract: where the run's head is packed, all records of the run stand at one depth and have one number.
 -- Assumes nothing.
 use Prim.Native.Nat.{ℕ, _+_, _-_, _*_, _/_, _≤_, _<_}
-use mathlib.Core.Path.{_≡_, refl, sym, ap, _∙_, subst}
+use mathlib.Core.Path.{_≡_, sym, ap, _∙_, subst}
 use mathlib.Core.Logic.{_≢_}
 use mathlib.Core.List.{List}
 use native.Mathlib.Omega.{arith}
-use borrow.Author.Needs.{needs}
 use borrow.Author.Tests.{eq-eqb, ne-eqb}
-use lib.Dec.{eqb}
-use lib.ListN.{length, getD}
+use lib.ListN.{getD}
 use Rattle.spec.specs.Base.{if_then_else_}
 use Rattle.spec.proofs.VarintLaws.{lower-or-not}
 use Rattle.write.specs.Backward.{depthAt, numberAt, kindAt, start, Upto, Inner, isPacked}
 use Rattle.write.proofs.SpanLaws.{start-le, start-over, start-low}
-use Rattle.write.proofs.CheckedLaws.{Value, value-at}
+use Rattle.write.proofs.InnerLaws.{value, depth}
 use Rattle.write.proofs.bytes.packed_from.Statement.{statement}
 use Rattle.write.proofs.bytes.packed_from.Tie as tie
 
@@ -31,17 +29,6 @@ module _ {list : List ℕ} {d upto : ℕ} (u : Upto list upto) (n : Inner list d
 
   begin : Back list d upto upto
   begin = record { six = u .six; low = start-le list d (upto / 6); high = omega arith; depths = λ j g h. absurd (omega arith); numbers = λ j g h. absurd (omega arith) }
-
-  -- in a packed head
-  module _ (packed : kindAt list (s - 1) ≡ 20) where
-    value : (j : ℕ) → s ≤ j → j < upto / 6 → Value list (s - 1) j
-    value j g h =
-        value-at list (u .passed) (s - 1) packed (omega (arith, n .some, n .head, u .six, u .inside)) (upto / 6) (omega (arith, u .six, u .inside))
-        (λ i l m. omega (arith, start-low list d (upto / 6) (n .head), start-over list d (upto / 6) i (omega (arith, n .head)) m)) j (omega (arith, n .head)) h
-
-    depth : (j : ℕ) → s ≤ j → j < upto / 6 → depthAt list j ≡ d
-    depth j g h =
-        omega (arith, value j g h .depth, value s (omega arith) (n .some) .depth, start-low list d (upto / 6) (n .head), start-over list d (upto / 6) s (omega arith) (n .some))
 
   upto-is : kindAt list (s - 1) ≢ 20 → upto ≡ (if isPacked list d upto then 6 * s else upto)
   upto-is h = simp (ne-eqb (kindAt list (s - 1)) 20 h)
@@ -80,7 +67,7 @@ module _ {list : List ℕ} {d upto : ℕ} (u : Upto list upto) (n : Inner list d
       high = omega (arith, h .high);
       depths = λ i g l. lower-or-not j i (λ m. h .depths i (omega (arith, near .2)) l) (λ m. let same : i ≡ j = omega arith in ap (depthAt list) same ∙ sym depth-is ∙ e);
       numbers = λ i g l. lower-or-not j i (λ m. h .numbers i (omega (arith, near .2)) l)
-      (λ m. let same : i ≡ j = omega arith in ap (numberAt list) same ∙ sym (read 1 (b - 5) (omega (arith, near .0, near .3))) ∙ f);
+          (λ m. let same : i ≡ j = omega arith in ap (numberAt list) same ∙ sym (read 1 (b - 5) (omega (arith, near .0, near .3))) ∙ f);
     }
 
     -- another number, another depth
@@ -88,12 +75,12 @@ module _ {list : List ℕ} {d upto : ℕ} (u : Upto list upto) (n : Inner list d
     other-number e f packed =
         let l : ℕ = upto / 6 - 1 in
         let last : upto - 5 ≡ 6 * l + 1 = omega (arith, u .six, n .some) in
-        let here = value packed j (in-run (omega (arith, depth-is))) (near .1) .number in
-        let there = value packed l (omega (arith, n .some)) (omega (arith, n .some)) .number in
+        let here = value u n packed j (in-run (omega (arith, depth-is))) (near .1) .number in
+        let there = value u n packed l (omega (arith, n .some)) (omega (arith, n .some)) .number in
         f (read 1 (b - 5) (omega (arith, near .0, near .3)) ∙ here ∙ sym there ∙ sym (ap (λ (i : ℕ). getD list i 0) last))
 
     other-depth : getD list (b - 6) 0 ≢ d → d ≤ getD list (b - 6) 0 → kindAt list (s - 1) ≢ 20
-    other-depth e l packed = e (depth-is ∙ depth packed j (in-run (omega (arith, depth-is))) (near .1))
+    other-depth e l packed = e (depth-is ∙ depth u n packed j (in-run (omega (arith, depth-is))) (near .1))
 
     found : getD list (b - 4) 0 ≡ 20 → getD list (b - 6) 0 < d → b ≡ (if isPacked list d upto then 6 * s else upto)
     found e l =

@@ -1,7 +1,7 @@
 -- `write::bytes::put_body` meets its contract: a value, or the length of what ends before `mark`, which for a content was stored just before.
 -- Assumes nothing.
 use Prim.Native.Nat.{ℕ, _+_, _-_, _/_, _≤_}
-use mathlib.Core.Path.{_≡_, refl, sym, ap, _∙_, subst}
+use mathlib.Core.Path.{_≡_, sym, ap, _∙_}
 use mathlib.Core.Logic.{⊎-elim}
 use mathlib.Core.Bool.{true, false, not, Bool·not-not}
 use mathlib.Core.List.{List, [], _++_, append-nil}
@@ -53,11 +53,14 @@ put-content-requires c κs =
     let t = c .before .before .before in
     let o = t .before .before .before .before .before .before .before in
     let x = content-at (o .pre .0) (delimited (t .before)) (no-head (t .before) (t .if2 .taken)) in
-    let a : List ℕ = part (getD (o .args .list .now) (o .args .b + 4) 0) (getD (o .args .list .now) (o .args .b + 5) 0) (o .args .payload .now) in
-    (x .0, x .1, record {
-      few = omega (arith, o .pre .2 .few, ap length (x .2 (o .args .mark - o .args .p)), length-append (encode (length a)) a);
-      inside = o .pre .2 .inside;
-    })
+    let a : List ℕ = part (getD (o .args .list .now) (o .args .b + 4) 0) (getD (o .args .list .now) (o .args .b + 5) 0) (o .args .payload .now) in (
+      x .0,
+      x .1,
+      record {
+        few = omega (arith, o .pre .2 .few, ap length (x .2 (o .args .mark - o .args .p)), length-append (encode (length a)) a);
+        inside = o .pre .2 .inside;
+      },
+    )
 
 -- what was stored when the length is: a content, or nothing
 record Content (lead : List ℕ) (mark p : ℕ) (out₀ : List ℕ) (q : ℕ) (out : List ℕ) : Type 0 where

@@ -1,7 +1,7 @@
 -- `write::bytes::put_content` meets its contract: the loop stores the content's bytes in turn. Assumes nothing.
-use Prim.Native.Nat.{ℕ, _+_, _-_, _≤_}
+use Prim.Native.Nat.{_+_, _-_, _≤_}
 use mathlib.Core.Path.{_≡_, refl, ap}
-use mathlib.Core.List.{List, [], _∷_}
+use mathlib.Core.List.{_∷_}
 use native.Mathlib.Omega.{arith}
 use native.Mathlib.Numerals.{add-one}
 use lib.ListN.{length, getD, drop, drop-of-length-le}
@@ -11,23 +11,12 @@ use Rattle.write.proofs.StoreLaws.{Going, going, gone-on, gone}
 use borrow.Author.Needs.{needs}
 use Rattle.write.proofs.bytes.put_content.Statement.{statement}
 use Rattle.write.proofs.bytes.put_content.Tie as tie
-use Rattle.write.proofs.bytes.put_content.Reads as reads
-use Rattle.write.proofs.bytes.put_content.Lts as lts
 
 abbrev Inv-loop : tie.InvT-loop
 Inv-loop payload out₀ p start stop a e from q i₀ out i = Going from (drop i from) out₀ q p out (q + i) × (i ≤ length from) × (from ≡ part start stop payload)
 
 abbrev μ-loop : tie.MeasureT-loop
 μ-loop payload out₀ p start stop a e from q i₀ out i = length from - i
-
-sub-from : tie.Need-sub-from Inv-loop μ-loop
-sub-from c = search needs
-
-part-from-start : tie.Need-part-from-start Inv-loop μ-loop
-part-from-start c = search needs
-
-part-from-end : tie.Need-part-from-end Inv-loop μ-loop
-part-from-end c = search needs
 
 sub-q : tie.Need-sub-q Inv-loop μ-loop
 sub-q c = c .before .pre .2 .few
@@ -40,9 +29,6 @@ loop-holds c =
 
 shared-slice-read-out : tie.Need-shared-slice-read-out Inv-loop μ-loop
 shared-slice-read-out c = c .before .loop-test .taken
-
-add-out : tie.Need-add-out Inv-loop μ-loop
-add-out c = search needs
 
 -- the next byte
 more : (c : tie.After-shared-slice-known Inv-loop μ-loop) →
@@ -57,12 +43,6 @@ more c =
 
 slice-write-out : tie.Need-slice-write-out Inv-loop μ-loop
 slice-write-out c = omega (arith, ap length (more c))
-
-add-i : tie.Need-add-i Inv-loop μ-loop
-add-i c = search needs
-
-loop-less : tie.Need-loop-less Inv-loop μ-loop
-loop-less c = search needs
 
 loop-again : tie.Need-loop-again Inv-loop μ-loop
 loop-again c =
@@ -83,16 +63,16 @@ put-content-spec =
     (tie.spec
     Inv-loop
     μ-loop
-    sub-from
-    part-from-start
-    part-from-end
+    (λ c. search needs)
+    (λ c. search needs)
+    (λ c. search needs)
     sub-q
     loop-holds
     shared-slice-read-out
-    add-out
+    (λ c. search needs)
     slice-write-out
-    add-i
-    loop-less
+    (λ c. search needs)
+    (λ c. search needs)
     loop-again
     same-length
     returns)

@@ -52,8 +52,12 @@ module _ {table list payload out : List ℕ} {first upto pos : ℕ} (v : Values 
 
   rest-few : (j : ℕ) → first / 6 ≤ j → j < upto / 6 → length (rest list payload upto j) ≤ pos
   rest-few j h l =
-      omega (arith, v .room .few, bytes-from list false payload (depthAt list (first / 6)) (first / 6) j (upto / 6) h (omega arith)
-      (omega (arith, v .ends .six, v .ends .inside)) (λ i g b. omega (arith, v .depths i g (omega arith))) (λ b. omega (arith, v .depths j h l)))
+      omega (
+        arith,
+        v .room .few,
+        bytes-from list false payload (depthAt list (first / 6)) (first / 6) j (upto / 6) h (omega arith)
+            (omega (arith, v .ends .six, v .ends .inside)) (λ i g b. omega (arith, v .depths i g (omega arith))) (λ b. omega (arith, v .depths j h l)),
+      )
 
   start : Back list payload out first upto pos upto pos out
   start = record {

@@ -1,13 +1,13 @@
 -- `write::bytes::put_varint` meets its contract: one byte, or two, or the general way. Assumes nothing.
 use Prim.Native.Nat.{ℕ, _+_, _-_, _/_, _%_, _≤_, _<_}
-use mathlib.Core.Path.{_≡_, refl, sym, ap, ap₂, _∙_}
-use mathlib.Core.List.{List, [], _∷_}
+use mathlib.Core.Path.{_≡_, refl, ap, ap₂, _∙_}
+use mathlib.Core.List.{[], _∷_}
 use native.Mathlib.Omega.{arith}
 use borrow.Author.Needs.{needs}
 use lib.ListN.{length, length-set}
 use Rattle.spec.specs.Varint.{encode}
 use Rattle.write.proofs.EncodeLaws.{encode-ends, encode-goes-on}
-use Rattle.write.proofs.StoreLaws.{stored-as, going, gone-on, gone}
+use Rattle.write.proofs.StoreLaws.{going, gone-on, gone}
 use Rattle.write.proofs.bytes.put_varint.Statement.{statement}
 use Rattle.write.proofs.bytes.put_varint.Tie as tie
 
