@@ -42,7 +42,7 @@ fn pattern(value: i64) -> u64
 }
 
 // What is written for a sint32 or sint64 of this pattern.
-fn zigzag_of(pattern: u64) -> u64
+pub fn zigzag_of(pattern: u64) -> u64
     ensures { λ r. ⌜ r ≡ zigzag pattern ⌝ }
 {
     if pattern < 0x8000_0000_0000_0000 {

@@ -1,0 +1,2 @@
+// The list writer: the size of a list, level by level.
+mod sizes;
