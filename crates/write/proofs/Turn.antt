@@ -19,7 +19,7 @@ use Rattle.spec.proofs.FlatLaws.{records-nil}
 use Rattle.spec.proofs.RoundTrip.{hasContent, shape-11, shape-20}
 use Rattle.spec.proofs.ListLaws.{Low}
 use Rattle.spec.proofs.SizeLaws.{sizeIn}
-use Rattle.spec.proofs.RunLaws.{front, behind, front-low, behind-drop, low-behind, front-length, front-size, Row, row-end, row-more, row-low, Nested, a-row, Fit, Sane, sane-first, sane-rest, sane-drop, kind-small, is-number, is-content, is-message, is-row, records-at, records-drop, sane-whole}
+use Rattle.spec.proofs.RunLaws.{front, behind, front-low, behind-drop, low-behind, front-length, front-size, Row, row-end, row-more, row-low, Nested, a-row, Fit, Content, Sane, sane-first, sane-rest, sane-drop, kind-small, is-number, is-content, is-message, is-row, records-at, records-drop, sane-whole}
 use Rattle.wire.specs.SizeParts.{capped}
 use Rattle.wire.proofs.Upto.{equal-below}
 use Rattle.wire.proofs.ValueSizes.{size-most}
@@ -201,7 +201,7 @@ module _ {list : List ℕ} {from d at sum : ℕ} (h : Here true list from d at s
   abbrev kind : ℕ
   kind = getD list (at + 2) 0
 
-  is-scalar : wire kind ≢ 2 → isScalar (shape kind) ≡ true
+  pub is-scalar : wire kind ≢ 2 → isScalar (shape kind) ≡ true
   unfolding isScalar
   is-scalar w = ap isScalar (is-number (fit h lt) w .is)
 
@@ -216,12 +216,15 @@ module _ {list : List ℕ} {from d at sum : ℕ} (h : Here true list from d at s
       (omega (arith, size-most (number * 8), value-most (shape kind) (getD list (at + 3) 0) sc)))
 
   -- a content whose length n is cut off above the limit
+  pub content : wire kind ≡ 2 → (eqb kind 11 || eqb kind 20) ≡ false → Content (this h lt) (recordsFrom list (at + 6)) (shape kind)
+  content w e =
+      is-content (fit h lt) w (λ p. false≢true (sym e ∙ ap (λ (k : ℕ). eqb k 11 || eqb k 20) p)) (λ p. false≢true (sym e ∙ ap (λ (k : ℕ). eqb k 11 || eqb k 20) p))
+
   pub content-turn : (n : ℕ) → wire kind ≡ 2 → (eqb kind 11 || eqb kind 20) ≡ false → n ≡ capped (getD list (at + 5) 0 - getD list (at + 4) 0)
       → Here true list from d (at + 6) (sum + tagSize number + (size n + n))
   unfolding prefixedSize
   content-turn n w plain e =
-      let x = not-head kind plain in
-      let c = is-content (fit h lt) w (x .0) (x .1) in
+      let c : Content (this h lt) (recordsFrom list (at + 6)) (shape kind) = content w plain in
       let m : ℕ = getD list (at + 5) 0 - getD list (at + 4) 0 in
       let near : capped (prefixedSize n) ≡ capped (prefixedSize m) = capped-prefixed n m (omega arith) in
       let both : sum + (tagSize number + (size n + n)) ≡ sum + tagSize number + (size n + n) = omega arith in
@@ -229,9 +232,6 @@ module _ {list : List ℕ} {from d at sum : ℕ} (h : Here true list from d at s
       (leaf h lt same (tagSize number + (size n + n)) (c .no-deeper)
       (λ i. omega (arith, near, content-body (shape kind) (this h lt) i (c .is)))
       (omega (arith, size-most (number * 8), size-most n)))
-    where
-      not-head : (k : ℕ) → (eqb k 11 || eqb k 20) ≡ false → (k ≢ 11) × (k ≢ 20)
-      not-head k e = (λ p. false≢true (sym e ∙ ap (λ (j : ℕ). eqb j 11 || eqb j 20) p), λ p. false≢true (sym e ∙ ap (λ (j : ℕ). eqb j 11 || eqb j 20) p))
 
   -- a head, whose content of n bytes ends at the place e
   pub head-turn : (e n : ℕ) → Head kind → Summed (not (eqb kind 20)) list (at + 6) (d + 1) e n → Here true list from d e (sum + tagSize number + (size n + n))
