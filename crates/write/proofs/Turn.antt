@@ -1,8 +1,8 @@
 -- One turn of a loop of the size pass, in plain values: where the loop is, and what a record adds. Assumes nothing.
-use Prim.Native.Nat.{ℕ, zero, suc, _+_, _-_, _*_, _≤_, _<_, min}
+use Prim.Native.Nat.{ℕ, _+_, _-_, _*_, _≤_, _<_}
 use native.Mathlib.Omega.{arith}
-use mathlib.Core.Path.{_≡_, refl, sym, ap, ap₂, _∙_, subst}
-use mathlib.Core.Logic.{_≢_, _⊎_, inl, inr}
+use mathlib.Core.Path.{_≡_, refl, sym, ap, _∙_, subst}
+use mathlib.Core.Logic.{_≢_}
 use mathlib.Core.Bool.{Bool, true, false, not, _||_, false≢true}
 use mathlib.Core.List.{List, [], _∷_}
 use lib.ListN.{length, take, drop, getD, length-drop, drop-of-length-le}
@@ -19,11 +19,11 @@ use Rattle.spec.proofs.FlatLaws.{records-nil}
 use Rattle.spec.proofs.RoundTrip.{hasContent, shape-11, shape-20}
 use Rattle.spec.proofs.ListLaws.{Low}
 use Rattle.spec.proofs.SizeLaws.{sizeIn}
-use Rattle.spec.proofs.RunLaws.{front, behind, front-low, behind-drop, low-behind, front-length, front-size, Row, row-end, row-more, row-low, Nested, a-row, Fit, Content, Sane, sane-first, sane-rest, sane-drop, kind-small, is-number, is-content, is-message, is-row, records-at, records-drop, sane-whole}
+use Rattle.spec.proofs.RunLaws.{front, behind, front-low, behind-drop, low-behind, front-length, front-size, Row, row-end, row-more, row-low, Nested, a-row, Fit, Content, Sane, sane-first, sane-rest, sane-drop, is-number, is-content, is-message, is-row, records-at, records-drop, sane-whole}
 use Rattle.wire.specs.SizeParts.{capped}
 use Rattle.wire.proofs.Upto.{equal-below}
 use Rattle.wire.proofs.ValueSizes.{size-most}
-use Rattle.write.specs.Summing.{recordsFrom, runFrom, Summed, Lent, Run, Elements, Below}
+use Rattle.write.specs.Summing.{recordsFrom, runFrom, Summed, Lent, Elements, Below}
 
 -- The loop over the run at depth d, from the place `from` on, is at the place `at`. What the run takes in all is what was added, and the rest of it.
 pub record Here (tags : Bool) (list : List ℕ) (from d at size : ℕ) : Type 0 where

@@ -2,8 +2,8 @@
 // A content's length is cut off just above the limit, and a list has no more records than its size has bytes, so no sum can wrap.
 ghost use mathlib.Core.Path.{_≡_};
 ghost use mathlib.Core.Bool.{true, false, not, _||_};
-ghost use Prim.Native.Nat.{_+_, _-_, _≤_, _<_};
-ghost use lib.ListN.{length, getD, take};
+ghost use Prim.Native.Nat.{_≤_};
+ghost use lib.ListN.{take};
 ghost use lib.Dec.{eqb};
 ghost use Rattle.spec.specs.Varint.{tagSize};
 ghost use Rattle.spec.specs.Kind.{shape, wire, wires, isScalar};
@@ -32,8 +32,31 @@ fn wire_types() -> [u8; 25]
 {
     let k = kind_wires();
     [
-        k[0], k[1], k[2], k[3], k[4], k[5], k[6], k[7], k[8], k[9], k[10], k[11], k[12], k[13],
-        k[14], k[15], k[16], k[17], k[18], 7, 2, 0, 1, 2, 5,
+        k[0],
+        k[1],
+        k[2],
+        k[3],
+        k[4],
+        k[5],
+        k[6],
+        k[7],
+        k[8],
+        k[9],
+        k[10],
+        k[11],
+        k[12],
+        k[13],
+        k[14],
+        k[15],
+        k[16],
+        k[17],
+        k[18],
+        7,
+        2,
+        0,
+        1,
+        2,
+        5,
     ]
 }
 

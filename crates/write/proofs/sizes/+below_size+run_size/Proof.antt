@@ -2,19 +2,16 @@
 -- message's fields. What falls is the rest of the list. The loop's invariant: what the run takes in all is what was added, and the rest of it.
 -- Assumes nothing.
 use Prim.Native.Nat.{ℕ, _+_, _-_, _*_, _≤_, _<_}
-use mathlib.Core.Path.{_≡_, refl, sym, ap, _∙_, subst}
-use mathlib.Core.Logic.{_≢_, ⊎-elim}
-use mathlib.Core.Bool.{true, false, not}
-use mathlib.Core.List.{List}
+use mathlib.Core.Path.{_≡_, sym, _∙_}
+use mathlib.Core.Logic.{⊎-elim}
+use mathlib.Core.Bool.{true}
 use native.Mathlib.Omega.{arith}
 use borrow.Author.Needs.{needs}
-use lib.Dec.{eqb}
 use lib.ListN.{length, getD}
 use Rattle.spec.specs.Varint.{size, tagSize}
 use Rattle.spec.specs.Kind.{wire}
 use Rattle.spec.proofs.RunLaws.{kind-small}
 use Rattle.wire.proofs.ValueSizes.{size-most}
-use Rattle.write.specs.Summing.{Summed}
 use Rattle.write.proofs.Turn.{Here, start, ended, stopped, whole, fit, number-turn, content-turn, head-turn, head, below, is-scalar, content, typed}
 use borrow.Fn.Kinds.{In}
 use borrow.Fn.PlainCycle.{Measures, is, falls, and}
@@ -204,9 +201,10 @@ below-size-requires : (t : ℕ) → run-size-lts.Need-below-size-requires (claim
 below-size-requires t c κs =
     let e = c .before .before .before .before .before .before .before in
     let i = e .before .before in
-    let p = i .before .before .before .pre in
-    (omega (arith, in-list t e, p .0, i .before .loop .inv .before),
-    below (i .before .loop .inv) (i .loop-test .taken) (e .if1 .left) (p .1 .lent) (head _ (sym (c .before .is-head .ensures) ∙ c .if3 .taken)))
+    let p = i .before .before .before .pre in (
+      omega (arith, in-list t e, p .0, i .before .loop .inv .before),
+      below (i .before .loop .inv) (i .loop-test .taken) (e .if1 .left) (p .1 .lent) (head _ (sym (c .before .is-head .ensures) ∙ c .if3 .taken)),
+    )
 
 add-cut : (t : ℕ) → run-size-lts.Need-add-cut (claims t) (run-size-at t) run-size.Post Inv-loop μ-loop
 add-cut t c = omega (arith, in-list t (c .before .before .before .before .before .before .before), few t (c .before .before .before .before .before .before .before))

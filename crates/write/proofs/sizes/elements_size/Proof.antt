@@ -1,8 +1,7 @@
 -- `write::sizes::elements_size` meets its contract. The loop's invariant: what the values take in all is what was added, and the rest of them.
 -- Assumes nothing.
 use Prim.Native.Nat.{ℕ, _+_, _-_, _≤_, _<_}
-use mathlib.Core.Path.{_≡_, refl, sym, ap, _∙_, subst}
-use mathlib.Core.Bool.{true, false}
+use mathlib.Core.Bool.{false}
 use native.Mathlib.Omega.{arith}
 use borrow.Author.Needs.{needs}
 use mathlib.Core.List.{List}
@@ -12,9 +11,6 @@ use Rattle.write.specs.Summing.{recordsFrom, Elements}
 use Rattle.write.proofs.Turn.{Here, values-start, fit, ended, stopped, whole, rest-values, value-turn, typed}
 use Rattle.write.proofs.sizes.elements_size.Statement.{statement}
 use Rattle.write.proofs.sizes.elements_size.Tie as tie
-use Rattle.write.proofs.sizes.elements_size.Reads as reads
-use Rattle.write.proofs.sizes.elements_size.Lts as lts
-use Rattle.write.proofs.sizes.plain_size.Reads as plain-size-reads
 
 -- the first value's kind: it stands in the list, and in the table
 first-whole : {table list : List ℕ} {from d : ℕ} → Elements table list from d → from + 6 ≤ length list

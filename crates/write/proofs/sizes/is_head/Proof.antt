@@ -1,5 +1,5 @@
 -- `write::sizes::is_head` meets its contract. Assumes nothing.
-use mathlib.Core.Path.{refl, sym}
+use mathlib.Core.Path.{refl}
 use borrow.Author.Tests.{eq-eqb, ne-eqb}
 use Rattle.write.proofs.sizes.is_head.Statement.{statement}
 use Rattle.write.proofs.sizes.is_head.Tie as tie
