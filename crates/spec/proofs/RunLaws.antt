@@ -11,21 +11,21 @@ use mathlib.Core.List.{List, [], _∷_, _++_, append-assoc, append-nil}
 use mathlib.Core.Option.{none}
 use lib.ListN.{length, take, drop, getD, length-append, length-drop, drop-of-length-le, List·getD-eq-default}
 use lib.Seq.{take-append-seam, drop-append-seam, drop-drop, drop-nil, getD-drop}
-use lib.Dec.{leb, ltb, eqb}
+use lib.Dec.{leb, eqb}
 use borrow.Author.Tests.{le-leb, lt-leb, leb-true, leb-false}
 use Rattle.spec.specs.Base.{if_then_else_, part}
 use Rattle.spec.specs.Varint.{encode, tagSize}
 use Rattle.spec.specs.Kind.{Scalar, int32, uint32, uint64, bool, sint32, sint64, fixed32, sfixed32, fixed64, Shape, one, other, string, bytes, message, packed, startGroup, endGroup, nothing, shapes, shape, wire, encoded, fits}
 use Rattle.spec.specs.Schema.{Schema, badSchema, lookup}
-use Rattle.spec.specs.Record.{Record, row, deeper, stride, loaded, broken, recordsOf}
-use Rattle.spec.specs.Sizes.{bodySize, sizeOf, sizeUpTo}
+use Rattle.spec.specs.Record.{Record, row, deeper, stride, recordsOf}
+use Rattle.spec.specs.Sizes.{bodySize, sizeOf}
 use Rattle.spec.specs.Writing.{prefixed, body, tagOf, written, Fields, lies, Fine, listFault}
 use Rattle.spec.proofs.Laws.{either-way, chosen}
 use Rattle.spec.proofs.VarintLaws.{lower-or-not}
 use Rattle.spec.proofs.KindLaws.{wireOne, wireOf, wire-shape}
 use Rattle.spec.proofs.WritingLaws.{bytesIn}
 use Rattle.spec.proofs.FlatLaws.{records-nil, records-broken, records-cons}
-use Rattle.spec.proofs.RoundTrip.{hasContent, Expected, tagBytes, Values, no-value, value, Tree, no-field, number, text, blob, inner, row-of, shape-11, shape-20, encode-pos, encoded-pos}
+use Rattle.spec.proofs.RoundTrip.{hasContent, tagBytes, Values, no-value, value, Tree, no-field, number, text, blob, inner, row-of, shape-11, shape-20, encode-pos, encoded-pos}
 use Rattle.spec.proofs.ListLaws.{both, kind-11, kind-20, Over, over-nil, over-cons, Low, deeper-run, bytes-run, values-low, tree-low, valid-tree, schema-kinds}
 use Rattle.spec.proofs.TreeLaws.{low-append, low-weaker}
 use Rattle.spec.proofs.SizeLaws.{sizeIn, size-cons, size-written}
@@ -91,6 +91,12 @@ pub behind-drop : (d : ℕ) (rs : List Record) → behind d rs ≡ drop (length 
 behind-drop d rs =
     sym (drop-append-seam (front d rs) (behind d rs)) ∙ ap (drop (length (front d rs))) (sym (front-behind d rs))
 
+-- the whole list is a run
+pub front-all : (rs : List Record) → front 0 rs ≡ rs
+unfolding front
+front-all [] = refl
+front-all (r ∷ rs) = front-cons 0 r rs (omega arith) ∙ ap (_∷_ r) (front-all rs)
+
 -- a run, and the deeper run at its front
 module _ (d e : ℕ) (deep : d ≤ e) where
   pub front-front : (rs : List Record) → front d rs ≡ front e rs ++ front d (behind e rs)
@@ -100,14 +106,6 @@ module _ (d e : ℕ) (deep : d ≤ e) where
       lower-or-not (r .depth) e
       (λ l. rw (front-low e (r ∷ rs) l, behind-low e (r ∷ rs) l) refl)
       (λ l. front-cons d r rs (omega arith) ∙ ap (_∷_ r) (front-front rs) ∙ sym (rw (front-cons e r rs l, behind-cons e r rs l) refl))
-
-  pub behind-behind : (rs : List Record) → behind d rs ≡ behind d (behind e rs)
-  unfolding behind
-  behind-behind [] = refl
-  behind-behind (r ∷ rs) =
-      lower-or-not (r .depth) e
-      (λ l. rw (behind-low e (r ∷ rs) l) refl)
-      (λ l. behind-cons d r rs (omega arith) ∙ behind-behind rs ∙ ap (behind d) (sym (behind-cons e r rs l)))
 
 -- the size of a record, of those in it and of those behind it
 pub size-run : (tags : Bool) (r : Record) (xs ys : List Record) → Over (r .depth + 1) xs → Low (r .depth + 1) ys

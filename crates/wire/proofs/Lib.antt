@@ -1,3 +1,7 @@
+pub mod Below
 pub mod FormatLaws
-pub mod Upto
+pub mod OneAnswer
+pub mod PackedLaws
+pub mod Sums
+pub mod UnknownLaws
 pub mod ValueSizes

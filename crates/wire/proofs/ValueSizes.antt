@@ -1,24 +1,44 @@
 -- Laws of the sizes of values: a varint takes at most ten bytes, the wire type of a kind says how its size is found, and cutting a part off above
 -- the limit does not change whether the whole is within it. Assumes nothing.
-use Prim.Native.Nat.{ℕ, _+_, _*_, _-_, _/_, _≤_, _<_, min, max}
+use Prim.Native.Nat.{ℕ, zero, suc, _+_, _*_, _/_, _^_, _≤_}
 use mathlib.Core.Path.{_≡_, refl, sym, ap, ap₂, _∙_}
 use mathlib.Core.Bool.{Bool, true, false}
 use native.Mathlib.Decide.{decLt, decLe}
 use native.Mathlib.Omega.{arith}
-use lib.Dec.{eqb, leb}
+use native.Mathlib.Nat.{pow-suc, one-le-pow, zero-lt-suc}
+use lib.Count.{leadingZeros}
+use lib.Dec.{eqb}
 use lib.ListN.{length, List·getD-eq-default}
 use borrow.Author.Tests.{le-leb, lt-leb}
-use Rattle.spec.specs.Base.{if_then_else_, between, limit, limited}
-use Rattle.spec.specs.Varint.{size, zigzag}
-use Rattle.spec.specs.Kind.{Scalar, int32, uint32, uint64, bool, sint32, sint64, fixed32, sfixed32, fixed64, Shape, one, other, string, bytes, message, packed, startGroup, endGroup, nothing, shapes, shape, wire}
-use Rattle.spec.specs.Sizes.{scalarSize, prefixedSize, valueSize}
+use Rattle.spec.specs.Base.{if_then_else_, between, limit, limited, Took}
+use Rattle.spec.specs.Varint.{size, tagSize, zigzag}
+use Rattle.spec.specs.Kind.{int32, uint32, uint64, bool, sint32, sint64, fixed32, sfixed32, fixed64, Shape, one, other, string, bytes, message, packed, startGroup, endGroup, nothing, shapes, shape, wire}
+use Rattle.spec.specs.Sizes.{scalarSize, prefixedSize, valueSize, fieldSize}
 use Rattle.spec.proofs.KindLaws.{wireOne, wireOf, wire-shape}
 use Rattle.wire.specs.SizeParts.{capped, coded}
-use Rattle.wire.proofs.Upto.{equal-below}
+use Rattle.wire.proofs.Below.{equal-below}
 
 pub size-most : (v : ℕ) → size v ≤ 10
 unfolding size
 size-most v = omega arith
+
+-- a number whose highest bit is set, or that is larger still, takes ten
+top-bit : (k v : ℕ) → 2 ^ k ≤ v → leadingZeros (suc k) v ≡ 0
+unfolding leadingZeros
+top-bit zero v h = go v h
+  where
+    go : (v : ℕ) → 1 ≤ v → leadingZeros 1 v ≡ 0
+    go zero h = absurd (omega arith)
+    go (suc v) h = refl
+top-bit (suc k) v h = go v h (top-bit k (v / 2) (omega (arith, pow-suc 2 k)))
+  where
+    go : (v : ℕ) → 2 ^ suc k ≤ v → leadingZeros (suc k) (v / 2) ≡ 0 → leadingZeros (suc (suc k)) v ≡ 0
+    go zero h e = absurd (omega (arith, one-le-pow (suc k) 2 (zero-lt-suc 1)))
+    go (suc v) h e = e
+
+pub size-top : (v : ℕ) → 2 ^ 63 ≤ v → size v ≡ 10
+unfolding size
+size-top v h = rw (top-bit 63 v h)
 
 -- ---- by wire type
 
@@ -88,7 +108,7 @@ value-by-wire k v w e = by-wire (shape k) v ∙ ap₂ (λ (u : ℕ) (z : Bool). 
 pub capped-varint : (v : ℕ) → size v ≡ capped (size v)
 capped-varint v = omega (arith, size-most v)
 
-limited-same : (m n : ℕ) → capped m ≡ capped n → limited m ≡ limited n
+pub limited-same : (m n : ℕ) → capped m ≡ capped n → limited m ≡ limited n
 unfolding limited
 limited-same m n e =
     elim (decLe n limit) [
@@ -99,3 +119,10 @@ limited-same m n e =
 -- a part that is cut off
 pub limited-capped : (m n : ℕ) → limited (m + capped n) ≡ limited (m + n)
 limited-capped m n = limited-same (m + capped n) (m + n) (omega arith)
+
+-- a number's field is within the limit
+pub number-field : (kind number v n p : ℕ) → n ≡ tagSize number + size p → valueSize (shape kind) v ≡ size p → Took n 0 ≡ fieldSize kind number v
+unfolding fieldSize limited
+number-field kind number v n p e f =
+    let whole : tagSize number + valueSize (shape kind) v ≡ n = omega arith in
+    rw whole (simp (le-leb n limit (omega (arith, size-most (number * 8), size-most p))))

@@ -6,6 +6,36 @@ ghost use Rattle.spec.specs.Varint.{size, tagSize, zigzag};
 ghost use Rattle.spec.specs.Kind.{shape};
 ghost use Rattle.spec.specs.Sizes.{prefixedSize, valueSize};
 ghost use Rattle.wire.specs.SizeParts.{capped, coded};
+
+pub mod packed;
+pub mod singular;
+pub mod unknown_or_group;
+
+pub use self::packed::packed_size;
+pub use self::packed::vec_packed_bool_size;
+pub use self::packed::vec_packed_double_size;
+pub use self::packed::vec_packed_enum_or_unknown_size;
+pub use self::packed::vec_packed_fixed32_size;
+pub use self::packed::vec_packed_fixed64_size;
+pub use self::packed::vec_packed_float_size;
+pub use self::packed::vec_packed_int32_size;
+pub use self::packed::vec_packed_int64_size;
+pub use self::packed::vec_packed_sfixed32_size;
+pub use self::packed::vec_packed_sfixed64_size;
+pub use self::packed::vec_packed_sint32_size;
+pub use self::packed::vec_packed_sint64_size;
+pub use self::packed::vec_packed_uint32_size;
+pub use self::packed::vec_packed_uint64_size;
+pub use self::singular::bytes_size;
+pub use self::singular::field_size;
+pub use self::singular::int32_size;
+pub use self::singular::int64_size;
+pub use self::singular::sint32_size;
+pub use self::singular::sint64_size;
+pub use self::singular::string_size;
+pub use self::singular::uint32_size;
+pub use self::singular::uint64_size;
+pub use self::unknown_or_group::unknown_fields_size;
 use crate::wire_format::MAX_MESSAGE_SIZE;
 use crate::wire_format::wire_of;
 
@@ -35,10 +65,17 @@ fn pattern(value: i64) -> u64
     ensures { λ r. ⌜ r ≡ ofZ w64 value ⌝ }
 {
     if value < 0 {
-        !(!value as u64)
+        let below = !value as u64;
+        0xffff_ffff_ffff_ffff - below
     } else {
         value as u64
     }
+}
+
+fn pattern32(value: i32) -> u64
+    ensures { λ r. ⌜ r ≡ ofZ w64 value ⌝ }
+{
+    pattern(value as i64)
 }
 
 // What is written for a sint32 or sint64 of this pattern.

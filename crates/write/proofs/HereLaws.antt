@@ -17,7 +17,7 @@ use Rattle.spec.specs.Writing.{prefixed, tagOf}
 use Rattle.spec.proofs.RoundTrip.{hasContent, shape-11, shape-20}
 use Rattle.spec.proofs.ListLaws.{both}
 use Rattle.spec.proofs.RunLaws.{Fit, kind-small as kind-below, is-number, is-content}
-use Rattle.wire.proofs.Upto.{equal-below}
+use Rattle.wire.proofs.Below.{equal-below}
 use Rattle.write.specs.Backward.{at, kindAt, plain, lead, isHead, Here, leadOf}
 use Rattle.write.proofs.SpanLaws.{from}
 use Rattle.write.proofs.CheckedLaws.{fit-at, lies-at}

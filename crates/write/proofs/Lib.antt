@@ -1,3 +1,4 @@
+pub mod BackTurn
 pub mod BodyLaws
 pub mod CheckedLaws
 pub mod EncodeLaws

@@ -14,6 +14,7 @@ ghost use Rattle.spec.specs.Writing.{tagOf, written};
 ghost use Rattle.spec.proofs.WritingLaws.{bytesIn};
 ghost use Rattle.wire.specs.SizeParts.{coded};
 ghost use Rattle.write.specs.Backward.{Stored, Room, at, kindAt, span, start, plain, isHead, Given, Here, leadOf, Upto, Run, Inner, isPacked, Values, Ran};
+use crate::sizes::is_head;
 use wire::rt::compute_raw_varint64_size;
 use wire::rt::zigzag_of;
 
@@ -125,12 +126,6 @@ fn put_content(payload: &[u8], out: &mut [u8], p: usize, start: u64, stop: u64) 
         i += 1;
     }
     q
-}
-
-fn is_head(kind: u64) -> bool
-    ensures { λ r. ⌜ r ≡ isHead kind ⌝ }
-{
-    kind == 11 || kind == 20
 }
 
 // What stands between the tag of the record at b and what is in it, which ends before `mark` and starts at p.

@@ -8,7 +8,7 @@ use native.Mathlib.Omega.{arith}
 use Rattle.write.specs.Backward.{isPacked, Ran}
 use Rattle.write.proofs.StoreLaws.{stored-length}
 use Rattle.write.proofs.InnerLaws.{values, ran-values, run, ran-run}
-use Rattle.write.proofs.Turn.{Back, ran-at, begin, ran-all, ran-to, inner-run, inner-in, falls as level-falls, fits, none-in, below, here, room, again, less}
+use Rattle.write.proofs.BackTurn.{Back, ran-at, begin, ran-all, ran-to, inner-run, inner-in, falls as level-falls, fits, none-in, below, here, room, again, less}
 use borrow.Fn.Kinds.{In}
 use borrow.Fn.PlainCycle.{Measures, is, falls, and}
 use Rattle.write.proofs.bytes.put_inner.Reads as put-inner
