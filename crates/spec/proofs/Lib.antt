@@ -17,4 +17,5 @@ pub mod RoundTrip
 pub mod ListLaws
 pub mod TreeLaws
 pub mod SizeLaws
+pub mod RunLaws
 pub mod Cases

@@ -178,12 +178,12 @@ shortest-zero : (v : ℕ) → shortest zero v ≡ v ∷ []
 unfolding shortest
 shortest-zero v = refl
 
-encode-pos : (k v : ℕ) → 1 ≤ length (shortest k v)
+pub encode-pos : (k v : ℕ) → 1 ≤ length (shortest k v)
 encode-pos zero v = rw shortest-zero (omega arith)
 encode-pos (suc k) v =
     lower-or-not v 128 (λ h. rw (shortest-ends (suc k) v h) (omega arith)) (λ h. rw (shortest-goes-on k v h) (omega arith))
 
-encoded-pos : (c : Scalar) (v : ℕ) → fits c v ≡ true → 1 ≤ length (encoded c v)
+pub encoded-pos : (c : Scalar) (v : ℕ) → fits c v ≡ true → 1 ≤ length (encoded c v)
 encoded-pos c v h = go (subst (Takes 1 (length (encoded c v ++ []))) (scalar-encoded c v [] h) (takes-scalar c (encoded c v ++ [])))
   where
     go : {m : ℕ} → Takes 1 m (Took v (length (encoded c v))) → 1 ≤ length (encoded c v)

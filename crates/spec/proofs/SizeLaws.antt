@@ -106,7 +106,7 @@ held-take zero h = held-nil
 held-take (suc n) held-nil = held-nil
 held-take (suc n) (held-cons l h) = held-cons l (held-take n h)
 
-held-drop : {payload : List ℕ} {rs : List Record} (n : ℕ) → Held payload rs → Held payload (drop n rs)
+pub held-drop : {payload : List ℕ} {rs : List Record} (n : ℕ) → Held payload rs → Held payload (drop n rs)
 held-drop zero h = h
 held-drop (suc n) held-nil = held-nil
 held-drop (suc n) (held-cons l h) = held-drop n h

@@ -72,11 +72,11 @@ recorded-one fixed64 = refl
 recorded-shape : (k : ℕ) (x : Shape) → shape k ≡ x → recorded (wireOf x) ≡ true → recorded (wire k) ≡ true
 recorded-shape k x sh h = ap recorded (wire-shape k ∙ ap wireOf sh) ∙ h
 
-low-append : (d : ℕ) (xs ys : List Record) → Low d xs → Low d ys → Low d (xs ++ ys)
+pub low-append : (d : ℕ) (xs ys : List Record) → Low d xs → Low d ys → Low d (xs ++ ys)
 low-append d [] ys a b = b
 low-append d (x ∷ xs) ys a b = a
 
-low-weaker : (d e : ℕ) (xs : List Record) → d ≤ e → Low d xs → Low e xs
+pub low-weaker : (d e : ℕ) (xs : List Record) → d ≤ e → Low d xs → Low e xs
 low-weaker d e [] h l = tt
 low-weaker d e (x ∷ xs) h l = omega arith
 

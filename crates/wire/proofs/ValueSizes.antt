@@ -42,7 +42,7 @@ size-top v h = rw (top-bit 63 v h)
 
 -- ---- by wire type
 
-unfoldable zigzags : Shape → Bool
+unfoldable pub zigzags : Shape → Bool
 zigzags (one int32) = false
 zigzags (one uint32) = false
 zigzags (one uint64) = false
@@ -65,7 +65,7 @@ bit-once true false e = absurd (omega arith)
 bit-once false true e = absurd (omega arith)
 bit-once false false e = refl
 
-zigzag-kind : (k : ℕ) → zigzags (shape k) ≡ between 17 18 k
+pub zigzag-kind : (k : ℕ) → zigzags (shape k) ≡ between 17 18 k
 unfolding shape shapes zigzags bit
 zigzag-kind k =
     elim (decLt k 27) [

@@ -1,0 +1,182 @@
+-- The cycle of calls {put_inner, put_run}: the loop over a run calls put_inner for the run in a record, which calls put_run where that run has tags.
+-- The measure is how many records are left to be written: those before `upto`, less the heads around the run, of which there is one for each level
+-- and which the callers write. Assumes nothing.
+use Prim.Native.Nat.{ℕ, _+_, _-_, _*_, _<_}
+use mathlib.Core.Logic.{⊎-elim}
+use mathlib.Core.Bool.{not}
+use native.Mathlib.Omega.{arith}
+use Rattle.write.specs.Backward.{isPacked, Ran}
+use Rattle.write.proofs.StoreLaws.{stored-length}
+use Rattle.write.proofs.InnerLaws.{values, ran-values, run, ran-run}
+use Rattle.write.proofs.BackTurn.{Back, ran-at, begin, ran-all, ran-to, inner-run, inner-in, falls as level-falls, fits, none-in, below, here, room, again, less}
+use borrow.Fn.Kinds.{In}
+use borrow.Fn.PlainCycle.{Measures, is, falls, and}
+use Rattle.write.proofs.bytes.put_inner.Reads as put-inner
+use Rattle.write.proofs.bytes.put_inner.Kinds as put-inner-kinds
+use Rattle.write.proofs.bytes.+put_inner+put_run.Lts-put_inner as put-inner-lts
+use Rattle.write.proofs.bytes.put_run.Reads as put-run
+use Rattle.write.proofs.bytes.put_run.Kinds as put-run-kinds
+use Rattle.write.proofs.bytes.+put_inner+put_run.Lts-put_run as put-run-lts
+use Rattle.write.proofs.bytes.packed_from.Reads as packed-from-reads
+use Rattle.write.proofs.bytes.put_record.Reads as put-record-reads
+use Rattle.write.proofs.bytes.put_values.Reads as put-values-reads
+use Rattle.write.proofs.bytes.+put_inner+put_run.{statement}
+use Rattle.write.proofs.bytes.+put_inner+put_run.Tie.{close}
+
+abbrev μ-put-inner : Measures 4 put-inner-kinds.ps ℕ
+μ-put-inner κs a = a .1 .1 .1 .1 .1 .0 - 6 * a .1 .1 .1 .1 .0 + 1
+
+abbrev μ-put-run : Measures 4 put-run-kinds.ps ℕ
+μ-put-run κs a = a .1 .1 .1 .1 .1 .0 - 6 * a .1 .1 .1 .1 .0
+
+abbrev put-inner-at : ℕ → In 4 put-inner-kinds.ps
+put-inner-at t = and 4 put-inner-kinds.ps (is 4 put-inner-kinds.ps μ-put-inner t) put-inner.Pre
+
+abbrev put-inner-below : ℕ → In 4 put-inner-kinds.ps
+put-inner-below t =
+    and 4 put-inner-kinds.ps (falls 4 put-inner-kinds.ps _<_ μ-put-inner t) put-inner.Pre
+
+abbrev put-run-at : ℕ → In 4 put-run-kinds.ps
+put-run-at t = and 4 put-run-kinds.ps (is 4 put-run-kinds.ps μ-put-run t) put-run.Pre
+
+abbrev put-run-below : ℕ → In 4 put-run-kinds.ps
+put-run-below t = and 4 put-run-kinds.ps (falls 4 put-run-kinds.ps _<_ μ-put-run t) put-run.Pre
+
+abbrev put-inner-claims : ℕ → put-inner-lts.Claims
+put-inner-claims t = (packed-from-reads.Asked, packed-from-reads.Learnt, put-values-reads.Asked, put-values-reads.Learnt, put-run-below t, put-run.Post)
+
+put-inner-packed-from-requires : (t : ℕ) → put-inner-lts.Need-packed-from-requires (put-inner-claims t) (put-inner-at t) put-inner.Post
+put-inner-packed-from-requires t c κs =
+    let o = c .before .before .before in
+    (o .pre .1 .0 .ends, o .pre .1 .1)
+
+put-inner-put-values-requires : (t : ℕ) → put-inner-lts.Need-put-values-requires (put-inner-claims t) (put-inner-at t) put-inner.Post
+put-inner-put-values-requires t c κs =
+    let o = c .before .before .before .before .before .before in
+    values (o .pre .1 .0) (o .pre .1 .1) (c .before .before .packed-from .ensures) (c .before .if1 .taken)
+
+put-inner-same-length : (t : ℕ) → put-inner-lts.Need-same-length (put-inner-claims t) (put-inner-at t) put-inner.Post
+put-inner-same-length t c =
+    let o = c .before .before .before .before .before .before .before .before .before in
+    stored-length (c .before .before .put-values .ensures) (o .pre .1 .0 .room .inside)
+
+put-inner-returns : (t : ℕ) → put-inner-lts.Need-returns (put-inner-claims t) (put-inner-at t) put-inner.Post
+put-inner-returns t c =
+    let o = c .before .before .before .before .before .before .before .before .before in
+    ran-values (o .pre .1 .0) (o .pre .1 .1) (c .before .before .before .before .before .packed-from .ensures) (c .before .before .before .before .if1 .taken) (c .before .before .put-values .ensures)
+
+put-inner-put-run-requires : (t : ℕ) → put-inner-lts.Need-put-run-requires (put-inner-claims t) (put-inner-at t) put-inner.Post
+put-inner-put-run-requires t c κs =
+    let o = c .before .before .before .before .before .before in
+    (omega (arith, o .pre .0), run (o .pre .1 .0) (o .pre .1 .1) (c .before .before .packed-from .ensures) (omega arith))
+
+put-inner-same-length-2 : (t : ℕ) → put-inner-lts.Need-same-length-2 (put-inner-claims t) (put-inner-at t) put-inner.Post
+put-inner-same-length-2 t c =
+    let o = c .before .before .before .before .before .before .before .before .before in
+    stored-length (c .before .before .put-run .ensures .stored) (o .pre .1 .0 .room .inside)
+
+put-inner-returns-2 : (t : ℕ) → put-inner-lts.Need-returns-2 (put-inner-claims t) (put-inner-at t) put-inner.Post
+put-inner-returns-2 t c =
+    let o = c .before .before .before .before .before .before .before .before .before in
+    ran-run (o .pre .1 .0) (o .pre .1 .1) (c .before .before .before .before .before .packed-from .ensures) (omega arith) (c .before .before .put-run .ensures)
+
+abbrev put-run-claims : ℕ → put-run-lts.Claims
+put-run-claims t = (put-inner-below t, put-inner.Post, put-record-reads.Asked, put-record-reads.Learnt)
+
+abbrev put-run-Inv-loop : put-run-lts.InvT-loop
+put-run-Inv-loop table list payload out₀ depth upto pos b₀ p₀ out b p = Back list payload out₀ depth upto pos b p out
+
+abbrev put-run-μ-loop : put-run-lts.MeasureT-loop
+put-run-μ-loop table list payload out₀ depth upto pos b₀ p₀ out b p = b
+
+put-run-loop-holds : (t : ℕ) → put-run-lts.Need-loop-holds (put-run-claims t) (put-run-at t) put-run.Post put-run-Inv-loop put-run-μ-loop
+put-run-loop-holds t c = begin (c .before .before .before .pre .1)
+
+put-run-mul-d : (t : ℕ) → put-run-lts.Need-mul-d (put-run-claims t) (put-run-at t) put-run.Post put-run-Inv-loop put-run-μ-loop
+put-run-mul-d t c = omega (arith, c .before .loop .inv .high, c .before .before .before .before .before .pre .1 .ends .inside)
+
+put-run-shared-slice-read-d : (t : ℕ) → put-run-lts.Need-shared-slice-read-d (put-run-claims t) (put-run-at t) put-run.Post put-run-Inv-loop put-run-μ-loop
+put-run-shared-slice-read-d t c = omega (arith, c .before .before .loop .inv .high, c .before .before .before .before .before .before .pre .1 .ends .inside)
+
+put-run-same-length : (t : ℕ) → put-run-lts.Need-same-length (put-run-claims t) (put-run-at t) put-run.Post put-run-Inv-loop put-run-μ-loop
+put-run-same-length t c = stored-length (c .before .before .before .loop .inv .stored) (c .before .before .before .before .before .before .before .pre .1 .room .inside)
+
+put-run-returns : (t : ℕ) → put-run-lts.Need-returns (put-run-claims t) (put-run-at t) put-run.Post put-run-Inv-loop put-run-μ-loop
+put-run-returns t c = ran-to (c .before .before .before .before .before .before .before .pre .1) (c .before .before .before .loop .inv) (c .before .before .loop-test .taken) (c .if1 .taken)
+
+put-run-add-put-inner : (t : ℕ) → put-run-lts.Need-add-put-inner (put-run-claims t) (put-run-at t) put-run.Post put-run-Inv-loop put-run-μ-loop
+put-run-add-put-inner t c =
+    let e = c .before .before in
+    omega (arith, fits (e .before .before .before .before .before .before .before .pre .1) (e .before .before .before .loop .inv) (e .before .before .loop-test .taken) (e .if1 .left) (c .before .if2 .taken))
+
+put-run-put-inner-requires : (t : ℕ) → put-run-lts.Need-put-inner-requires (put-run-claims t) (put-run-at t) put-run.Post put-run-Inv-loop put-run-μ-loop
+put-run-put-inner-requires t c κs =
+    let e = c .before .before in
+    (omega (arith, e .before .before .before .before .before .before .before .pre .0, level-falls (e .before .before .before .before .before .before .before .pre .1) (e .before .before .before .loop .inv) (e .before .before .loop-test .taken) (e .if1 .left) (c .before .if2 .taken)), (inner-run (e .before .before .before .before .before .before .before .pre .1) (e .before .before .before .loop .inv) (e .before .before .loop-test .taken) (e .if1 .left) (c .before .if2 .taken), inner-in (e .before .before .before .before .before .before .before .pre .1) (e .before .before .before .loop .inv) (e .before .before .loop-test .taken) (e .if1 .left) (c .before .if2 .taken)))
+
+-- what lies in the record before b was written, if there is any
+joined : (t : ℕ) (c : put-run-lts.Joined2 (put-run-claims t) (put-run-at t) put-run.Post put-run-Inv-loop put-run-μ-loop) →
+    let a = c .before .before .before .before .before .before .before .before .args in
+    let l = c .before .before .before .before .loop in
+    Ran (not (isPacked (a .list .now) (a .depth + 1) (l .b))) (a .list .now) (a .payload .now) (l .out) (a .depth + 1) (l .b) (l .p) (c .if2 .b) (c .if2 .p) (c .if2 .out)
+joined t c =
+    let e = c .before in
+    ⊎-elim (λ w. ran-at (w .2 .ensures) (w .6) (w .7) (w .5))
+    (λ w. ran-at (none-in (e .before .before .before .before .before .before .before .pre .1) (e .before .before .before .loop .inv) (e .before .before .loop-test .taken) (e .if1 .left) (omega (arith, w .0 .left))) (w .2) (w .3) (w .1)) (c .if2 .came)
+
+put-run-sub-b : (t : ℕ) → put-run-lts.Need-sub-b (put-run-claims t) (put-run-at t) put-run.Post put-run-Inv-loop put-run-μ-loop
+put-run-sub-b t c =
+    let e = c .before .before in
+    below (e .before .before .before .before .before .before .before .pre .1) (e .before .before .before .loop .inv) (e .before .before .loop-test .taken) (e .if1 .left) (joined t (c .before))
+
+put-run-put-record-requires : (t : ℕ) → put-run-lts.Need-put-record-requires (put-run-claims t) (put-run-at t) put-run.Post put-run-Inv-loop put-run-μ-loop
+put-run-put-record-requires t c κs =
+    let e = c .before .before .before in
+    (e .before .before .before .before .before .before .before .pre .1 .types, here (e .before .before .before .before .before .before .before .pre .1) (e .before .before .before .loop .inv) (e .before .before .loop-test .taken) (e .if1 .left) (joined t (c .before .before)), room (e .before .before .before .before .before .before .before .pre .1) (e .before .before .before .loop .inv) (e .before .before .loop-test .taken) (e .if1 .left) (joined t (c .before .before)))
+
+put-run-loop-less : (t : ℕ) → put-run-lts.Need-loop-less (put-run-claims t) (put-run-at t) put-run.Post put-run-Inv-loop put-run-μ-loop
+put-run-loop-less t c =
+    let e = c .before .before .before .before .before .before in
+    less (e .before .before .before .before .before .before .before .pre .1) (e .before .before .before .loop .inv) (e .before .before .loop-test .taken) (e .if1 .left) (joined t (c .before .before .before .before .before))
+
+put-run-loop-again : (t : ℕ) → put-run-lts.Need-loop-again (put-run-claims t) (put-run-at t) put-run.Post put-run-Inv-loop put-run-μ-loop
+put-run-loop-again t c =
+    let e = c .before .before .before .before .before .before in
+    again (e .before .before .before .before .before .before .before .pre .1) (e .before .before .before .loop .inv) (e .before .before .loop-test .taken) (e .if1 .left) (joined t (c .before .before .before .before .before)) (c .before .before .put-record .ensures)
+
+put-run-same-length-2 : (t : ℕ) → put-run-lts.Need-same-length-2 (put-run-claims t) (put-run-at t) put-run.Post put-run-Inv-loop put-run-μ-loop
+put-run-same-length-2 t c = stored-length (c .before .loop .inv .stored) (c .before .before .before .before .before .pre .1 .room .inside)
+
+put-run-returns-2 : (t : ℕ) → put-run-lts.Need-returns-2 (put-run-claims t) (put-run-at t) put-run.Post put-run-Inv-loop put-run-μ-loop
+put-run-returns-2 t c = ran-all (c .before .before .before .before .before .pre .1) (c .before .loop .inv) (omega arith)
+
+pub +put-inner+put-run-spec : {M : Type 1} → statement M
++put-inner+put-run-spec = close μ-put-inner μ-put-run (λ t. put-inner-lts.spec (put-inner-claims t)
+    (put-inner-at t)
+    put-inner.Post
+    (put-inner-packed-from-requires t)
+    (put-inner-put-values-requires t)
+    (put-inner-same-length t)
+    (put-inner-returns t)
+    (put-inner-put-run-requires t)
+    (put-inner-same-length-2 t)
+    (put-inner-returns-2 t))
+    λ t. put-run-lts.spec
+    (put-run-claims t)
+    (put-run-at t)
+    put-run.Post
+    put-run-Inv-loop
+    put-run-μ-loop
+    (put-run-loop-holds t)
+    (put-run-mul-d t)
+    (put-run-shared-slice-read-d t)
+    (put-run-same-length t)
+    (put-run-returns t)
+    (put-run-add-put-inner t)
+    (put-run-put-inner-requires t)
+    (put-run-sub-b t)
+    (put-run-put-record-requires t)
+    (put-run-loop-less t)
+    (put-run-loop-again t)
+    (put-run-same-length-2 t)
+    (put-run-returns-2 t)

@@ -1,0 +1,260 @@
+-- `write::bytes::packed_from` meets its contract: where the run's head is packed, all records of the run stand at one depth and have one number.
+-- Assumes nothing.
+use Prim.Native.Nat.{ℕ, _+_, _-_, _*_, _/_, _≤_, _<_}
+use mathlib.Core.Path.{_≡_, sym, ap, _∙_, subst}
+use mathlib.Core.Logic.{_≢_}
+use mathlib.Core.List.{List}
+use native.Mathlib.Omega.{arith}
+use borrow.Author.Tests.{eq-eqb, ne-eqb}
+use lib.ListN.{getD}
+use Rattle.spec.specs.Base.{if_then_else_}
+use Rattle.spec.proofs.VarintLaws.{lower-or-not}
+use Rattle.write.specs.Backward.{depthAt, numberAt, kindAt, start, Upto, Inner, isPacked}
+use Rattle.write.proofs.SpanLaws.{start-le, start-over, start-low}
+use Rattle.write.proofs.InnerLaws.{value, depth}
+use Rattle.write.proofs.bytes.packed_from.Statement.{statement}
+use Rattle.write.proofs.bytes.packed_from.Tie as tie
+
+-- the records from the place b on stand at depth d and have the number of the last
+record Back (list : List ℕ) (d upto b : ℕ) : Type 0 where
+  six : b ≡ 6 * (b / 6)
+  low : start list d (upto / 6) ≤ b / 6
+  high : b ≤ upto
+  depths : (j : ℕ) → b / 6 ≤ j → j < upto / 6 → depthAt list j ≡ d
+  numbers : (j : ℕ) → b / 6 ≤ j → j < upto / 6 → numberAt list j ≡ getD list (upto - 5) 0
+
+module _ {list : List ℕ} {d upto : ℕ} (u : Upto list upto) (n : Inner list d upto) where
+  abbrev s : ℕ
+  s = start list d (upto / 6)
+
+  begin : Back list d upto upto
+  begin = record { six = u .six; low = start-le list d (upto / 6); high = omega arith; depths = λ j g h. absurd (omega arith); numbers = λ j g h. absurd (omega arith) }
+
+  upto-is : kindAt list (s - 1) ≢ 20 → upto ≡ (if isPacked list d upto then 6 * s else upto)
+  upto-is h = simp (ne-eqb (kindAt list (s - 1)) 20 h)
+
+  module _ {b : ℕ} (h : Back list d upto b) where
+    abbrev j : ℕ
+    j = (b - 6) / 6
+
+    near : (6 ≤ b) × (j < upto / 6) × (b / 6 ≡ j + 1) × (b - 6 ≡ 6 * j)
+    near = (omega (arith, n .head, h .low, h .six), omega (arith, n .head, h .low, h .six, h .high, u .six), omega (arith, n .head, h .low, h .six), omega (arith, n .head, h .low, h .six))
+
+    read : (k m : ℕ) → m ≡ 6 * j + k → getD list m 0 ≡ getD list (6 * j + k) 0
+    read k m e = ap (λ (i : ℕ). getD list i 0) e
+
+    depth-is : getD list (b - 6) 0 ≡ depthAt list j
+    depth-is = ap (λ (i : ℕ). getD list i 0) (near .3)
+
+    -- where the record before b is no less deep, it is of the run
+    in-run : d ≤ depthAt list j → s ≤ j
+    in-run l =
+        lower-or-not j s
+        (λ b. let same : s - 1 ≡ j = omega (arith, h .low, near .2) in
+        absurd (omega (arith, subst (λ (i : ℕ). depthAt list i < d) same (start-low list d (upto / 6) (n .head)))))
+        (λ b. b)
+
+    out-run : depthAt list j < d → s ≡ j + 1
+    out-run l =
+        lower-or-not j s
+        (λ b. omega (arith, h .low, near .2))
+        (λ b. absurd (omega (arith, start-over list d (upto / 6) j b (near .1))))
+
+    again : getD list (b - 6) 0 ≡ d → getD list (b - 5) 0 ≡ getD list (upto - 5) 0 → Back list d upto (b - 6)
+    again e f = record {
+      six = near .3;
+      low = in-run (omega (arith, depth-is));
+      high = omega (arith, h .high);
+      depths = λ i g l. lower-or-not j i (λ m. h .depths i (omega (arith, near .2)) l) (λ m. let same : i ≡ j = omega arith in ap (depthAt list) same ∙ sym depth-is ∙ e);
+      numbers = λ i g l. lower-or-not j i (λ m. h .numbers i (omega (arith, near .2)) l)
+          (λ m. let same : i ≡ j = omega arith in ap (numberAt list) same ∙ sym (read 1 (b - 5) (omega (arith, near .0, near .3))) ∙ f);
+    }
+
+    -- another number, another depth
+    other-number : getD list (b - 6) 0 ≡ d → getD list (b - 5) 0 ≢ getD list (upto - 5) 0 → kindAt list (s - 1) ≢ 20
+    other-number e f packed =
+        let l : ℕ = upto / 6 - 1 in
+        let last : upto - 5 ≡ 6 * l + 1 = omega (arith, u .six, n .some) in
+        let here = value u n packed j (in-run (omega (arith, depth-is))) (near .1) .number in
+        let there = value u n packed l (omega (arith, n .some)) (omega (arith, n .some)) .number in
+        f (read 1 (b - 5) (omega (arith, near .0, near .3)) ∙ here ∙ sym there ∙ sym (ap (λ (i : ℕ). getD list i 0) last))
+
+    other-depth : getD list (b - 6) 0 ≢ d → d ≤ getD list (b - 6) 0 → kindAt list (s - 1) ≢ 20
+    other-depth e l packed = e (depth-is ∙ depth u n packed j (in-run (omega (arith, depth-is))) (near .1))
+
+    found : getD list (b - 4) 0 ≡ 20 → getD list (b - 6) 0 < d → b ≡ (if isPacked list d upto then 6 * s else upto)
+    found e l =
+        let same : s - 1 ≡ j = omega (arith, out-run (omega (arith, depth-is))) in
+        let k : kindAt list (s - 1) ≡ 20 = ap (kindAt list) same ∙ sym (read 2 (b - 4) (omega (arith, near .0, near .3))) ∙ e in
+        simp (eq-eqb (kindAt list (s - 1)) 20 k) (omega (arith, out-run (omega (arith, depth-is)), near .2, h .six))
+
+    other-kind : getD list (b - 4) 0 ≢ 20 → getD list (b - 6) 0 ≢ d → kindAt list (s - 1) ≢ 20
+    other-kind e f packed =
+        lower-or-not (getD list (b - 6) 0) d
+        (λ l. let same : s - 1 ≡ j = omega (arith, out-run (omega (arith, depth-is))) in
+        e (read 2 (b - 4) (omega (arith, near .0, near .3)) ∙ sym (ap (kindAt list) same) ∙ packed))
+        (λ l. other-depth f l packed)
+
+abbrev Inv-loop : tie.InvT-loop
+Inv-loop list depth upto number b₀ b = Back list depth upto b
+
+abbrev μ-loop : tie.MeasureT-loop
+μ-loop list depth upto number b₀ b = b
+
+sub-number : tie.Need-sub-number Inv-loop μ-loop
+sub-number c = omega (arith, c .pre .0 .six, c .pre .1 .some)
+
+mul-number : tie.Need-mul-number Inv-loop μ-loop
+mul-number c = omega (arith, c .pre .0 .inside)
+
+shared-slice-read-number : tie.Need-shared-slice-read-number Inv-loop μ-loop
+shared-slice-read-number c =
+    let o = c .before in
+    omega (arith, o .pre .0 .six, o .pre .1 .some, o .pre .0 .inside)
+
+loop-holds : tie.Need-loop-holds Inv-loop μ-loop
+loop-holds c = begin (c .before .pre .0) (c .before .pre .1)
+
+sub-if1 : tie.Need-sub-if1 Inv-loop μ-loop
+sub-if1 c =
+    let l = c in
+    let o = l .before .before in
+    omega (arith, near (o .pre .0) (o .pre .1) (l .loop .inv) .0)
+
+mul-if1 : tie.Need-mul-if1 Inv-loop μ-loop
+mul-if1 c =
+    let l = c in
+    let o = l .before .before in
+    omega (arith, near (o .pre .0) (o .pre .1) (l .loop .inv) .0, l .loop .inv .high, o .pre .0 .inside)
+
+shared-slice-read-if1 : tie.Need-shared-slice-read-if1 Inv-loop μ-loop
+shared-slice-read-if1 c =
+    let l = c .before in
+    let o = l .before .before in
+    omega (arith, near (o .pre .0) (o .pre .1) (l .loop .inv) .0, l .loop .inv .high, o .pre .0 .inside)
+
+sub-if2 : tie.Need-sub-if2 Inv-loop μ-loop
+sub-if2 c =
+    let l = c .before .before in
+    let o = l .before .before in
+    omega (arith, near (o .pre .0) (o .pre .1) (l .loop .inv) .0)
+
+mul-if2 : tie.Need-mul-if2 Inv-loop μ-loop
+mul-if2 c =
+    let l = c .before .before in
+    let o = l .before .before in
+    omega (arith, near (o .pre .0) (o .pre .1) (l .loop .inv) .0, l .loop .inv .high, o .pre .0 .inside)
+
+shared-slice-read-if2 : tie.Need-shared-slice-read-if2 Inv-loop μ-loop
+shared-slice-read-if2 c =
+    let l = c .before .before .before in
+    let o = l .before .before in
+    omega (arith, near (o .pre .0) (o .pre .1) (l .loop .inv) .0, l .loop .inv .high, o .pre .0 .inside)
+
+returns : tie.Need-returns Inv-loop μ-loop
+returns c =
+    let l = c .before .before .before .before in
+    let o = l .before .before in
+    upto-is (o .pre .0) (o .pre .1) (other-number (o .pre .0) (o .pre .1) (l .loop .inv) (c .before .before .if1 .taken) (c .if2 .taken))
+
+sub-b : tie.Need-sub-b Inv-loop μ-loop
+sub-b c =
+    let l = c .before .before .before .before in
+    let o = l .before .before in
+    omega (arith, near (o .pre .0) (o .pre .1) (l .loop .inv) .0)
+
+loop-less : tie.Need-loop-less Inv-loop μ-loop
+loop-less c =
+    let l = c .before .before .before .before in
+    let o = l .before .before in
+    omega (arith, near (o .pre .0) (o .pre .1) (l .loop .inv) .0)
+
+loop-again : tie.Need-loop-again Inv-loop μ-loop
+loop-again c =
+    let l = c .before .before .before .before in
+    let o = l .before .before in
+    again (o .pre .0) (o .pre .1) (l .loop .inv) (c .before .before .if1 .taken) (omega arith)
+
+sub-if3 : tie.Need-sub-if3 Inv-loop μ-loop
+sub-if3 c =
+    let l = c .before .before in
+    let o = l .before .before in
+    omega (arith, near (o .pre .0) (o .pre .1) (l .loop .inv) .0)
+
+mul-if3 : tie.Need-mul-if3 Inv-loop μ-loop
+mul-if3 c =
+    let l = c .before .before in
+    let o = l .before .before in
+    omega (arith, near (o .pre .0) (o .pre .1) (l .loop .inv) .0, l .loop .inv .high, o .pre .0 .inside)
+
+shared-slice-read-if3 : tie.Need-shared-slice-read-if3 Inv-loop μ-loop
+shared-slice-read-if3 c =
+    let l = c .before .before .before in
+    let o = l .before .before in
+    omega (arith, near (o .pre .0) (o .pre .1) (l .loop .inv) .0, l .loop .inv .high, o .pre .0 .inside)
+
+sub-if4 : tie.Need-sub-if4 Inv-loop μ-loop
+sub-if4 c =
+    let l = c .before .before .before .before in
+    let o = l .before .before in
+    omega (arith, near (o .pre .0) (o .pre .1) (l .loop .inv) .0)
+
+mul-if4 : tie.Need-mul-if4 Inv-loop μ-loop
+mul-if4 c =
+    let l = c .before .before .before .before in
+    let o = l .before .before in
+    omega (arith, near (o .pre .0) (o .pre .1) (l .loop .inv) .0, l .loop .inv .high, o .pre .0 .inside)
+
+shared-slice-read-if4 : tie.Need-shared-slice-read-if4 Inv-loop μ-loop
+shared-slice-read-if4 c =
+    let l = c .before .before .before .before .before in
+    let o = l .before .before in
+    omega (arith, near (o .pre .0) (o .pre .1) (l .loop .inv) .0, l .loop .inv .high, o .pre .0 .inside)
+
+returns-2 : tie.Need-returns-2 Inv-loop μ-loop
+returns-2 c =
+    let l = c .before .before .before .before .before .before in
+    let o = l .before .before in
+    found (o .pre .0) (o .pre .1) (l .loop .inv) (c .before .before .if3 .taken) (c .if4 .taken)
+
+returns-3 : tie.Need-returns-3 Inv-loop μ-loop
+returns-3 c =
+    let l = c .before .before .before .before .before .before in
+    let o = l .before .before in
+    upto-is (o .pre .0) (o .pre .1) (other-depth (o .pre .0) (o .pre .1) (l .loop .inv) (c .before .before .before .before .if1 .left) (c .if4 .left))
+
+returns-4 : tie.Need-returns-4 Inv-loop μ-loop
+returns-4 c =
+    let l = c .before .before .before .before in
+    let o = l .before .before in
+    upto-is (o .pre .0) (o .pre .1) (other-kind (o .pre .0) (o .pre .1) (l .loop .inv) (c .if3 .left) (c .before .before .if1 .left))
+
+pub packed-from-spec : {M : Type 1} → statement M
+packed-from-spec =
+    tie.close
+    (tie.spec
+    Inv-loop
+    μ-loop
+    sub-number
+    mul-number
+    shared-slice-read-number
+    loop-holds
+    sub-if1
+    mul-if1
+    shared-slice-read-if1
+    sub-if2
+    mul-if2
+    shared-slice-read-if2
+    returns
+    sub-b
+    loop-less
+    loop-again
+    sub-if3
+    mul-if3
+    shared-slice-read-if3
+    sub-if4
+    mul-if4
+    shared-slice-read-if4
+    returns-2
+    returns-3
+    returns-4)

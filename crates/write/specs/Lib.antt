@@ -1,0 +1,2 @@
+pub mod Backward
+pub mod Summing

@@ -1,0 +1,283 @@
+// The bytes of a list that the check found without fault, from the last to the first: a length stands before its content, so a run of records is
+// written from its last record to its first, and every length is known when it is written. The work grows with the records and the bytes alone,
+// however deep they nest.
+ghost use mathlib.Core.Path.{_≡_};
+ghost use mathlib.Core.Bool.{true, false, not};
+ghost use mathlib.Core.List.{_++_};
+ghost use Prim.Native.Nat.{_-_, _*_, _/_, _%_, _≤_};
+ghost use lib.ListN.{length, take};
+ghost use Rattle.spec.specs.Base.{if_then_else_, part, filled};
+ghost use Rattle.spec.specs.Varint.{encode, little};
+ghost use Rattle.spec.specs.Kind.{wires, shape, wire, isScalar};
+ghost use Rattle.spec.specs.Record.{recordsOf};
+ghost use Rattle.spec.specs.Writing.{tagOf, written};
+ghost use Rattle.spec.proofs.WritingLaws.{bytesIn};
+ghost use Rattle.wire.specs.SizeParts.{coded};
+ghost use Rattle.write.specs.Backward.{Stored, Room, at, kindAt, span, start, plain, isHead, Given, Here, leadOf, Upto, Run, Inner, isPacked, Values, Ran};
+use crate::sizes::is_head;
+use wire::rt::compute_raw_varint64_size;
+use wire::zigzag::zigzag;
+
+// A place in the list, and one in the output: from there on it is written.
+struct Back {
+    at: usize,
+    pos: usize,
+}
+
+fn low_byte(v: u64) -> u8
+    ensures { λ r. ⌜ r ≡ v % 256 ⌝ }
+{
+    (v % 256) as u8
+}
+
+// A varint that ends before p; its start. It is written forward, from the place that its size tells.
+fn long_varint(out: &mut [u8], p: usize, v: u64) -> usize
+    requires { ⌜ Room (encode v) p (now out) ⌝ }
+    ensures { λ q. ⌜ Stored (encode v) p (now (out .entry)) q (now (out .exit)) ⌝ }
+{
+    let size = compute_raw_varint64_size(v) as usize;
+    let q = p - size;
+    let mut i = q;
+    let mut x = v;
+    while 128 <= x {
+        out[i] = low_byte(x % 128 + 128);
+        x = x / 128;
+        i += 1;
+    }
+    out[i] = low_byte(x);
+    q
+}
+
+// The same, with the short ones at once.
+fn put_varint(out: &mut [u8], p: usize, v: u64) -> usize
+    requires { ⌜ Room (encode v) p (now out) ⌝ }
+    ensures { λ q. ⌜ Stored (encode v) p (now (out .entry)) q (now (out .exit)) ⌝ }
+{
+    if v < 128 {
+        let q = p - 1;
+        out[q] = low_byte(v);
+        return q;
+    }
+    if v < 16384 {
+        let q = p - 2;
+        out[q] = low_byte(v % 128 + 128);
+        out[q + 1] = low_byte(v / 128);
+        return q;
+    }
+    long_varint(out, p, v)
+}
+
+fn put_fixed32(out: &mut [u8], p: usize, v: u64) -> usize
+    requires { ⌜ Room (little 4 v) p (now out) ⌝ }
+    ensures { λ q. ⌜ Stored (little 4 v) p (now (out .entry)) q (now (out .exit)) ⌝ }
+{
+    let q = p - 4;
+    out[q] = low_byte(v);
+    out[q + 1] = low_byte(v / 256);
+    out[q + 2] = low_byte(v / 65536);
+    out[q + 3] = low_byte(v / 16777216);
+    q
+}
+
+fn put_fixed64(out: &mut [u8], p: usize, v: u64) -> usize
+    requires { ⌜ Room (little 8 v) p (now out) ⌝ }
+    ensures { λ q. ⌜ Stored (little 8 v) p (now (out .entry)) q (now (out .exit)) ⌝ }
+{
+    let q = put_fixed32(out, p, v / 4294967296);
+    put_fixed32(out, q, v)
+}
+
+// The number that is written for a value of a kind whose wire type is 0.
+fn coded_of(kind: u64, v: u64) -> u64
+    ensures { λ r. ⌜ r ≡ coded kind v ⌝ }
+{
+    match kind {
+        17 | 18 => zigzag(v),
+        _ => v,
+    }
+}
+
+// A value of a kind that is one number and whose wire type is w.
+fn put_plain(out: &mut [u8], p: usize, kind: u64, w: u8, v: u64) -> usize
+    requires { ⌜ (w ≡ wire kind) × (isScalar (shape kind) ≡ true) × Room (plain (shape kind) v) p (now out) ⌝ }
+    ensures { λ q. ⌜ Stored (plain (shape kind) v) p (now (out .entry)) q (now (out .exit)) ⌝ }
+{
+    if w == 0 {
+        return put_varint(out, p, coded_of(kind, v));
+    }
+    if w == 1 {
+        return put_fixed64(out, p, v);
+    }
+    put_fixed32(out, p, v)
+}
+
+// A content, which lies in the payload.
+fn put_content(payload: &[u8], out: &mut [u8], p: usize, start: u64, stop: u64) -> usize
+    requires { ⌜ (start ≤ stop) × (stop ≤ length (now payload)) × Room (part start stop (now payload)) p (now out) ⌝ }
+    ensures { λ q. ⌜ Stored (part start stop (now (payload .entry))) p (now (out .entry)) q (now (out .exit)) ⌝ }
+{
+    let a = start as usize;
+    let e = stop as usize;
+    let from = &payload[a..e];
+    let q = p - from.len();
+    let mut i: usize = 0;
+    while i < from.len() {
+        out[q + i] = from[i];
+        i += 1;
+    }
+    q
+}
+
+// What stands between the tag of the record at b and what is in it, which ends before `mark` and starts at p.
+fn put_body(
+    list: &[u64],
+    payload: &[u8],
+    out: &mut [u8],
+    b: usize,
+    w: u8,
+    mark: usize,
+    p: usize,
+) -> usize
+    requires { ⌜ Here (now list) (now payload) b mark p × (w ≡ wire (kindAt (now list) (b / 6))) × Room (leadOf (now list) (now payload) b (mark - p)) p (now out) ⌝ }
+    ensures { λ q. ⌜ Stored (leadOf (now (list .entry)) (now (payload .entry)) b (mark - p)) p (now (out .entry)) q (now (out .exit)) ⌝ }
+{
+    let kind = list[b + 2];
+    if w != 2 {
+        return put_plain(out, p, kind, w, list[b + 3]);
+    }
+    let mut q = p;
+    if !is_head(kind) {
+        q = put_content(payload, out, p, list[b + 4], list[b + 5]);
+    }
+    put_varint(out, q, (mark - q) as u64)
+}
+
+// The record at b, in front of what is in it.
+fn put_record(
+    table: &[u8; 25],
+    list: &[u64],
+    payload: &[u8],
+    out: &mut [u8],
+    b: usize,
+    mark: usize,
+    p: usize,
+) -> usize
+    requires { ⌜ (now table ≡ take 25 wires) × Here (now list) (now payload) b mark p × Room (tagOf true (at (now list) (b / 6)) ++ leadOf (now list) (now payload) b (mark - p)) p (now out) ⌝ }
+    ensures { λ q. ⌜ Stored (tagOf true (at (now (list .entry)) (b / 6)) ++ leadOf (now (list .entry)) (now (payload .entry)) b (mark - p)) p (now (out .entry)) q (now (out .exit)) ⌝ }
+{
+    let number = list[b + 1];
+    let kind = list[b + 2];
+    let i = kind as usize;
+    let w = table[i];
+    let q = put_body(list, payload, out, b, w, mark, p);
+    let tag = number * 8 + w as u64;
+    put_varint(out, q, tag)
+}
+
+// Where the values of a packed field begin that end before upto, or upto where the run there has tags. Its head says so, and stands right before
+// them: each record is looked at once, for its own run.
+fn packed_from(list: &[u64], depth: u64, upto: usize) -> usize
+    requires { ⌜ Upto (now list) upto × Inner (now list) depth upto ⌝ }
+    ensures { λ r. ⌜ r ≡ (if isPacked (now (list .entry)) depth upto then 6 * start (now (list .entry)) depth (upto / 6) else upto) ⌝ }
+{
+    let number = list[upto - 5];
+    let mut b = upto;
+    while list[b - 6] == depth {
+        if list[b - 5] != number {
+            return upto;
+        }
+        b -= 6;
+    }
+    if list[b - 4] == 20 {
+        if list[b - 6] < depth {
+            return b;
+        }
+    }
+    upto
+}
+
+// The values of a packed field, from the last to the first.
+fn put_values(
+    table: &[u8; 25],
+    list: &[u64],
+    payload: &[u8],
+    out: &mut [u8],
+    first: usize,
+    upto: usize,
+    pos: usize,
+) -> usize
+    requires { ⌜ Values (now table) (now list) (now payload) (now out) first upto pos ⌝ }
+    ensures { λ q. ⌜ Stored (bytesIn false (now (payload .entry)) (span (now (list .entry)) (first / 6) (upto / 6))) pos (now (out .entry)) q (now (out .exit)) ⌝ }
+{
+    let kind = list[upto - 4];
+    let i = kind as usize;
+    let w = table[i];
+    let mut b = upto;
+    let mut p = pos;
+    while first < b {
+        p = put_plain(out, p, kind, w, list[b - 3]);
+        b -= 6;
+    }
+    p
+}
+
+// The run at this depth that ends before upto and lies in a head.
+fn put_inner(
+    table: &[u8; 25],
+    list: &[u64],
+    payload: &[u8],
+    out: &mut [u8],
+    depth: u64,
+    upto: usize,
+    pos: usize,
+) -> Back
+    requires { ⌜ Run (not (isPacked (now list) depth upto)) (now table) (now list) (now payload) (now out) depth upto pos × Inner (now list) depth upto ⌝ }
+    ensures { λ r. ⌜ Ran (not (isPacked (now (list .entry)) depth upto)) (now (list .entry)) (now (payload .entry)) (now (out .entry)) depth upto pos (r .at) (r .pos) (now (out .exit)) ⌝ }
+{
+    let first = packed_from(list, depth, upto);
+    if first < upto {
+        let p = put_values(table, list, payload, out, first, upto, pos);
+        return Back { at: first, pos: p };
+    }
+    put_run(table, list, payload, out, depth, upto, pos)
+}
+
+// The run at this depth that ends before upto, with its tags.
+fn put_run(
+    table: &[u8; 25],
+    list: &[u64],
+    payload: &[u8],
+    out: &mut [u8],
+    depth: u64,
+    upto: usize,
+    pos: usize,
+) -> Back
+    requires { ⌜ Run true (now table) (now list) (now payload) (now out) depth upto pos ⌝ }
+    ensures { λ r. ⌜ Ran true (now (list .entry)) (now (payload .entry)) (now (out .entry)) depth upto pos (r .at) (r .pos) (now (out .exit)) ⌝ }
+{
+    let mut b = upto;
+    let mut p = pos;
+    while 6 <= b {
+        let d = list[b - 6];
+        if d < depth {
+            return Back { at: b, pos: p };
+        }
+        let mark = p;
+        if depth < d {
+            let r = put_inner(table, list, payload, out, depth + 1, b, p);
+            b = r.at;
+            p = r.pos;
+        }
+        b -= 6;
+        p = put_record(table, list, payload, out, b, mark, p);
+    }
+    Back { at: b, pos: p }
+}
+
+// The bytes of a list that the check found without fault, at the front of the output: `size` is how many they are.
+fn put_list(table: &[u8; 25], list: &[u64], payload: &[u8], out: &mut [u8], size: usize)
+    requires { ⌜ (now table ≡ take 25 wires) × Given (now list) (now payload) × (size ≡ length (written (now payload) (recordsOf (now list)))) × (size ≤ length (now out)) ⌝ }
+    ensures { λ r. ⌜ now (out .exit) ≡ filled (written (now (payload .entry)) (recordsOf (now (list .entry)))) (now (out .entry)) ⌝ }
+{
+    put_run(table, list, payload, out, 0, list.len(), size);
+}
