@@ -6,7 +6,7 @@ use mathlib.Core.Logic.{_≢_}
 use mathlib.Core.List.{List}
 use native.Mathlib.Omega.{arith}
 use borrow.Author.Tests.{eq-eqb, ne-eqb}
-use lib.ListN.{getD}
+use lib.ListN.{length, getD}
 use Rattle.spec.specs.Base.{if_then_else_}
 use Rattle.spec.proofs.VarintLaws.{lower-or-not}
 use Rattle.write.specs.Backward.{depthAt, numberAt, kindAt, start, Upto, Inner, isPacked}
@@ -115,41 +115,11 @@ shared-slice-read-number c =
 loop-holds : tie.Need-loop-holds Inv-loop μ-loop
 loop-holds c = begin (c .before .pre .0) (c .before .pre .1)
 
-sub-if1 : tie.Need-sub-if1 Inv-loop μ-loop
-sub-if1 c =
-    let l = c in
-    let o = l .before .before in
-    omega (arith, near (o .pre .0) (o .pre .1) (l .loop .inv) .0)
-
-mul-if1 : tie.Need-mul-if1 Inv-loop μ-loop
-mul-if1 c =
-    let l = c in
-    let o = l .before .before in
-    omega (arith, near (o .pre .0) (o .pre .1) (l .loop .inv) .0, l .loop .inv .high, o .pre .0 .inside)
-
-shared-slice-read-if1 : tie.Need-shared-slice-read-if1 Inv-loop μ-loop
-shared-slice-read-if1 c =
-    let l = c .before in
-    let o = l .before .before in
-    omega (arith, near (o .pre .0) (o .pre .1) (l .loop .inv) .0, l .loop .inv .high, o .pre .0 .inside)
-
-sub-if2 : tie.Need-sub-if2 Inv-loop μ-loop
-sub-if2 c =
-    let l = c .before .before in
-    let o = l .before .before in
-    omega (arith, near (o .pre .0) (o .pre .1) (l .loop .inv) .0)
-
-mul-if2 : tie.Need-mul-if2 Inv-loop μ-loop
-mul-if2 c =
-    let l = c .before .before in
-    let o = l .before .before in
-    omega (arith, near (o .pre .0) (o .pre .1) (l .loop .inv) .0, l .loop .inv .high, o .pre .0 .inside)
-
-shared-slice-read-if2 : tie.Need-shared-slice-read-if2 Inv-loop μ-loop
-shared-slice-read-if2 c =
-    let l = c .before .before .before in
-    let o = l .before .before in
-    omega (arith, near (o .pre .0) (o .pre .1) (l .loop .inv) .0, l .loop .inv .high, o .pre .0 .inside)
+-- where the loop is
+inside : (c : tie.At-loop Inv-loop μ-loop) → (6 ≤ c .loop .b) × (c .loop .b ≤ length (c .before .before .args .list .now))
+inside c =
+    let o = c .before .before in
+    (near (o .pre .0) (o .pre .1) (c .loop .inv) .0, omega (arith, c .loop .inv .high, o .pre .0 .inside))
 
 returns : tie.Need-returns Inv-loop μ-loop
 returns c =
@@ -157,59 +127,11 @@ returns c =
     let o = l .before .before in
     upto-is (o .pre .0) (o .pre .1) (other-number (o .pre .0) (o .pre .1) (l .loop .inv) (c .before .before .if1 .taken) (c .if2 .taken))
 
-sub-b : tie.Need-sub-b Inv-loop μ-loop
-sub-b c =
-    let l = c .before .before .before .before in
-    let o = l .before .before in
-    omega (arith, near (o .pre .0) (o .pre .1) (l .loop .inv) .0)
-
-loop-less : tie.Need-loop-less Inv-loop μ-loop
-loop-less c =
-    let l = c .before .before .before .before in
-    let o = l .before .before in
-    omega (arith, near (o .pre .0) (o .pre .1) (l .loop .inv) .0)
-
 loop-again : tie.Need-loop-again Inv-loop μ-loop
 loop-again c =
     let l = c .before .before .before .before in
     let o = l .before .before in
     again (o .pre .0) (o .pre .1) (l .loop .inv) (c .before .before .if1 .taken) (omega arith)
-
-sub-if3 : tie.Need-sub-if3 Inv-loop μ-loop
-sub-if3 c =
-    let l = c .before .before in
-    let o = l .before .before in
-    omega (arith, near (o .pre .0) (o .pre .1) (l .loop .inv) .0)
-
-mul-if3 : tie.Need-mul-if3 Inv-loop μ-loop
-mul-if3 c =
-    let l = c .before .before in
-    let o = l .before .before in
-    omega (arith, near (o .pre .0) (o .pre .1) (l .loop .inv) .0, l .loop .inv .high, o .pre .0 .inside)
-
-shared-slice-read-if3 : tie.Need-shared-slice-read-if3 Inv-loop μ-loop
-shared-slice-read-if3 c =
-    let l = c .before .before .before in
-    let o = l .before .before in
-    omega (arith, near (o .pre .0) (o .pre .1) (l .loop .inv) .0, l .loop .inv .high, o .pre .0 .inside)
-
-sub-if4 : tie.Need-sub-if4 Inv-loop μ-loop
-sub-if4 c =
-    let l = c .before .before .before .before in
-    let o = l .before .before in
-    omega (arith, near (o .pre .0) (o .pre .1) (l .loop .inv) .0)
-
-mul-if4 : tie.Need-mul-if4 Inv-loop μ-loop
-mul-if4 c =
-    let l = c .before .before .before .before in
-    let o = l .before .before in
-    omega (arith, near (o .pre .0) (o .pre .1) (l .loop .inv) .0, l .loop .inv .high, o .pre .0 .inside)
-
-shared-slice-read-if4 : tie.Need-shared-slice-read-if4 Inv-loop μ-loop
-shared-slice-read-if4 c =
-    let l = c .before .before .before .before .before in
-    let o = l .before .before in
-    omega (arith, near (o .pre .0) (o .pre .1) (l .loop .inv) .0, l .loop .inv .high, o .pre .0 .inside)
 
 returns-2 : tie.Need-returns-2 Inv-loop μ-loop
 returns-2 c =
@@ -239,22 +161,22 @@ packed-from-spec =
     mul-number
     shared-slice-read-number
     loop-holds
-    sub-if1
-    mul-if1
-    shared-slice-read-if1
-    sub-if2
-    mul-if2
-    shared-slice-read-if2
+    (λ c. omega (arith, inside c))
+    (λ c. omega (arith, inside c))
+    (λ c. omega (arith, inside (c .before)))
+    (λ c. omega (arith, inside (c .before .before)))
+    (λ c. omega (arith, inside (c .before .before)))
+    (λ c. omega (arith, inside (c .before .before .before)))
     returns
-    sub-b
-    loop-less
+    (λ c. omega (arith, inside (c .before .before .before .before)))
+    (λ c. omega (arith, inside (c .before .before .before .before)))
     loop-again
-    sub-if3
-    mul-if3
-    shared-slice-read-if3
-    sub-if4
-    mul-if4
-    shared-slice-read-if4
+    (λ c. omega (arith, inside (c .before .before)))
+    (λ c. omega (arith, inside (c .before .before)))
+    (λ c. omega (arith, inside (c .before .before .before)))
+    (λ c. omega (arith, inside (c .before .before .before .before)))
+    (λ c. omega (arith, inside (c .before .before .before .before)))
+    (λ c. omega (arith, inside (c .before .before .before .before .before)))
     returns-2
     returns-3
     returns-4)
