@@ -9,26 +9,24 @@ use borrow.Author.Tests.{eq-eqb, ne-eqb}
 use lib.ListN.{length, getD}
 use Rattle.spec.specs.Base.{if_then_else_}
 use Rattle.spec.proofs.VarintLaws.{lower-or-not}
-use Rattle.write.specs.Backward.{depthAt, numberAt, kindAt, start, Upto, Inner, isPacked}
+use Rattle.write.specs.Backward.{depthAt, kindAt, start, Upto, Inner, isPacked}
 use Rattle.write.proofs.SpanLaws.{start-le, start-over, start-low}
 use Rattle.write.proofs.InnerLaws.{value, depth}
 use Rattle.write.proofs.bytes.packed_from.Statement.{statement}
 use Rattle.write.proofs.bytes.packed_from.Tie as tie
 
--- the records from the place b on stand at depth d and have the number of the last
+-- the loop is at the place b, in the run
 record Back (list : List ℕ) (d upto b : ℕ) : Type 0 where
   six : b ≡ 6 * (b / 6)
   low : start list d (upto / 6) ≤ b / 6
   high : b ≤ upto
-  depths : (j : ℕ) → b / 6 ≤ j → j < upto / 6 → depthAt list j ≡ d
-  numbers : (j : ℕ) → b / 6 ≤ j → j < upto / 6 → numberAt list j ≡ getD list (upto - 5) 0
 
 module _ {list : List ℕ} {d upto : ℕ} (u : Upto list upto) (n : Inner list d upto) where
   abbrev s : ℕ
   s = start list d (upto / 6)
 
   begin : Back list d upto upto
-  begin = record { six = u .six; low = start-le list d (upto / 6); high = omega arith; depths = λ j g h. absurd (omega arith); numbers = λ j g h. absurd (omega arith) }
+  begin = record { six = u .six; low = start-le list d (upto / 6); high = omega arith }
 
   upto-is : kindAt list (s - 1) ≢ 20 → upto ≡ (if isPacked list d upto then 6 * s else upto)
   upto-is h = simp (ne-eqb (kindAt list (s - 1)) 20 h)
@@ -60,15 +58,8 @@ module _ {list : List ℕ} {d upto : ℕ} (u : Upto list upto) (n : Inner list d
         (λ b. omega (arith, h .low, near .2))
         (λ b. absurd (omega (arith, start-over list d (upto / 6) j b (near .1))))
 
-    again : getD list (b - 6) 0 ≡ d → getD list (b - 5) 0 ≡ getD list (upto - 5) 0 → Back list d upto (b - 6)
-    again e f = record {
-      six = near .3;
-      low = in-run (omega (arith, depth-is));
-      high = omega (arith, h .high);
-      depths = λ i g l. lower-or-not j i (λ m. h .depths i (omega (arith, near .2)) l) (λ m. let same : i ≡ j = omega arith in ap (depthAt list) same ∙ sym depth-is ∙ e);
-      numbers = λ i g l. lower-or-not j i (λ m. h .numbers i (omega (arith, near .2)) l)
-          (λ m. let same : i ≡ j = omega arith in ap (numberAt list) same ∙ sym (read 1 (b - 5) (omega (arith, near .0, near .3))) ∙ f);
-    }
+    again : getD list (b - 6) 0 ≡ d → Back list d upto (b - 6)
+    again e = record { six = near .3; low = in-run (omega (arith, depth-is)); high = omega (arith, h .high) }
 
     -- another number, another depth
     other-number : getD list (b - 6) 0 ≡ d → getD list (b - 5) 0 ≢ getD list (upto - 5) 0 → kindAt list (s - 1) ≢ 20
@@ -131,7 +122,7 @@ loop-again : tie.Need-loop-again Inv-loop μ-loop
 loop-again c =
     let l = c .before .before .before .before in
     let o = l .before .before in
-    again (o .pre .0) (o .pre .1) (l .loop .inv) (c .before .before .if1 .taken) (omega arith)
+    again (o .pre .0) (o .pre .1) (l .loop .inv) (c .before .before .if1 .taken)
 
 returns-2 : tie.Need-returns-2 Inv-loop μ-loop
 returns-2 c =
