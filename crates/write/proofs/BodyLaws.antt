@@ -5,7 +5,7 @@ use mathlib.Core.Bool.{Bool, true, false, _||_, false≢true}
 use mathlib.Core.List.{List, [], _++_, append-nil}
 use lib.ListN.{length}
 use borrow.Author.Tests.{ne-eqb}
-use lib.Dec.{eqb}
+use lib.Dec.{ltb}
 use Rattle.spec.specs.Base.{if_then_else_}
 use Rattle.spec.specs.Varint.{encode, zigzag, little}
 use Rattle.spec.specs.Kind.{int32, uint32, uint64, bool, sint32, sint64, fixed32, sfixed32, fixed64, Shape, one, other, string, bytes, message, packed, startGroup, endGroup, nothing, shape, wire, isScalar, encoded}
@@ -18,7 +18,7 @@ use Rattle.wire.proofs.ValueSizes.{zigzags, zigzag-kind}
 use Rattle.write.specs.Backward.{plain, lead, isHead}
 
 unfoldable byWire : ℕ → Bool → ℕ → List ℕ
-byWire w z v = if eqb w 0 then encode (if z then zigzag v else v) else if eqb w 1 then little 8 v else little 4 v
+byWire w z v = if ltb w 1 then encode (if z then zigzag v else v) else if ltb w 5 then little 8 v else little 4 v
 
 by-wire : (x : Shape) (v : ℕ) → isScalar x ≡ true → plain x v ≡ byWire (wireOf x) (zigzags x) v
 unfolding plain encoded wireOf wireOne zigzags byWire isScalar
@@ -34,7 +34,7 @@ by-wire (one fixed64) v h = refl
 by-wire (other x) v h = absurd (false≢true h)
 
 pub plain-by-wire : (k v w : ℕ) → isScalar (shape k) ≡ true → w ≡ wire k
-    → plain (shape k) v ≡ (if eqb w 0 then encode (coded k v) else if eqb w 1 then little 8 v else little 4 v)
+    → plain (shape k) v ≡ (if ltb w 1 then encode (coded k v) else if ltb w 5 then little 8 v else little 4 v)
 unfolding byWire
 plain-by-wire k v w h e = by-wire (shape k) v h ∙ ap₂ (λ (u : ℕ) (z : Bool). byWire u z v) (sym (e ∙ wire-shape k)) (zigzag-kind k)
 

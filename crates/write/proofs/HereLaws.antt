@@ -1,24 +1,24 @@
 -- Laws of the record at a place of a checked list: its numbers as they are read there, and what they say of the bytes in front of what is in it.
 -- Assumes nothing.
-use Prim.Native.Nat.{ℕ, _+_, _*_, _/_, _≤_, _<_, min}
+use Prim.Native.Nat.{ℕ, _+_, _*_, _/_, _≤_, _<_}
 use native.Mathlib.Omega.{arith}
 use mathlib.Core.Path.{_≡_, refl, sym, ap, ap₂, _∙_}
 use mathlib.Core.Logic.{_≢_}
-use mathlib.Core.Bool.{Bool, true, false, _||_, false≢true}
+use mathlib.Core.Bool.{true, false, false≢true}
 use mathlib.Core.List.{List}
 use lib.ListN.{length, take, getD}
-use lib.Dec.{eqb, leb}
-use borrow.Author.Tests.{leb-true, eqb-true}
+use lib.Dec.{leb}
+use borrow.Author.Tests.{leb-true}
 use Rattle.spec.specs.Base.{part}
 use Rattle.spec.specs.Varint.{encode}
-use Rattle.spec.specs.Kind.{Shape, one, other, string, bytes, message, packed, startGroup, endGroup, nothing, kindWires, ownWires, wires, shape, wire, isScalar}
+use Rattle.spec.specs.Kind.{Shape, one, other, string, bytes, message, packed, startGroup, endGroup, nothing, wires, shape, wire, isScalar}
 use Rattle.spec.specs.Record.{Record}
 use Rattle.spec.specs.Writing.{prefixed, tagOf}
 use Rattle.spec.proofs.RoundTrip.{hasContent, shape-11, shape-20}
 use Rattle.spec.proofs.Laws.{both}
 use Rattle.spec.proofs.RunLaws.{Fit, kind-small as kind-below, is-number, is-content}
-use Rattle.wire.proofs.Below.{equal-below}
 use Rattle.write.specs.Backward.{at, kindAt, plain, lead, isHead, Here, leadOf}
+use Rattle.write.proofs.KindLaws.{Head, of-message, of-packed, head, type-of, type-small}
 use Rattle.write.proofs.SpanLaws.{from}
 use Rattle.write.proofs.CheckedLaws.{fit-at, lies-at}
 
@@ -32,15 +32,6 @@ content-lead (other packed) payload r n h = absurd (false≢true h)
 content-lead (other startGroup) payload r n h = absurd (false≢true h)
 content-lead (other endGroup) payload r n h = absurd (false≢true h)
 content-lead (other nothing) payload r n h = absurd (false≢true h)
-
--- the wire type of a kind that a record has, as the table says it
-pub type-of : (table : List ℕ) (k : ℕ) → table ≡ take 25 wires → k < 25 → getD table k 0 ≡ wire k
-unfolding wire wires kindWires ownWires
-type-of table k e h = ap (λ (t : List ℕ). getD t k 0) e ∙ equal-below (λ n. getD (take 25 wires) n 0) wire 25 k tt h
-
-type-small : (k : ℕ) → k < 25 → wire k ≤ 7
-unfolding wire wires kindWires ownWires
-type-small k h = let e : min 7 (wire k) ≡ wire k = equal-below (λ n. min 7 (wire n)) wire 25 k tt h in omega arith
 
 module _ {list payload : List ℕ} {b mark p : ℕ} (h : Here list payload b mark p) where
   -- the numbers of the record, as they are read at b
@@ -79,15 +70,11 @@ module _ {list payload : List ℕ} {b mark p : ℕ} (h : Here list payload b mar
 
   pub head-lead : (n : ℕ) → isHead (kindAt list (b / 6)) ≡ true → leadOf list payload b n ≡ encode n
   unfolding lead
-  head-lead n is = go (eqb (kindAt list (b / 6)) 11) (eqb (kindAt list (b / 6)) 20) refl refl is
+  head-lead n is = go (head (kindAt list (b / 6)) is)
     where
-      by : (x : Shape) → shape (kindAt list (b / 6)) ≡ x → leadOf list payload b n ≡ lead x payload (at list (b / 6)) n
-      by x e = ap (λ (s : Shape). lead s payload (at list (b / 6)) n) e
-
-      go : (a c : Bool) → eqb (kindAt list (b / 6)) 11 ≡ a → eqb (kindAt list (b / 6)) 20 ≡ c → (a || c) ≡ true → leadOf list payload b n ≡ encode n
-      go true c e f t = by (other message) (ap shape (eqb-true (kindAt list (b / 6)) 11 e) ∙ shape-11)
-      go false true e f t = by (other packed) (ap shape (eqb-true (kindAt list (b / 6)) 20 f) ∙ shape-20)
-      go false false e f t = absurd (false≢true t)
+      go : {k : ℕ} → Head k → lead (shape k) payload (at list (b / 6)) n ≡ encode n
+      go of-message = ap (λ (x : Shape). lead x payload (at list (b / 6)) n) shape-11
+      go of-packed = ap (λ (x : Shape). lead x payload (at list (b / 6)) n) shape-20
 
   pub kind-small : getD list (b + 2) 0 < 25
   kind-small = omega (arith, read 2, kind-below fit)

@@ -4,6 +4,7 @@ pub mod CheckedLaws
 pub mod EncodeLaws
 pub mod HereLaws
 pub mod InnerLaws
+pub mod KindLaws
 pub mod SpanLaws
 pub mod StoreLaws
 pub mod Turn

@@ -5,13 +5,12 @@ use mathlib.Core.Path.{_≡_, refl, sym, ap, _∙_, subst}
 use mathlib.Core.Logic.{_≢_}
 use mathlib.Core.Bool.{Bool, true, false, not, _||_, false≢true}
 use mathlib.Core.List.{List, [], _∷_}
-use lib.ListN.{length, take, drop, getD, length-drop, drop-of-length-le}
+use lib.ListN.{length, drop, getD, length-drop, drop-of-length-le}
 use lib.Seq.{drop-drop}
 use lib.Dec.{eqb}
-use borrow.Author.Tests.{eqb-true}
 use Rattle.spec.specs.Base.{if_then_else_}
 use Rattle.spec.specs.Varint.{size, tagSize, zigzag}
-use Rattle.spec.specs.Kind.{int32, uint32, uint64, bool, sint32, sint64, fixed32, sfixed32, fixed64, Shape, one, other, string, bytes, message, packed, startGroup, endGroup, nothing, shape, kindWires, ownWires, wires, wire, isScalar}
+use Rattle.spec.specs.Kind.{int32, uint32, uint64, bool, sint32, sint64, fixed32, sfixed32, fixed64, Shape, one, other, string, bytes, message, packed, startGroup, endGroup, nothing, shape, wire, isScalar}
 use Rattle.spec.specs.Record.{Record, row, recordsOf}
 use Rattle.spec.specs.Sizes.{scalarSize, prefixedSize, valueSize, bodySize, sizeUpTo}
 use Rattle.spec.proofs.VarintLaws.{lower-or-not}
@@ -21,9 +20,9 @@ use Rattle.spec.proofs.ListLaws.{Low}
 use Rattle.spec.proofs.SizeLaws.{sizeIn}
 use Rattle.spec.proofs.RunLaws.{front, behind, front-low, behind-drop, low-behind, front-length, front-size, Row, row-end, row-more, row-low, Nested, a-row, Fit, Content, Sane, sane-first, sane-rest, sane-drop, is-number, is-content, is-message, is-row, records-at, records-drop, sane-whole}
 use Rattle.wire.specs.SizeParts.{capped}
-use Rattle.wire.proofs.Below.{equal-below}
 use Rattle.wire.proofs.ValueSizes.{size-most}
 use Rattle.write.specs.Summing.{recordsFrom, runFrom, Summed, Lent, Elements, Below}
+use Rattle.write.proofs.KindLaws.{Head, of-message, of-packed}
 
 -- The loop over the run at depth d, from the place `from` on, is at the place `at`. What the run takes in all is what was added, and the rest of it.
 pub record Here (tags : Bool) (list : List ℕ) (from d at size : ℕ) : Type 0 where
@@ -155,19 +154,6 @@ content-body (other packed) r i e = absurd (false≢true e)
 content-body (other startGroup) r i e = absurd (false≢true e)
 content-body (other endGroup) r i e = absurd (false≢true e)
 content-body (other nothing) r i e = absurd (false≢true e)
-
--- the kinds that are heads
-pub data Head : ℕ → Type 0 where
-  of-message : Head 11
-  of-packed : Head 20
-
-pub head : (k : ℕ) → (eqb k 11 || eqb k 20) ≡ true → Head k
-head k e = go (eqb k 11) (eqb k 20) refl refl e
-  where
-    go : (a b : Bool) → eqb k 11 ≡ a → eqb k 20 ≡ b → (a || b) ≡ true → Head k
-    go true b p q e = subst Head (sym (eqb-true k 11 p)) of-message
-    go false true p q e = subst Head (sym (eqb-true k 20 q)) of-packed
-    go false false p q e = absurd (false≢true e)
 
 head-body : {k : ℕ} (r : Record) (i : ℕ) → Head k → bodySize (shape k) r i ≡ prefixedSize i
 unfolding bodySize
@@ -309,11 +295,7 @@ module _ {list : List ℕ} {from d at sum m k : ℕ} (h : Here false list from d
       (λ i. omega (arith, ap (λ (n : ℕ). bodySize (shape n) (this h lt) i) kin ∙ scalar-body (shape k) (this h lt) i sc))
       (omega (arith, value-most (shape k) (getD list (at + 3) 0) sc))
 
--- ---- the table
-
-pub typed : {table list : List ℕ} → Lent table list → (k : ℕ) → k < 25 → getD table k 0 ≡ wire k
-unfolding wires wire kindWires ownWires
-typed lent k h = ap (λ (t : List ℕ). getD t k 0) (lent .types) ∙ equal-below (λ n. getD (take 25 wires) n 0) wire 25 k tt h
+-- ---- the values of a packed field, from the first on
 
 pub values-start : {table list : List ℕ} {from d : ℕ} → Elements table list from d → Here false list from d from 0
 values-start {list = list} {from} {d} e = start false list from d (omega (arith, e .inside)) (e .sane) (row-low (e .values))

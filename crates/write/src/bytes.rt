@@ -13,7 +13,7 @@ ghost use Rattle.spec.specs.Record.{recordsOf};
 ghost use Rattle.spec.specs.Writing.{tagOf, written};
 ghost use Rattle.spec.proofs.WritingLaws.{bytesIn};
 ghost use Rattle.wire.specs.SizeParts.{coded};
-ghost use Rattle.write.specs.Backward.{Stored, Room, at, kindAt, span, start, plain, isHead, Given, Here, leadOf, Upto, Run, Inner, isPacked, Values, Ran};
+ghost use Rattle.write.specs.Backward.{Stored, Room, at, kindAt, span, start, plain, Given, Here, leadOf, Upto, Run, Inner, isPacked, Values, Ran};
 use crate::sizes::is_head;
 use wire::rt::compute_raw_varint64_size;
 use wire::zigzag::zigzag;
@@ -97,15 +97,15 @@ fn coded_of(kind: u64, v: u64) -> u64
     }
 }
 
-// A value of a kind that is one number and whose wire type is w.
+// A value of a kind that is one number and whose wire type is w: 0, 1 or 5.
 fn put_plain(out: &mut [u8], p: usize, kind: u64, w: u8, v: u64) -> usize
     requires { ⌜ (w ≡ wire kind) × (isScalar (shape kind) ≡ true) × Room (plain (shape kind) v) p (now out) ⌝ }
     ensures { λ q. ⌜ Stored (plain (shape kind) v) p (now (out .entry)) q (now (out .exit)) ⌝ }
 {
-    if w == 0 {
+    if w < 1 {
         return put_varint(out, p, coded_of(kind, v));
     }
-    if w == 1 {
+    if w < 5 {
         return put_fixed64(out, p, v);
     }
     put_fixed32(out, p, v)

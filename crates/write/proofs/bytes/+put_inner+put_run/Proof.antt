@@ -8,7 +8,7 @@ use native.Mathlib.Omega.{arith}
 use Rattle.write.specs.Backward.{isPacked, Ran}
 use Rattle.write.proofs.StoreLaws.{stored-length}
 use Rattle.write.proofs.InnerLaws.{values, ran-values, run, ran-run}
-use Rattle.write.proofs.BackTurn.{Back, ran-at, begin, ran-all, ran-to, inner-run, inner-in, falls as level-falls, fits, none-in, below, here, room, again, less}
+use Rattle.write.proofs.BackTurn.{Back, Turned, ran-at, begin, ran-all, ran-to, inner-run, inner-in, falls as level-falls, fits, none-in, below, here, room, again, less}
 use borrow.Fn.Kinds.{In}
 use borrow.Fn.PlainCycle.{Measures, is, falls, and}
 use Rattle.write.proofs.bytes.put_inner.Reads as put-inner
@@ -89,6 +89,18 @@ put-run-Inv-loop table list payload out₀ depth upto pos b₀ p₀ out b p = Ba
 abbrev put-run-μ-loop : put-run-lts.MeasureT-loop
 put-run-μ-loop table list payload out₀ depth upto pos b₀ p₀ out b p = b
 
+-- in a turn of the loop
+turned : (t : ℕ) (e : put-run-lts.Else1 (put-run-claims t) (put-run-at t) put-run.Post put-run-Inv-loop put-run-μ-loop) →
+    let a = e .before .before .before .before .before .before .before .args in
+    let l = e .before .before .before .loop in
+    Turned (a .table .now) (a .list .now) (a .payload .now) (a .out .now) (a .depth) (a .upto) (a .pos) (l .b) (l .p) (l .out)
+turned t e = record {
+  run = e .before .before .before .before .before .before .before .pre .1;
+  back = e .before .before .before .loop .inv;
+  more = e .before .before .loop-test .taken;
+  deep = e .if1 .left;
+}
+
 put-run-loop-holds : (t : ℕ) → put-run-lts.Need-loop-holds (put-run-claims t) (put-run-at t) put-run.Post put-run-Inv-loop put-run-μ-loop
 put-run-loop-holds t c = begin (c .before .before .before .pre .1)
 
@@ -106,13 +118,12 @@ put-run-returns t c = ran-to (c .before .before .before .before .before .before 
 
 put-run-add-put-inner : (t : ℕ) → put-run-lts.Need-add-put-inner (put-run-claims t) (put-run-at t) put-run.Post put-run-Inv-loop put-run-μ-loop
 put-run-add-put-inner t c =
-    let e = c .before .before in
-    omega (arith, fits (e .before .before .before .before .before .before .before .pre .1) (e .before .before .before .loop .inv) (e .before .before .loop-test .taken) (e .if1 .left) (c .before .if2 .taken))
+    omega (arith, fits (turned t (c .before .before)) (c .before .if2 .taken))
 
 put-run-put-inner-requires : (t : ℕ) → put-run-lts.Need-put-inner-requires (put-run-claims t) (put-run-at t) put-run.Post put-run-Inv-loop put-run-μ-loop
 put-run-put-inner-requires t c κs =
     let e = c .before .before in
-    (omega (arith, e .before .before .before .before .before .before .before .pre .0, level-falls (e .before .before .before .before .before .before .before .pre .1) (e .before .before .before .loop .inv) (e .before .before .loop-test .taken) (e .if1 .left) (c .before .if2 .taken)), (inner-run (e .before .before .before .before .before .before .before .pre .1) (e .before .before .before .loop .inv) (e .before .before .loop-test .taken) (e .if1 .left) (c .before .if2 .taken), inner-in (e .before .before .before .before .before .before .before .pre .1) (e .before .before .before .loop .inv) (e .before .before .loop-test .taken) (e .if1 .left) (c .before .if2 .taken)))
+    (omega (arith, e .before .before .before .before .before .before .before .pre .0, level-falls (turned t e) (c .before .if2 .taken)), (inner-run (turned t e) (c .before .if2 .taken), inner-in (turned t e) (c .before .if2 .taken)))
 
 -- what lies in the record before b was written, if there is any
 joined : (t : ℕ) (c : put-run-lts.Joined2 (put-run-claims t) (put-run-at t) put-run.Post put-run-Inv-loop put-run-μ-loop) →
@@ -122,27 +133,24 @@ joined : (t : ℕ) (c : put-run-lts.Joined2 (put-run-claims t) (put-run-at t) pu
 joined t c =
     let e = c .before in
     ⊎-elim (λ w. ran-at (w .2 .ensures) (w .6) (w .7) (w .5))
-    (λ w. ran-at (none-in (e .before .before .before .before .before .before .before .pre .1) (e .before .before .before .loop .inv) (e .before .before .loop-test .taken) (e .if1 .left) (omega (arith, w .0 .left))) (w .2) (w .3) (w .1)) (c .if2 .came)
+    (λ w. ran-at (none-in (turned t e) (omega (arith, w .0 .left))) (w .2) (w .3) (w .1)) (c .if2 .came)
 
 put-run-sub-b : (t : ℕ) → put-run-lts.Need-sub-b (put-run-claims t) (put-run-at t) put-run.Post put-run-Inv-loop put-run-μ-loop
 put-run-sub-b t c =
-    let e = c .before .before in
-    below (e .before .before .before .before .before .before .before .pre .1) (e .before .before .before .loop .inv) (e .before .before .loop-test .taken) (e .if1 .left) (joined t (c .before))
+    below (turned t (c .before .before)) (joined t (c .before))
 
 put-run-put-record-requires : (t : ℕ) → put-run-lts.Need-put-record-requires (put-run-claims t) (put-run-at t) put-run.Post put-run-Inv-loop put-run-μ-loop
 put-run-put-record-requires t c κs =
     let e = c .before .before .before in
-    (e .before .before .before .before .before .before .before .pre .1 .types, here (e .before .before .before .before .before .before .before .pre .1) (e .before .before .before .loop .inv) (e .before .before .loop-test .taken) (e .if1 .left) (joined t (c .before .before)), room (e .before .before .before .before .before .before .before .pre .1) (e .before .before .before .loop .inv) (e .before .before .loop-test .taken) (e .if1 .left) (joined t (c .before .before)))
+    (e .before .before .before .before .before .before .before .pre .1 .types, here (turned t e) (joined t (c .before .before)), room (turned t e) (joined t (c .before .before)))
 
 put-run-loop-less : (t : ℕ) → put-run-lts.Need-loop-less (put-run-claims t) (put-run-at t) put-run.Post put-run-Inv-loop put-run-μ-loop
 put-run-loop-less t c =
-    let e = c .before .before .before .before .before .before in
-    less (e .before .before .before .before .before .before .before .pre .1) (e .before .before .before .loop .inv) (e .before .before .loop-test .taken) (e .if1 .left) (joined t (c .before .before .before .before .before))
+    less (turned t (c .before .before .before .before .before .before)) (joined t (c .before .before .before .before .before))
 
 put-run-loop-again : (t : ℕ) → put-run-lts.Need-loop-again (put-run-claims t) (put-run-at t) put-run.Post put-run-Inv-loop put-run-μ-loop
 put-run-loop-again t c =
-    let e = c .before .before .before .before .before .before in
-    again (e .before .before .before .before .before .before .before .pre .1) (e .before .before .before .loop .inv) (e .before .before .loop-test .taken) (e .if1 .left) (joined t (c .before .before .before .before .before)) (c .before .before .put-record .ensures)
+    again (turned t (c .before .before .before .before .before .before)) (joined t (c .before .before .before .before .before)) (c .before .before .put-record .ensures)
 
 put-run-same-length-2 : (t : ℕ) → put-run-lts.Need-same-length-2 (put-run-claims t) (put-run-at t) put-run.Post put-run-Inv-loop put-run-μ-loop
 put-run-same-length-2 t c = stored-length (c .before .loop .inv .stored) (c .before .before .before .before .before .pre .1 .room .inside)

@@ -6,29 +6,27 @@ use mathlib.Core.Logic.{_≢_}
 use mathlib.Core.List.{List}
 use native.Mathlib.Omega.{arith}
 use borrow.Author.Tests.{eq-eqb, ne-eqb}
-use lib.ListN.{getD}
+use lib.ListN.{length, getD}
 use Rattle.spec.specs.Base.{if_then_else_}
 use Rattle.spec.proofs.VarintLaws.{lower-or-not}
-use Rattle.write.specs.Backward.{depthAt, numberAt, kindAt, start, Upto, Inner, isPacked}
+use Rattle.write.specs.Backward.{depthAt, kindAt, start, Upto, Inner, isPacked}
 use Rattle.write.proofs.SpanLaws.{start-le, start-over, start-low}
 use Rattle.write.proofs.InnerLaws.{value, depth}
 use Rattle.write.proofs.bytes.packed_from.Statement.{statement}
 use Rattle.write.proofs.bytes.packed_from.Tie as tie
 
--- the records from the place b on stand at depth d and have the number of the last
+-- the loop is at the place b, in the run
 record Back (list : List ℕ) (d upto b : ℕ) : Type 0 where
   six : b ≡ 6 * (b / 6)
   low : start list d (upto / 6) ≤ b / 6
   high : b ≤ upto
-  depths : (j : ℕ) → b / 6 ≤ j → j < upto / 6 → depthAt list j ≡ d
-  numbers : (j : ℕ) → b / 6 ≤ j → j < upto / 6 → numberAt list j ≡ getD list (upto - 5) 0
 
 module _ {list : List ℕ} {d upto : ℕ} (u : Upto list upto) (n : Inner list d upto) where
   abbrev s : ℕ
   s = start list d (upto / 6)
 
   begin : Back list d upto upto
-  begin = record { six = u .six; low = start-le list d (upto / 6); high = omega arith; depths = λ j g h. absurd (omega arith); numbers = λ j g h. absurd (omega arith) }
+  begin = record { six = u .six; low = start-le list d (upto / 6); high = omega arith }
 
   upto-is : kindAt list (s - 1) ≢ 20 → upto ≡ (if isPacked list d upto then 6 * s else upto)
   upto-is h = simp (ne-eqb (kindAt list (s - 1)) 20 h)
@@ -60,15 +58,8 @@ module _ {list : List ℕ} {d upto : ℕ} (u : Upto list upto) (n : Inner list d
         (λ b. omega (arith, h .low, near .2))
         (λ b. absurd (omega (arith, start-over list d (upto / 6) j b (near .1))))
 
-    again : getD list (b - 6) 0 ≡ d → getD list (b - 5) 0 ≡ getD list (upto - 5) 0 → Back list d upto (b - 6)
-    again e f = record {
-      six = near .3;
-      low = in-run (omega (arith, depth-is));
-      high = omega (arith, h .high);
-      depths = λ i g l. lower-or-not j i (λ m. h .depths i (omega (arith, near .2)) l) (λ m. let same : i ≡ j = omega arith in ap (depthAt list) same ∙ sym depth-is ∙ e);
-      numbers = λ i g l. lower-or-not j i (λ m. h .numbers i (omega (arith, near .2)) l)
-          (λ m. let same : i ≡ j = omega arith in ap (numberAt list) same ∙ sym (read 1 (b - 5) (omega (arith, near .0, near .3))) ∙ f);
-    }
+    again : getD list (b - 6) 0 ≡ d → Back list d upto (b - 6)
+    again e = record { six = near .3; low = in-run (omega (arith, depth-is)); high = omega (arith, h .high) }
 
     -- another number, another depth
     other-number : getD list (b - 6) 0 ≡ d → getD list (b - 5) 0 ≢ getD list (upto - 5) 0 → kindAt list (s - 1) ≢ 20
@@ -115,41 +106,11 @@ shared-slice-read-number c =
 loop-holds : tie.Need-loop-holds Inv-loop μ-loop
 loop-holds c = begin (c .before .pre .0) (c .before .pre .1)
 
-sub-if1 : tie.Need-sub-if1 Inv-loop μ-loop
-sub-if1 c =
-    let l = c in
-    let o = l .before .before in
-    omega (arith, near (o .pre .0) (o .pre .1) (l .loop .inv) .0)
-
-mul-if1 : tie.Need-mul-if1 Inv-loop μ-loop
-mul-if1 c =
-    let l = c in
-    let o = l .before .before in
-    omega (arith, near (o .pre .0) (o .pre .1) (l .loop .inv) .0, l .loop .inv .high, o .pre .0 .inside)
-
-shared-slice-read-if1 : tie.Need-shared-slice-read-if1 Inv-loop μ-loop
-shared-slice-read-if1 c =
-    let l = c .before in
-    let o = l .before .before in
-    omega (arith, near (o .pre .0) (o .pre .1) (l .loop .inv) .0, l .loop .inv .high, o .pre .0 .inside)
-
-sub-if2 : tie.Need-sub-if2 Inv-loop μ-loop
-sub-if2 c =
-    let l = c .before .before in
-    let o = l .before .before in
-    omega (arith, near (o .pre .0) (o .pre .1) (l .loop .inv) .0)
-
-mul-if2 : tie.Need-mul-if2 Inv-loop μ-loop
-mul-if2 c =
-    let l = c .before .before in
-    let o = l .before .before in
-    omega (arith, near (o .pre .0) (o .pre .1) (l .loop .inv) .0, l .loop .inv .high, o .pre .0 .inside)
-
-shared-slice-read-if2 : tie.Need-shared-slice-read-if2 Inv-loop μ-loop
-shared-slice-read-if2 c =
-    let l = c .before .before .before in
-    let o = l .before .before in
-    omega (arith, near (o .pre .0) (o .pre .1) (l .loop .inv) .0, l .loop .inv .high, o .pre .0 .inside)
+-- where the loop is
+inside : (c : tie.At-loop Inv-loop μ-loop) → (6 ≤ c .loop .b) × (c .loop .b ≤ length (c .before .before .args .list .now))
+inside c =
+    let o = c .before .before in
+    (near (o .pre .0) (o .pre .1) (c .loop .inv) .0, omega (arith, c .loop .inv .high, o .pre .0 .inside))
 
 returns : tie.Need-returns Inv-loop μ-loop
 returns c =
@@ -157,59 +118,11 @@ returns c =
     let o = l .before .before in
     upto-is (o .pre .0) (o .pre .1) (other-number (o .pre .0) (o .pre .1) (l .loop .inv) (c .before .before .if1 .taken) (c .if2 .taken))
 
-sub-b : tie.Need-sub-b Inv-loop μ-loop
-sub-b c =
-    let l = c .before .before .before .before in
-    let o = l .before .before in
-    omega (arith, near (o .pre .0) (o .pre .1) (l .loop .inv) .0)
-
-loop-less : tie.Need-loop-less Inv-loop μ-loop
-loop-less c =
-    let l = c .before .before .before .before in
-    let o = l .before .before in
-    omega (arith, near (o .pre .0) (o .pre .1) (l .loop .inv) .0)
-
 loop-again : tie.Need-loop-again Inv-loop μ-loop
 loop-again c =
     let l = c .before .before .before .before in
     let o = l .before .before in
-    again (o .pre .0) (o .pre .1) (l .loop .inv) (c .before .before .if1 .taken) (omega arith)
-
-sub-if3 : tie.Need-sub-if3 Inv-loop μ-loop
-sub-if3 c =
-    let l = c .before .before in
-    let o = l .before .before in
-    omega (arith, near (o .pre .0) (o .pre .1) (l .loop .inv) .0)
-
-mul-if3 : tie.Need-mul-if3 Inv-loop μ-loop
-mul-if3 c =
-    let l = c .before .before in
-    let o = l .before .before in
-    omega (arith, near (o .pre .0) (o .pre .1) (l .loop .inv) .0, l .loop .inv .high, o .pre .0 .inside)
-
-shared-slice-read-if3 : tie.Need-shared-slice-read-if3 Inv-loop μ-loop
-shared-slice-read-if3 c =
-    let l = c .before .before .before in
-    let o = l .before .before in
-    omega (arith, near (o .pre .0) (o .pre .1) (l .loop .inv) .0, l .loop .inv .high, o .pre .0 .inside)
-
-sub-if4 : tie.Need-sub-if4 Inv-loop μ-loop
-sub-if4 c =
-    let l = c .before .before .before .before in
-    let o = l .before .before in
-    omega (arith, near (o .pre .0) (o .pre .1) (l .loop .inv) .0)
-
-mul-if4 : tie.Need-mul-if4 Inv-loop μ-loop
-mul-if4 c =
-    let l = c .before .before .before .before in
-    let o = l .before .before in
-    omega (arith, near (o .pre .0) (o .pre .1) (l .loop .inv) .0, l .loop .inv .high, o .pre .0 .inside)
-
-shared-slice-read-if4 : tie.Need-shared-slice-read-if4 Inv-loop μ-loop
-shared-slice-read-if4 c =
-    let l = c .before .before .before .before .before in
-    let o = l .before .before in
-    omega (arith, near (o .pre .0) (o .pre .1) (l .loop .inv) .0, l .loop .inv .high, o .pre .0 .inside)
+    again (o .pre .0) (o .pre .1) (l .loop .inv) (c .before .before .if1 .taken)
 
 returns-2 : tie.Need-returns-2 Inv-loop μ-loop
 returns-2 c =
@@ -239,22 +152,22 @@ packed-from-spec =
     mul-number
     shared-slice-read-number
     loop-holds
-    sub-if1
-    mul-if1
-    shared-slice-read-if1
-    sub-if2
-    mul-if2
-    shared-slice-read-if2
+    (λ c. omega (arith, inside c))
+    (λ c. omega (arith, inside c))
+    (λ c. omega (arith, inside (c .before)))
+    (λ c. omega (arith, inside (c .before .before)))
+    (λ c. omega (arith, inside (c .before .before)))
+    (λ c. omega (arith, inside (c .before .before .before)))
     returns
-    sub-b
-    loop-less
+    (λ c. omega (arith, inside (c .before .before .before .before)))
+    (λ c. omega (arith, inside (c .before .before .before .before)))
     loop-again
-    sub-if3
-    mul-if3
-    shared-slice-read-if3
-    sub-if4
-    mul-if4
-    shared-slice-read-if4
+    (λ c. omega (arith, inside (c .before .before)))
+    (λ c. omega (arith, inside (c .before .before)))
+    (λ c. omega (arith, inside (c .before .before .before)))
+    (λ c. omega (arith, inside (c .before .before .before .before)))
+    (λ c. omega (arith, inside (c .before .before .before .before)))
+    (λ c. omega (arith, inside (c .before .before .before .before .before)))
     returns-2
     returns-3
     returns-4)

@@ -12,7 +12,8 @@ use Rattle.spec.specs.Varint.{size, tagSize}
 use Rattle.spec.specs.Kind.{wire}
 use Rattle.spec.proofs.RunLaws.{kind-small}
 use Rattle.wire.proofs.ValueSizes.{size-most}
-use Rattle.write.proofs.Turn.{Here, start, ended, stopped, whole, fit, number-turn, content-turn, head-turn, head, below, is-scalar, content, typed}
+use Rattle.write.proofs.KindLaws.{head, type-of}
+use Rattle.write.proofs.Turn.{Here, start, ended, stopped, whole, fit, number-turn, content-turn, head-turn, below, is-scalar, content}
 use borrow.Fn.Kinds.{In}
 use borrow.Fn.PlainCycle.{Measures, is, falls, and}
 use Rattle.write.proofs.sizes.below_size.Reads as below-size
@@ -109,7 +110,7 @@ wire-here : (t : ℕ) (c : Place t) →
     let k = getD (a .list .now) (c .before .before .before .loop .at + 2) 0 in
     getD (a .table .now) k 0 ≡ wire k
 wire-here t c =
-    typed (c .before .before .before .before .before .pre .1 .lent) _ (kind-small (fit (c .before .before .before .loop .inv) (c .before .before .loop-test .taken)))
+    type-of _ _ (c .before .before .before .before .before .pre .1 .lent .types) (kind-small (fit (c .before .before .before .loop .inv) (c .before .before .loop-test .taken)))
 
 loop-holds : (t : ℕ) → run-size-lts.Need-loop-holds (claims t) (run-size-at t) run-size.Post Inv-loop μ-loop
 loop-holds t c =

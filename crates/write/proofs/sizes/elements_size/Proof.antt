@@ -8,7 +8,8 @@ use mathlib.Core.List.{List}
 use lib.ListN.{length, getD}
 use Rattle.spec.proofs.RunLaws.{Row, kind-small}
 use Rattle.write.specs.Summing.{recordsFrom, Elements}
-use Rattle.write.proofs.Turn.{Here, values-start, fit, ended, stopped, whole, rest-values, value-turn, typed}
+use Rattle.write.proofs.KindLaws.{type-of}
+use Rattle.write.proofs.Turn.{Here, values-start, fit, ended, stopped, whole, rest-values, value-turn}
 use Rattle.write.proofs.sizes.elements_size.Statement.{statement}
 use Rattle.write.proofs.sizes.elements_size.Tie as tie
 
@@ -69,7 +70,7 @@ shared-slice-read-plain-size c =
 plain-size-requires : tie.Need-plain-size-requires Inv-loop μ-loop
 plain-size-requires c κs =
     let e = c .before .before .before .before .before .before .before .before .pre in
-    (typed (e .lent) _ (first-small e), e .scalar)
+    (type-of _ _ (e .lent .types) (first-small e), e .scalar)
 
 add-size : tie.Need-add-size Inv-loop μ-loop
 add-size c =
