@@ -99,7 +99,7 @@ fn cut(n: u64) -> u64
     n
 }
 
-pub fn is_head(kind: u64) -> bool
+pub(crate) fn is_head(kind: u64) -> bool
     ensures { λ r. ⌜ r ≡ (eqb kind 11 || eqb kind 20) ⌝ }
 {
     kind == 11 || kind == 20
