@@ -1,0 +1,2 @@
+// A message to records in lent room.
+pub mod room;
