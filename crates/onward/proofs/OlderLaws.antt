@@ -16,7 +16,7 @@ use Rattle.spec.specs.Schema.{Schema, rises, badEntry, badSchema, noEntry, look
 use Rattle.onward.specs.Onward.{Fewer, end, keep, leave-out, Older, rawOf}
 use Rattle.spec.proofs.KindLaws.{signed-of, signed-below, zigzag-below, zigzag-below64, wireOne, wireOf, wire-shape}
 use Rattle.spec.proofs.Laws.{both-true}
-use Rattle.spec.proofs.SchemaLaws.{lookup-later, is-or-not, Before, type-before, number-before, before-after, before-not, first-entry, valid-entries}
+use Rattle.spec.proofs.SchemaLaws.{lookup-later, is-or-not, Before, type-before, number-before, before-after, before-not, entry-passed, first-entry, valid-entries}
 use Rattle.spec.specs.declared.Entry.{Entry}
 
 -- ---- entries
@@ -77,7 +77,7 @@ unfolding badEntry
 fewer-good end types o n i h t m j b = refl
 fewer-good (keep {e} {es} {fs} f) types o n i h t m j b =
     let g = first-entry types o n i e fs h in
-    ap (λ (c : Bool). if c then badEntry types (e .owner) (e .number) (j + 1) es else some j) (both-true (before-rises t m e (b (e .owner) (e .number) (g .0))) (g .2))
+    entry-passed types t m j e es (both-true (before-rises t m e (b (e .owner) (e .number) (g .0))) (g .2))
     ∙ fewer-good f types (e .owner) (e .number) (i + 1) (g .1) (e .owner) (e .number) (j + 1) (λ x y c. c)
 fewer-good (leave-out {e} {es} {fs} f) types o n i h t m j b =
     let g = first-entry types o n i e fs h in

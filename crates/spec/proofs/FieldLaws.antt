@@ -6,8 +6,8 @@ use mathlib.Core.Path.{_≡_, refl, sym, ap, _∙_}
 use mathlib.Core.Bool.{Bool, true, false, _&&_, false≢true}
 use mathlib.Core.List.{List, _∷_}
 use lib.ListN.{length, drop}
-use lib.Dec.{eqb}
-use borrow.Author.Tests.{le-leb, lt-leb, eq-eqb, ne-eqb}
+use lib.Dec.{leb, eqb}
+use borrow.Author.Tests.{leb-true, leb-false, le-leb, eq-eqb, ne-eqb}
 use Rattle.spec.specs.Base.{if_then_else_, part, Read, Took, No, longer, _>>=_, digit}
 use Rattle.spec.specs.Varint.{varint, varint32, varint64, fixed, tag}
 use Rattle.spec.specs.Utf8.{utf8}
@@ -16,6 +16,7 @@ use Rattle.spec.specs.Schema.{Schema, lookup, unknownKind, kindOf, insid
 use Rattle.spec.specs.Skip.{content, skipField, innerGroup, outerGroup}
 use Rattle.spec.specs.Record.{row}
 use Rattle.spec.specs.Reading.{Look, Field, Value, Message, Packed, Dropped, Fault, given, shaped, field, Reading, Done, _then_, contents, records}
+use Rattle.spec.proofs.Laws.{if-so, if-not}
 use Rattle.spec.proofs.KindLaws.{wireOne, wireOf, wire-shape}
 use Rattle.spec.proofs.SkipLaws.{group-too-deep, group-closes, group-field-refused, tag-read}
 use Rattle.spec.specs.declared.Entry.{Entry}
@@ -61,16 +62,25 @@ kind-lacking e w k h = kind-unknown e w (λ p. omega (arith, p ∙ ap wire k)) (
 
 -- ---- what stands behind the tag, by its shape
 
+-- with what was read
+pub given-took : {r : Read} {v n : ℕ} (f : ℕ → ℕ → Field) → r ≡ Took v n → given r f ≡ f v n
+unfolding given
+given-took f e = ap (λ (r : Read). given r f) e
+
+pub given-no : {r : Read} {k : ℕ} (f : ℕ → ℕ → Field) → r ≡ No k → given r f ≡ Fault k 0
+unfolding given
+given-no f e = ap (λ (r : Read). given r f) e
+
 module _ (depth inner m kind n : ℕ) (s : List ℕ) where
   -- a message head stands below depth 100, whatever is behind its tag
   pub message-too-deep : 100 ≤ depth → shaped (other message) depth inner m kind n s ≡ Fault 7 0
   unfolding shaped
-  message-too-deep h = simp (le-leb 100 depth h)
+  message-too-deep h = if-so (leb _ depth) _ (λ e. omega (arith, leb-false _ depth e))
 
   -- the length of a message and of a packed field is a varint64; a packed field's head may stand at every depth
   pub message-head : depth < 100 → shaped (other message) depth inner m kind n s ≡ given (content varint64 s) λ a z. Message m inner (n + a) (n + z)
   unfolding shaped
-  message-head h = simp (lt-leb 100 depth h)
+  message-head h = if-not (leb _ depth) _ (λ e. omega (arith, leb-true _ depth e))
 
   pub packed-head : shaped (other packed) depth inner m kind n s ≡ given (content varint64 s) λ a z. Packed m inner (n + a) (n + z)
   unfolding shaped
@@ -100,31 +110,18 @@ module _ (s : List ℕ) where
 
   module _ (depth inner m kind n : ℕ) where
     pub message-six : depth < 100 → shaped (other message) depth inner m kind n (zeroInSix s) ≡ Message m inner (n + 6) (n + 6)
-    unfolding given
-    message-six h = message-head depth inner m kind n (zeroInSix s) h ∙ ap (λ (r : Read). given r λ a z. Message m inner (n + a) (n + z)) six-64
+    message-six h = message-head depth inner m kind n (zeroInSix s) h ∙ given-took _ six-64
 
     pub packed-six : shaped (other packed) depth inner m kind n (zeroInSix s) ≡ Packed m inner (n + 6) (n + 6)
-    unfolding given
-    packed-six = packed-head depth inner m kind n (zeroInSix s) ∙ ap (λ (r : Read). given r λ a z. Packed m inner (n + a) (n + z)) six-64
+    packed-six = packed-head depth inner m kind n (zeroInSix s) ∙ given-took _ six-64
 
     pub string-six : shaped (other string) depth inner m kind n (zeroInSix s) ≡ Fault 2 0
-    unfolding given
-    string-six = string-value depth inner m kind n (zeroInSix s)
-        ∙ ap (λ (r : Read). given r λ a z. if utf8 (part a z (zeroInSix s)) then Value m kind 0 (n + a) (n + z) else Fault 6 0) six-32
+    string-six = string-value depth inner m kind n (zeroInSix s) ∙ given-no _ six-32
 
     pub bytes-six : shaped (other bytes) depth inner m kind n (zeroInSix s) ≡ Fault 2 0
-    unfolding given
-    bytes-six = bytes-value depth inner m kind n (zeroInSix s) ∙ ap (λ (r : Read). given r λ a z. Value m kind 0 (n + a) (n + z)) six-32
+    bytes-six = bytes-value depth inner m kind n (zeroInSix s) ∙ given-no _ six-32
 
 -- ---- the field at the front of some bytes, by its tag
-
-given-took : {r : Read} {v n : ℕ} (f : ℕ → ℕ → Field) → r ≡ Took v n → given r f ≡ f v n
-unfolding given
-given-took f e = ap (λ (r : Read). given r f) e
-
-given-no : {r : Read} {k : ℕ} (f : ℕ → ℕ → Field) → r ≡ No k → given r f ≡ Fault k 0
-unfolding given
-given-no f e = ap (λ (r : Read). given r f) e
 
 pub bad-tag-fault : (look : Look) (depth type : ℕ) (s : List ℕ) (k : ℕ) → tag s ≡ No k → field look depth type s ≡ Fault k 0
 unfolding field

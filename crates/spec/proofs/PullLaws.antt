@@ -8,13 +8,13 @@ use mathlib.Core.Bool.{Bool, true, false}
 use mathlib.Core.List.{List, [], _∷_}
 use lib.ListN.{length, drop, length-drop}
 use lib.Dec.{leb, ltb}
-use borrow.Author.Tests.{le-leb, lt-leb, lt-ltb, le-ltb}
+use borrow.Author.Tests.{leb-true, leb-false, le-leb, lt-leb, lt-ltb, le-ltb}
 use Rattle.spec.specs.Base.{if_then_else_, part, Read, Took, No, refusal, digit}
 use Rattle.spec.specs.Varint.{varint, varint32, varint64}
 use Rattle.spec.specs.Utf8.{utf8}
 use Rattle.spec.specs.Skip.{content}
 use Rattle.spec.specs.Pull.{Reader, Ask, rawTag, value, bytes, string, skip, Number, Content, End, Refused, Moved, says, moved, numbered, bounded, spelled, stepAt, enterAt, reader, opened, stepped, innerOf, entered}
-use Rattle.spec.proofs.Laws.{either-way, Takes, took, none, takes-varint, takes-scalar, Holds, holds, content-holds}
+use Rattle.spec.proofs.Laws.{either-way, if-so, if-not, Takes, took, none, takes-varint, takes-scalar, Holds, holds, content-holds}
 use Rattle.spec.proofs.SkipLaws.{takes-skipFieldForTag}
 use Rattle.spec.proofs.VarintLaws.{lower-or-not}
 
@@ -144,11 +144,11 @@ module _ (s : List ℕ) (at : ℕ) where
 
   pub enter-too-deep : (level : ℕ) → 100 ≤ level → enterAt s at level ≡ says (Refused 7 at) at
   unfolding enterAt
-  enter-too-deep level h = simp (le-leb 100 level h)
+  enter-too-deep level h = if-so (leb _ level) _ (λ e. omega (arith, leb-false _ level e))
 
   pub enter-content : (level : ℕ) → level < 100 → enterAt s at level ≡ bounded at (content varint64 (drop at s))
   unfolding enterAt
-  enter-content level h = simp (lt-leb 100 level h)
+  enter-content level h = if-not (leb _ level) _ (λ e. omega (arith, leb-true _ level e))
 
   pub enter-step : (level : ℕ) → Step at 1 (length s - at) (enterAt s at level)
   enter-step level =

@@ -258,16 +258,25 @@ good-entry types e h =
       no-child = λ p. eqb-true (e .child) 0 (child false (ne-eqb (e .kind) 11 p));
     }
 
+-- an entry is passed, or is the first bad one
+module _ (types o n i : ℕ) (e : Entry) (es : List Entry) where
+  pub entry-passed : (rises o n e && goodEntry types e) ≡ true → badEntry types o n i (e ∷ es) ≡ badEntry types (e .owner) (e .number) (i + 1) es
+  unfolding badEntry
+  entry-passed h = simp h
+
+  pub entry-stops : (rises o n e && goodEntry types e) ≡ false → badEntry types o n i (e ∷ es) ≡ some i
+  unfolding badEntry
+  entry-stops h = simp h
+
 -- a valid list of entries: the first rises, and the rest is valid behind it
 pub first-entry : (types o n i : ℕ) (e : Entry) (es : List Entry) → badEntry types o n i (e ∷ es) ≡ none
     → Before o n (e .owner) (e .number) × (badEntry types (e .owner) (e .number) (i + 1) es ≡ none) × (goodEntry types e ≡ true)
-unfolding badEntry
-first-entry types o n i e es h = go (rises o n e && goodEntry types e) refl h
-  where
-    go : (b : Bool) → (rises o n e && goodEntry types e) ≡ b → (if b then badEntry types (e .owner) (e .number) (i + 1) es else some i) ≡ none
-        → Before o n (e .owner) (e .number) × (badEntry types (e .owner) (e .number) (i + 1) es ≡ none) × (goodEntry types e ≡ true)
-    go true p h = (rises-before o n e (both (rises o n e) (goodEntry types e) p .0), h, both (rises o n e) (goodEntry types e) p .1)
-    go false p h = let z : _≡_ {A = ℕ} 0 1 = cc in absurd (omega arith)
+first-entry types o n i e es h =
+    by-test (rises o n e && goodEntry types e)
+    (λ p.
+    let b = both (rises o n e) (goodEntry types e) p in
+    (rises-before o n e (b .0), sym (entry-passed types o n i e es p) ∙ h, b .1))
+    (λ p. let x : some i ≡ none = sym (entry-stops types o n i e es p) ∙ h in let z : _≡_ {A = ℕ} 0 1 = cc in absurd (omega arith))
 
 -- one entry stands before the other
 abbrev pub Rises : Entry → Entry → Type 0

@@ -7,11 +7,11 @@ use mathlib.Core.Bool.{Bool, true, false, _&&_}
 use mathlib.Core.List.{List, [], _∷_}
 use lib.ListN.{length, drop, length-drop}
 use lib.Dec.{leb, ltb, eqb}
-use borrow.Author.Tests.{leb-true, le-leb, lt-leb, lt-ltb, le-ltb, eqb-true, eqb-false, eq-eqb, ne-eqb}
+use borrow.Author.Tests.{leb-true, leb-false, le-leb, lt-leb, lt-ltb, le-ltb, eqb-true, eqb-false, eq-eqb, ne-eqb}
 use Rattle.spec.specs.Base.{if_then_else_, limit, Read, Took, No, require, longer, _>>=_}
 use Rattle.spec.specs.Varint.{varint, varint32, varint64, fixed, tag, goodTag}
 use Rattle.spec.specs.Skip.{content, plain, skipField, skipGroup, innerGroup, outerGroup, checked, skipFieldForTag, readUnknownOrSkipGroup}
-use Rattle.spec.proofs.Laws.{either-way, by-test, both, both-true, Takes, took, none, takes-weaker, takes-next, takes-tag, takes-plain, next-cong, next-took, next-no, longer-longer}
+use Rattle.spec.proofs.Laws.{either-way, if-so, if-not, by-test, both, both-true, Takes, took, none, takes-weaker, takes-next, takes-tag, takes-plain, next-cong, next-took, next-no, longer-longer}
 use Rattle.spec.proofs.VarintLaws.{lower-or-not}
 
 -- ---- a field, by its wire type
@@ -41,11 +41,11 @@ module _ (s : List ℕ) where
 module _ (group : ℕ → List ℕ → Read) (level : ℕ) (s : List ℕ) where
   pub group-too-deep : 100 ≤ level → skipField group level 3 s ≡ No 7
   unfolding skipField
-  group-too-deep h = simp (le-leb 100 level h)
+  group-too-deep h = if-so (leb _ level) _ (λ e. omega (arith, leb-false _ level e))
 
   pub group-entered : level < 100 → skipField group level 3 s ≡ group (level + 1) s
   unfolding skipField
-  group-entered h = simp (lt-leb 100 level h)
+  group-entered h = if-not (leb _ level) _ (λ e. omega (arith, leb-true _ level e))
 
   pub no-group : (w : ℕ) → (w ≡ 3 → ⊥) → skipField group level w s ≡ plain w s
   unfolding skipField

@@ -3,24 +3,25 @@
 use Prim.Native.Nat.{ℕ, zero, suc, _+_, _-_, _*_, _/_, _%_, _^_, _≤_, _<_}
 use native.Mathlib.Omega.{arith}
 use mathlib.Core.Path.{_≡_, refl, sym, ap, ap₂, _∙_, subst}
-use mathlib.Core.Bool.{Bool, true, false, not, _&&_}
+use mathlib.Core.Bool.{Bool, true, not}
 use mathlib.Core.List.{List, [], _∷_, _++_, append-assoc}
 use lib.ListN.{length, take, drop, length-append, length-take, length-drop}
 use lib.Seq.{drop-append-seam, take-append-seam}
 use lib.Dec.{leb, ltb, eqb}
-use borrow.Author.Tests.{le-leb, lt-leb, leb-true, eqb-true}
+use borrow.Author.Tests.{le-leb}
 use Rattle.spec.specs.Base.{if_then_else_, between, part, Read, Took, No, require, longer, _>>=_}
-use Rattle.spec.specs.Varint.{varint, varint32, varint64, encode, tag, goodTag}
+use Rattle.spec.specs.Varint.{varint, encode, tag, goodTag}
 use Rattle.spec.specs.Utf8.{utf8}
 use Rattle.spec.specs.Kind.{Scalar, Shape, one, other, string, bytes, message, packed, shape, scalar, encoded, fits}
 use Rattle.spec.specs.Schema.{Schema, lookup, kindOf, Says, saysOf, says}
 use Rattle.spec.specs.Skip.{content}
-use Rattle.spec.specs.Reading.{Field, Value, Message, Packed, Fault, given, shaped, field}
+use Rattle.spec.specs.Reading.{Field, Value, Message, Packed, Fault, shaped, field}
 use Rattle.spec.specs.Record.{Record, deeper}
 use Rattle.spec.proofs.Laws.{either-way, both-true}
 use Rattle.spec.specs.Writing.{prefixed, body, tagOf, bytesOf}
 use Rattle.spec.proofs.VarintLaws.{varint-shortest, top}
 use Rattle.spec.proofs.KindLaws.{scalar-encoded}
+use Rattle.spec.proofs.FieldLaws.{given-took, bytes-value, string-value, message-head, packed-head}
 use Rattle.spec.specs.declared.Entry.{Entry}
 
 pub tag-written : (m w : ℕ) (u : List ℕ) → 1 ≤ m → m ≤ 536870911 → w ≤ 5
@@ -57,22 +58,21 @@ pub field-written : (sch : Schema) (depth type m w : ℕ) (u : List ℕ) → 1 �
     → field (says sch) depth type (encode (m * 8 + w) ++ u)
     ≡ shaped (shape (saysOf (lookup (sch .entries) type m) w .kind)) depth (saysOf (lookup (sch .entries) type m) w .inner) m (saysOf (lookup (sch .entries) type m) w .kind)
     (length (encode (m * 8 + w))) u
-unfolding field given says
+unfolding field says
 field-written sch depth type m w u h i j =
     let t : ℕ = m * 8 + w in
     let s : List ℕ = encode t ++ u in
     let said : ℕ → ℕ → Says = λ x y. saysOf (lookup (sch .entries) type x) y in
     let at : ℕ → ℕ → List ℕ → Field = λ x y v. shaped (shape (said x y .kind)) depth (said x y .inner) x (said x y .kind) (length (encode t)) v in
-    ap (λ (r : Read). given r (λ t n. shaped (shape (said (t / 8) (t % 8) .kind)) depth (said (t / 8) (t % 8) .inner) (t / 8) (said (t / 8) (t % 8) .kind) n (drop n s)))
-    (tag-written m w u h i j)
+    given-took _ (tag-written m w u h i j)
     ∙ ap (λ (x : ℕ). at x (t % 8) (drop (length (encode t)) s)) (omega arith)
     ∙ ap (λ (y : ℕ). at m y (drop (length (encode t)) s)) (omega arith)
     ∙ ap (at m w) (drop-append-seam (encode t) u)
 
 pub scalar-written : (c : Scalar) (depth inner m kind n v : ℕ) (u : List ℕ) → fits c v ≡ true
     → shaped (one c) depth inner m kind n (encoded c v ++ u) ≡ Value m kind v n (n + length (encoded c v))
-unfolding shaped given
-scalar-written c depth inner m kind n v u h = ap (λ (r : Read). given r (λ v l. Value m kind v n (n + l))) (scalar-encoded c v u h)
+unfolding shaped
+scalar-written c depth inner m kind n v u h = given-took _ (scalar-encoded c v u h)
 
 -- the same for a content c of at most the size limit, whose start and end are then
 abbrev pub from : List ℕ → ℕ
@@ -83,25 +83,18 @@ to c = length (prefixed c)
 
 module _ (depth inner m kind n : ℕ) (c u : List ℕ) (small : length c ≤ 2147483647) where
   pub bytes-written : shaped (other bytes) depth inner m kind n (prefixed c ++ u) ≡ Value m kind 0 (n + from c) (n + to c)
-  unfolding shaped given
-  bytes-written = ap (λ (r : Read). given r (λ a z. Value m kind 0 (n + a) (n + z))) (content-written 4 15 c u (omega arith) (omega arith) (omega arith))
+  bytes-written = bytes-value depth inner m kind n (prefixed c ++ u) ∙ given-took _ (content-written 4 15 c u (omega arith) (omega arith) (omega arith))
 
   pub string-written : utf8 c ≡ true → shaped (other string) depth inner m kind n (prefixed c ++ u) ≡ Value m kind 0 (n + from c) (n + to c)
-  unfolding shaped given
   string-written h =
-      ap (λ (r : Read). given r (λ a z. if utf8 (part a z (prefixed c ++ u)) then Value m kind 0 (n + a) (n + z) else Fault 6 0))
-      (content-written 4 15 c u (omega arith) (omega arith) (omega arith))
+      string-value depth inner m kind n (prefixed c ++ u) ∙ given-took _ (content-written 4 15 c u (omega arith) (omega arith) (omega arith))
       ∙ ap (λ (b : Bool). if b then Value m kind 0 (n + from c) (n + to c) else Fault 6 0) (ap utf8 (part-written c u) ∙ h)
 
   pub message-written : depth < 100 → shaped (other message) depth inner m kind n (prefixed c ++ u) ≡ Message m inner (n + from c) (n + to c)
-  unfolding shaped given
-  message-written h =
-      ap (λ (b : Bool). if b then Fault 7 0 else given (content varint64 (prefixed c ++ u)) (λ a z. Message m inner (n + a) (n + z))) (lt-leb 100 depth h)
-      ∙ ap (λ (r : Read). given r (λ a z. Message m inner (n + a) (n + z))) (content-written 9 1 c u (omega arith) (omega arith) (omega arith))
+  message-written h = message-head depth inner m kind n (prefixed c ++ u) h ∙ given-took _ (content-written 9 1 c u (omega arith) (omega arith) (omega arith))
 
   pub packed-written : shaped (other packed) depth inner m kind n (prefixed c ++ u) ≡ Packed m inner (n + from c) (n + to c)
-  unfolding shaped given
-  packed-written = ap (λ (r : Read). given r (λ a z. Packed m inner (n + a) (n + z))) (content-written 9 1 c u (omega arith) (omega arith) (omega arith))
+  packed-written = packed-head depth inner m kind n (prefixed c ++ u) ∙ given-took _ (content-written 9 1 c u (omega arith) (omega arith) (omega arith))
 
 -- ---- the bytes of a list: enough steps are enough, and the equation with no count
 
