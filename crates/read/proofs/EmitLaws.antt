@@ -6,6 +6,8 @@ use mathlib.Core.Path.{_≡_, refl, sym, ap, ap₂, _∙_}
 use mathlib.Core.Bool.{Bool, true, false}
 use mathlib.Core.List.{List, [], _∷_, _++_, append-assoc}
 use lib.ListN.{length, take, drop, set, length-set, length-append, length-drop}
+use lib.Seq.{set-append-seam}
+use native.Mathlib.Nat.{suc-add}
 use lib.Dec.{leb}
 use borrow.Author.Tests.{leb-true, leb-false, le-leb, lt-leb}
 use Rattle.spec.specs.Base.{if_then_else_, filled}
@@ -63,15 +65,78 @@ placed-length room b r = simp length-set
 
 -- ---- the whole call
 
--- a record stored behind the front part `pre` of the room
+-- a number stored behind the front part `pre` of the room, and a record
+set-behind : (pre l : List ℕ) (i x : ℕ) → set (pre ++ l) (length pre + i) x ≡ pre ++ set l i x
+set-behind [] l i x = ap (λ (k : ℕ). set l k x) (omega arith)
+set-behind (y ∷ pre) l i x =
+    ap (λ (k : ℕ). set (y ∷ (pre ++ l)) k x) (suc-add (length pre) i) ∙ ap (_∷_ y) (set-behind pre l i x)
+
 placed-behind : (pre : List ℕ) (r : Record) (a₀ a₁ a₂ a₃ a₄ a₅ : ℕ) (rest : List ℕ)
-    → placed (pre ++ (a₀ ∷ a₁ ∷ a₂ ∷ a₃ ∷ a₄ ∷ a₅ ∷ rest)) (length pre) r ≡ (pre ++ numbers r) ++ rest
+    → placed (pre ++ (a₀ ∷ a₁ ∷ a₂ ∷ a₃ ∷ a₄ ∷ a₅ ∷ rest)) (length pre) r ≡ pre ++ (numbers r ++ rest)
 unfolding numbers
-placed-behind [] r a₀ a₁ a₂ a₃ a₄ a₅ rest = refl
-placed-behind (x ∷ pre) r a₀ a₁ a₂ a₃ a₄ a₅ rest = ap (_∷_ x) (placed-behind pre r a₀ a₁ a₂ a₃ a₄ a₅ rest)
+placed-behind pre r a₀ a₁ a₂ a₃ a₄ a₅ rest = simp (set-append-seam, set-behind)
 
 -- how a reading ends, with b numbers before its records
 pub ended : ℕ → Reading → Step
 ended b Done = Go b
 ended b (Refused k p) = Stop k b p
 ended b (r then q) = ended (b + stride) q
+
+-- what a reading leaves, with the numbers `pre` in use and `rest` behind them
+abbrev leaves : List ℕ → List ℕ → Reading → Left
+leaves pre rest q = left (ended (length pre) q) (pre ++ roomAfter q rest)
+
+-- a record that finds no room, and one that does
+leaves-few : (pre rest : List ℕ) (r : Record) (q : Reading) → length rest < stride → emit (pre ++ rest) (length pre) (r then q) ≡ leaves pre rest (within (length rest / stride) (r then q))
+unfolding ended within listed stored
+leaves-few pre rest r q h =
+    let none : length rest / stride ≡ 0 = omega arith in
+    emit-full (pre ++ rest) (length pre) r q (omega (arith, length-append pre rest)) ∙ ap (λ (n : ℕ). leaves pre rest (within n (r then q))) (sym none)
+
+leaves-more : (pre : List ℕ) (a₀ a₁ a₂ a₃ a₄ a₅ : ℕ) (rest : List ℕ) (r : Record) (q : Reading)
+    → emit ((pre ++ numbers r) ++ rest) (length (pre ++ numbers r)) q ≡ leaves (pre ++ numbers r) rest (within (length rest / stride) q)
+    → emit (pre ++ (a₀ ∷ a₁ ∷ a₂ ∷ a₃ ∷ a₄ ∷ a₅ ∷ rest)) (length pre) (r then q)
+    ≡ leaves pre (a₀ ∷ a₁ ∷ a₂ ∷ a₃ ∷ a₄ ∷ a₅ ∷ rest) (within (suc (length rest / stride)) (r then q))
+unfolding ended within listed stored numbers
+leaves-more pre a₀ a₁ a₂ a₃ a₄ a₅ rest r q more =
+    let all : List ℕ = a₀ ∷ a₁ ∷ a₂ ∷ a₃ ∷ a₄ ∷ a₅ ∷ rest in
+    let w : Reading = within (length rest / stride) q in
+    let long : length (pre ++ numbers r) ≡ length pre + stride = omega (arith, length-append pre (numbers r)) in
+    emit-room (pre ++ all) (length pre) r q (omega (arith, length-append pre all))
+    ∙ ap (λ (x : List ℕ). emit x (length pre + stride) q) (placed-behind pre r a₀ a₁ a₂ a₃ a₄ a₅ rest ∙ sym (append-assoc pre (numbers r) rest))
+    ∙ ap (λ (n : ℕ). emit ((pre ++ numbers r) ++ rest) n q) (sym long)
+    ∙ more
+    ∙ ap₂ (λ (n : ℕ) (x : List ℕ). left (ended n w) x) long (append-assoc pre (numbers r) (roomAfter w rest))
+
+emit-behind : (q : Reading) (pre rest : List ℕ) → emit (pre ++ rest) (length pre) q ≡ leaves pre rest (within (length rest / stride) q)
+unfolding emit ended within listed stored
+emit-behind Done pre rest = refl
+emit-behind (Refused k p) pre rest = refl
+emit-behind (r then q) pre [] = leaves-few pre [] r q (omega arith)
+emit-behind (r then q) pre (a ∷ []) = leaves-few pre (a ∷ []) r q (omega arith)
+emit-behind (r then q) pre (a ∷ b ∷ []) = leaves-few pre (a ∷ b ∷ []) r q (omega arith)
+emit-behind (r then q) pre (a ∷ b ∷ c ∷ []) = leaves-few pre (a ∷ b ∷ c ∷ []) r q (omega arith)
+emit-behind (r then q) pre (a ∷ b ∷ c ∷ d ∷ []) = leaves-few pre (a ∷ b ∷ c ∷ d ∷ []) r q (omega arith)
+emit-behind (r then q) pre (a ∷ b ∷ c ∷ d ∷ e ∷ []) = leaves-few pre (a ∷ b ∷ c ∷ d ∷ e ∷ []) r q (omega arith)
+emit-behind (r then q) pre (a ∷ b ∷ c ∷ d ∷ e ∷ f ∷ rest) =
+    let one-more : suc (length rest / stride) ≡ length (a ∷ b ∷ c ∷ d ∷ e ∷ f ∷ rest) / stride = omega arith in
+    leaves-more pre a b c d e f rest r q (emit-behind q (pre ++ numbers r) rest)
+    ∙ ap (λ (n : ℕ). leaves pre (a ∷ b ∷ c ∷ d ∷ e ∷ f ∷ rest) (within n (r then q))) one-more
+
+-- from the start of the room: number, place and count of what fits, and the room with it
+pub emit-all : (room : List ℕ) (q : Reading) → emit room 0 q ≡ left (ended 0 (within (length room / stride) q)) (roomAfter (within (length room / stride) q) room)
+emit-all room q = emit-behind q [] room
+
+-- the parts of how it ended
+
+pub ended-go : (b : ℕ) (q : Reading) {c : ℕ} → ended b q ≡ Go c → (number q ≡ 0) × (place q ≡ 0) × (c ≡ b + stride * length (listed q))
+unfolding ended number place listed
+ended-go b Done {c} e = let same : b ≡ c = cc in (refl, refl, omega arith)
+ended-go b (Refused k p) e = let z : _≡_ {A = ℕ} 0 1 = cc in absurd (omega arith)
+ended-go b (r then q) e = let h = ended-go (b + stride) q e in (h .0, h .1, omega (arith, h .2))
+
+pub ended-stop : (b : ℕ) (q : Reading) {k c p : ℕ} → ended b q ≡ Stop k c p → (number q ≡ k) × (place q ≡ p) × (c ≡ b + stride * length (listed q))
+unfolding ended number place listed
+ended-stop b Done e = let z : _≡_ {A = ℕ} 0 1 = cc in absurd (omega arith)
+ended-stop b (Refused j i) {k} {c} {p} e = let same : b ≡ c = cc in ((cc), (cc), omega arith)
+ended-stop b (r then q) e = let h = ended-stop (b + stride) q e in (h .0, h .1, omega (arith, h .2))
