@@ -1,0 +1,3 @@
+pub mod PutLaws
+pub mod VarintSteps
+pub mod VarintStores

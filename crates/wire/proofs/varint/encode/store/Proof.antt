@@ -1,0 +1,170 @@
+-- `wire::varint::encode::store` meets its contract. Both loops keep `Storing`, whose laws answer each store; their measure is what is still to be stored.
+-- Assumes nothing.
+use Prim.Native.Nat.{_+_, _<_}
+use native.Mathlib.Omega.{arith}
+use mathlib.Core.Path.{refl, ap}
+use borrow.Author.Needs.{needs}
+use lib.ListN.{length, length-set}
+use Rattle.wire.proofs.VarintStores.{Storing, encode-ends, bytes-beyond, storing-begins, storing-on, stored-byte, stored-last}
+use Rattle.wire.proofs.varint.encode.store.Statement.{statement}
+use Rattle.wire.proofs.varint.encode.store.Tie as tie
+
+abbrev Inv-loop : tie.InvT-loop
+Inv-loop value out₀ at v₀ i₀ out v i = Storing value out₀ at out v i
+
+abbrev μ-loop : tie.MeasureT-loop
+μ-loop value out₀ at v₀ i₀ out v i = v
+
+abbrev Inv-loop2 : tie.InvT-loop2
+Inv-loop2 value out₀ at v₀ i₀ out v i = Storing v₀ out₀ i₀ out v i
+
+abbrev μ-loop2 : tie.MeasureT-loop2
+μ-loop2 value out₀ at v₀ i₀ out v i = v
+
+loop-holds : tie.Need-loop-holds Inv-loop μ-loop Inv-loop2 μ-loop2
+loop-holds c = storing-begins (c .pre) (omega arith)
+
+-- four bytes, with one more behind them
+four : (c : tie.In-loop Inv-loop μ-loop Inv-loop2 μ-loop2) → c .before .loop .i + 4 < length (c .before .loop .out)
+four c = omega (arith, bytes-beyond 4 (c .before .loop .v) (c .loop-test .taken) (c .before .loop .inv .below))
+
+slice-write-out : tie.Need-slice-write-out Inv-loop μ-loop Inv-loop2 μ-loop2
+slice-write-out c = omega (arith, four c)
+
+slice-write-out-2 : tie.Need-slice-write-out-2 Inv-loop μ-loop Inv-loop2 μ-loop2
+slice-write-out-2 c = simp length-set (omega (arith, four c))
+
+slice-write-out-3 : tie.Need-slice-write-out-3 Inv-loop μ-loop Inv-loop2 μ-loop2
+slice-write-out-3 c = simp length-set (omega (arith, four c))
+
+slice-write-out-4 : tie.Need-slice-write-out-4 Inv-loop μ-loop Inv-loop2 μ-loop2
+slice-write-out-4 c = simp length-set (omega (arith, four c))
+
+add-out-3 : tie.Need-add-out-3 Inv-loop μ-loop Inv-loop2 μ-loop2
+add-out-3 c = omega (arith, four c)
+
+add-out-5 : tie.Need-add-out-5 Inv-loop μ-loop Inv-loop2 μ-loop2
+add-out-5 c = omega (arith, four c)
+
+add-out-7 : tie.Need-add-out-7 Inv-loop μ-loop Inv-loop2 μ-loop2
+add-out-7 c = omega (arith, four c)
+
+add-i : tie.Need-add-i Inv-loop μ-loop Inv-loop2 μ-loop2
+add-i c = omega (arith, four c)
+
+loop-again : tie.Need-loop-again Inv-loop μ-loop Inv-loop2 μ-loop2
+loop-again c = stored-byte (stored-byte (stored-byte (stored-byte (c .before .loop .inv) (omega arith) refl) (omega arith) (omega arith)) (omega arith) (omega arith)) (omega arith) (omega arith)
+
+loop2-holds : tie.Need-loop2-holds Inv-loop μ-loop Inv-loop2 μ-loop2
+loop2-holds c = storing-begins (c .before .loop .inv .room) (c .before .loop .inv .below)
+
+-- two bytes, with one more behind them
+two : (c : tie.In-loop2 Inv-loop μ-loop Inv-loop2 μ-loop2) → c .before .loop2 .i + 2 < length (c .before .loop2 .out)
+two c = omega (arith, bytes-beyond 2 (c .before .loop2 .v) (c .loop2-test .taken) (c .before .loop2 .inv .below))
+
+slice-write-out-5 : tie.Need-slice-write-out-5 Inv-loop μ-loop Inv-loop2 μ-loop2
+slice-write-out-5 c = omega (arith, two c)
+
+slice-write-out-6 : tie.Need-slice-write-out-6 Inv-loop μ-loop Inv-loop2 μ-loop2
+slice-write-out-6 c = simp length-set (omega (arith, two c))
+
+add-out-10 : tie.Need-add-out-10 Inv-loop μ-loop Inv-loop2 μ-loop2
+add-out-10 c = omega (arith, two c)
+
+add-i-2 : tie.Need-add-i-2 Inv-loop μ-loop Inv-loop2 μ-loop2
+add-i-2 c = omega (arith, two c)
+
+loop2-again : tie.Need-loop2-again Inv-loop μ-loop Inv-loop2 μ-loop2
+loop2-again c = stored-byte (stored-byte (c .before .loop2 .inv) (omega arith) refl) (omega arith) (omega arith)
+
+-- behind both loops
+whole : (c : tie.After-loop2 Inv-loop μ-loop Inv-loop2 μ-loop2)
+    → Storing (c .before .before .before .before .args .value) (c .before .before .before .before .args .out .now) (c .before .before .before .before .args .at) (c .before .loop2 .out) (c .before .loop2 .v) (c .before .loop2 .i)
+whole c = storing-on (c .before .before .before .loop .inv) (c .before .loop2 .inv)
+
+slice-write-out-7 : tie.Need-slice-write-out-7 Inv-loop μ-loop Inv-loop2 μ-loop2
+slice-write-out-7 c = omega (arith, whole (c .before) .room, ap length (encode-ends (c .before .before .loop2 .v) (c .if1 .taken)))
+
+add-result : tie.Need-add-result Inv-loop μ-loop Inv-loop2 μ-loop2
+add-result c = omega (arith, slice-write-out-7 c)
+
+same-length : tie.Need-same-length Inv-loop μ-loop Inv-loop2 μ-loop2
+same-length c = simp length-set (whole (c .before) .long)
+
+returns : tie.Need-returns Inv-loop μ-loop Inv-loop2 μ-loop2
+returns c = stored-last (whole (c .before)) (c .if1 .taken) refl
+
+-- one byte, with one more behind it
+one : (c : tie.Else1 Inv-loop μ-loop Inv-loop2 μ-loop2) → c .before .before .loop2 .i + 1 < length (c .before .before .loop2 .out)
+one c = omega (arith, bytes-beyond 1 (c .before .before .loop2 .v) (c .if1 .left) (c .before .before .loop2 .inv .below))
+
+slice-write-out-8 : tie.Need-slice-write-out-8 Inv-loop μ-loop Inv-loop2 μ-loop2
+slice-write-out-8 c = omega (arith, one c)
+
+slice-write-out-9 : tie.Need-slice-write-out-9 Inv-loop μ-loop Inv-loop2 μ-loop2
+slice-write-out-9 c = simp length-set (omega (arith, one c))
+
+add-out-12 : tie.Need-add-out-12 Inv-loop μ-loop Inv-loop2 μ-loop2
+add-out-12 c = omega (arith, one c)
+
+add-result-2 : tie.Need-add-result-2 Inv-loop μ-loop Inv-loop2 μ-loop2
+add-result-2 c = omega (arith, one c)
+
+same-length-2 : tie.Need-same-length-2 Inv-loop μ-loop Inv-loop2 μ-loop2
+same-length-2 c = simp length-set (whole (c .before) .long)
+
+returns-2 : tie.Need-returns-2 Inv-loop μ-loop Inv-loop2 μ-loop2
+returns-2 c = stored-last (stored-byte (whole (c .before)) (c .if1 .left) refl) (omega arith) (omega arith)
+
+pub store-spec : {M : Type 1} → statement M
+store-spec =
+    tie.close
+    (tie.spec
+    Inv-loop
+    μ-loop
+    Inv-loop2
+    μ-loop2
+    loop-holds
+    (λ c. search needs)
+    (λ c. search needs)
+    slice-write-out
+    (λ c. search needs)
+    (λ c. search needs)
+    add-out-3
+    slice-write-out-2
+    (λ c. search needs)
+    (λ c. search needs)
+    add-out-5
+    slice-write-out-3
+    (λ c. search needs)
+    (λ c. search needs)
+    add-out-7
+    slice-write-out-4
+    add-i
+    (λ c. search needs)
+    loop-again
+    loop2-holds
+    (λ c. search needs)
+    (λ c. search needs)
+    slice-write-out-5
+    (λ c. search needs)
+    (λ c. search needs)
+    add-out-10
+    slice-write-out-6
+    add-i-2
+    (λ c. search needs)
+    loop2-again
+    (λ c. search needs)
+    slice-write-out-7
+    add-result
+    same-length
+    returns
+    (λ c. search needs)
+    (λ c. search needs)
+    slice-write-out-8
+    (λ c. search needs)
+    add-out-12
+    slice-write-out-9
+    add-result-2
+    same-length-2
+    returns-2)

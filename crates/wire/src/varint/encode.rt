@@ -1,0 +1,101 @@
+// Storing the shortest varint of a value, and its size.
+use crate::put::Put;
+ghost use mathlib.Core.Path.{_≡_};
+ghost use Prim.Native.Nat.{_+_, _≤_};
+ghost use lib.ListN.{length};
+ghost use lib.Seq.{sets};
+ghost use Rattle.spec.specs.Base.{filled};
+ghost use Rattle.spec.specs.Varint.{encode, size};
+ghost use Rattle.wire.specs.Answers.{Stored};
+
+// How many bytes the shortest varint of `value` has: its significant bits, at least 1, plus 6, divided by 7.
+pub fn encoded_varint64_len(value: u64) -> usize
+    ensures { λ r. ⌜ r ≡ size value ⌝ }
+{
+    if value == 0 {
+        return 1;
+    }
+    let bits = 64 - u64::leading_zeros(value);
+    ((bits + 6) / 7) as usize
+}
+
+// Stores the varint from `at` on, where there is room for it, and returns the position behind it: four bytes a turn, then two, as most
+// of the time goes into the turns.
+fn store(value: u64, out: &mut [u8], at: usize) -> usize
+    requires { ⌜ at + length (encode value) ≤ length (now out) ⌝ }
+    ensures { λ r. ⌜ (r ≡ at + length (encode value)) × (now (out .exit) ≡ sets (now (out .entry)) at (encode value)) ⌝ }
+{
+    let mut v = value;
+    let mut i = at;
+    while 0x1000_0000 <= v {
+        let v1 = v / 128;
+        let v2 = v1 / 128;
+        let v3 = v2 / 128;
+        out[i] = (128 + v % 128) as u8;
+        out[i + 1] = (128 + v1 % 128) as u8;
+        out[i + 2] = (128 + v2 % 128) as u8;
+        out[i + 3] = (128 + v3 % 128) as u8;
+        v = v3 / 128;
+        i += 4;
+    }
+    while 0x4000 <= v {
+        let v1 = v / 128;
+        out[i] = (128 + v % 128) as u8;
+        out[i + 1] = (128 + v1 % 128) as u8;
+        v = v1 / 128;
+        i += 2;
+    }
+    if v < 128 {
+        out[i] = v as u8;
+        return i + 1;
+    }
+    out[i] = (128 + v % 128) as u8;
+    out[i + 1] = (v / 128) as u8;
+    i + 2
+}
+
+// Stores it at the front of ten bytes, and returns its length.
+pub fn encode_varint64(value: u64, buf: &mut [u8; 10]) -> usize
+    ensures { λ r. ⌜ (r ≡ length (encode value)) × (now (buf .exit) ≡ filled (encode value) (now (buf .entry))) ⌝ }
+{
+    store(value, buf, 0)
+}
+
+// The same of 32 bits, for which five bytes do.
+pub fn encode_varint32(value: u32, buf: &mut [u8; 5]) -> usize
+    ensures { λ r. ⌜ (r ≡ length (encode value)) × (now (buf .exit) ≡ filled (encode value) (now (buf .entry))) ⌝ }
+{
+    store(value as u64, buf, 0)
+}
+
+// A varint of two or more bytes. Where ten bytes are left its size is not asked for.
+fn put_long(value: u64, out: &mut [u8], at: usize) -> Put
+    ensures { λ r. ⌜ Stored (now (out .entry)) at (encode value) (now (out .exit)) r ⌝ }
+{
+    if out.len() < at {
+        return Put::NoRoom;
+    }
+    let left = out.len() - at;
+    if left < 10 {
+        if left < encoded_varint64_len(value) {
+            return Put::NoRoom;
+        }
+    }
+    let next = store(value, out, at);
+    Put::Next(next)
+}
+
+// Stores it from `at` on, or leaves `out` as it was where there is no room.
+pub fn put_varint64(value: u64, out: &mut [u8], at: usize) -> Put
+    ensures { λ r. ⌜ Stored (now (out .entry)) at (encode value) (now (out .exit)) r ⌝ }
+{
+    if value < 128 {
+        if at < out.len() {
+            out[at] = value as u8;
+            let next = at + 1;
+            return Put::Next(next);
+        }
+        return Put::NoRoom;
+    }
+    put_long(value, out, at)
+}
