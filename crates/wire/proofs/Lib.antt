@@ -1,3 +1,5 @@
+pub mod Mask
 pub mod PutLaws
+pub mod Text
 pub mod VarintSteps
 pub mod VarintStores

@@ -2,5 +2,6 @@
 pub mod fixed;
 pub mod found;
 pub mod put;
+pub mod utf8;
 pub mod varint;
 pub mod zigzag;
