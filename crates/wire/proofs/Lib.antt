@@ -1,5 +1,11 @@
+pub mod FormatLaws
 pub mod Mask
+pub mod PackedLaws
 pub mod PutLaws
+pub mod Sums
 pub mod Text
+pub mod UnknownLaws
+pub mod Upto
+pub mod ValueSizes
 pub mod VarintSteps
 pub mod VarintStores

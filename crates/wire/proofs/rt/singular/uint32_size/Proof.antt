@@ -1,0 +1,19 @@
+-- `wire::rt::singular::uint32_size` meets its contract: the kind is a varint of the value.
+-- Assumes nothing.
+use mathlib.Core.Path.{refl}
+use borrow.Author.Needs.{needs}
+use Rattle.spec.specs.Kind.{shapes, shape}
+use Rattle.spec.specs.Sizes.{scalarSize, valueSize}
+use Rattle.wire.proofs.ValueSizes.{number-field}
+use Rattle.wire.proofs.rt.singular.uint32_size.Statement.{statement}
+use Rattle.wire.proofs.rt.singular.uint32_size.Tie as tie
+
+varint-size-requires : tie.Need-varint-size-requires
+varint-size-requires c κs = search needs
+
+returns : tie.Need-returns
+unfolding shapes shape scalarSize valueSize
+returns c = number-field 13 (c .before .args .number) (c .before .args .value) _ _ (c .varint-size .ensures) refl
+
+pub uint32-size-spec : {M : Type 1} → statement M
+uint32-size-spec = tie.close (tie.spec varint-size-requires returns)

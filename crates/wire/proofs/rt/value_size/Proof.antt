@@ -1,0 +1,64 @@
+-- `wire::rt::value_size` meets its contract: the wire type of the kind says how the size is found. Assumes nothing.
+use Prim.Native.Nat.{ℕ}
+use mathlib.Core.Path.{_≡_, sym, ap, _∙_}
+use native.Mathlib.Omega.{arith}
+use borrow.Author.Needs.{needs}
+use borrow.Author.Tests.{ne-eqb}
+use Rattle.spec.specs.Varint.{size}
+use Rattle.wire.specs.SizeParts.{capped}
+use Rattle.wire.proofs.ValueSizes.{value-by-wire, capped-varint}
+use Rattle.wire.proofs.rt.value_size.Statement.{statement}
+use Rattle.wire.proofs.rt.value_size.Tie as tie
+
+wire-of-requires : tie.Need-wire-of-requires
+wire-of-requires c κs = search needs
+
+coded-of-requires : tie.Need-coded-of-requires
+coded-of-requires c κs = search needs
+
+compute-raw-varint64-size-requires : tie.Need-compute-raw-varint64-size-requires
+compute-raw-varint64-size-requires c κs = search needs
+
+prefixed-size-requires : tie.Need-prefixed-size-requires
+prefixed-size-requires c κs = search needs
+
+returns : tie.Need-returns
+returns c =
+    let k : ℕ = c .before .before .before .before .args .kind in
+    let v : ℕ = c .before .before .before .before .args .value in
+    c .compute-raw-varint64-size .ensures ∙ ap size (c .before .coded-of .ensures) ∙ capped-varint _
+    ∙ ap capped (sym (value-by-wire k v 0 (sym (c .before .before .match .keys1) ∙ c .before .before .before .wire-of .ensures)))
+
+returns-2 : tie.Need-returns-2
+returns-2 c =
+    ap capped (sym (value-by-wire (c .before .before .args .kind) (c .before .before .args .value) 1 (sym (c .match .keys2) ∙ c .before .wire-of .ensures)))
+
+returns-3 : tie.Need-returns-3
+returns-3 c =
+    let k : ℕ = c .before .before .before .args .kind in
+    let v : ℕ = c .before .before .before .args .value in
+    c .prefixed-size .ensures ∙ ap capped (sym (value-by-wire k v 2 (sym (c .before .match .keys3) ∙ c .before .before .wire-of .ensures)))
+
+returns-4 : tie.Need-returns-4
+returns-4 c =
+    ap capped (sym (value-by-wire (c .before .before .args .kind) (c .before .before .args .value) 5 (sym (c .match .keys4) ∙ c .before .wire-of .ensures)))
+
+returns-5 : tie.Need-returns-5
+returns-5 c =
+    let w : ℕ = c .before .wire-of .result in
+    let none = simp (ne-eqb w 0 (c .match .rest .0 .0 .0 .1), ne-eqb w 1 (c .match .rest .0 .0 .1), ne-eqb w 2 (c .match .rest .0 .1), ne-eqb w 5 (c .match .rest .1)) at (value-by-wire (c .before .before .args .kind) (c .before .before .args .value) w (c .before .wire-of .ensures)) in
+    ap capped (sym none)
+
+pub value-size-spec : {M : Type 1} → statement M
+value-size-spec =
+    tie.close
+    (tie.spec
+    wire-of-requires
+    coded-of-requires
+    compute-raw-varint64-size-requires
+    prefixed-size-requires
+    returns
+    returns-2
+    returns-3
+    returns-4
+    returns-5)

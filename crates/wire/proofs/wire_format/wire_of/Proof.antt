@@ -1,0 +1,39 @@
+-- `wire::wire_format::wire_of` meets its contract: the rule of each table is one test over its entries. Assumes nothing.
+use Prim.Native.Nat.{ℕ, _+_, _-_, _≤_}
+use mathlib.Core.Path.{_≡_, sym, ap, _∙_}
+use native.Mathlib.Omega.{arith}
+use borrow.Author.Needs.{needs}
+use lib.ListN.{length, getD, List·getD-eq-default}
+use Rattle.spec.specs.Kind.{kindWires, ownWires, wires, wire}
+use Rattle.wire.proofs.Upto.{equal-below}
+use Rattle.wire.proofs.wire_format.wire_of.Statement.{statement}
+use Rattle.wire.proofs.wire_format.wire_of.Tie as tie
+
+array-read-result : tie.Need-array-read-result
+array-read-result c = search needs
+
+returns : tie.Need-returns
+unfolding kindWires ownWires wires wire
+returns c = equal-below (λ k. getD kindWires k 0) wire 19 (c .before .args .kind) tt (omega arith)
+
+cast-result : tie.Need-cast-result
+cast-result c = search needs
+
+array-read-result-2 : tie.Need-array-read-result-2
+array-read-result-2 c = search needs
+
+returns-2 : tie.Need-returns-2
+unfolding kindWires ownWires wires wire
+returns-2 c =
+    let k : ℕ = c .before .before .args .kind in
+    let back : 19 + (k - 19) ≡ k = omega arith in
+    equal-below (λ n. getD ownWires n 0) (λ n. wire (19 + n)) 8 (k - 19) tt (omega arith) ∙ ap wire back
+
+returns-3 : tie.Need-returns-3
+unfolding kindWires ownWires wires wire
+returns-3 c =
+    let past : length wires ≤ c .before .before .args .kind = omega arith in
+    sym (List·getD-eq-default wires 7 past)
+
+pub wire-of-spec : {M : Type 1} → statement M
+wire-of-spec = tie.close (tie.spec array-read-result returns cast-result array-read-result-2 returns-2 returns-3)
