@@ -1,0 +1,87 @@
+-- Laws of the search by halves: k does not matter where it is enough; what is found, and when nothing is; and that in a valid schema it is the
+-- entry of an owner and a number.
+-- Assumes nothing.
+use Prim.Native.Nat.{ℕ, zero, suc, _+_, _-_, _*_, _/_, _%_, _^_, _≤_, _<_}
+use native.Mathlib.Omega.{arith}
+use mathlib.Core.Path.{_≡_, refl, sym, ap, ap₂, _∙_, subst}
+use mathlib.Core.Bool.{Bool, true, false, not}
+use mathlib.Core.List.{List}
+use mathlib.Core.Option.{Option, none, some}
+use lib.ListN.{length, getD}
+use lib.Dec.{ltb, eqb}
+use borrow.Author.Tests.{lt-ltb, le-ltb, eq-eqb, ne-eqb}
+use Rattle.spec.specs.Base.{if_then_else_}
+use Rattle.spec.specs.Schema.{Schema, badSchema, placeOf}
+use Rattle.spec.proofs.VarintLaws.{lower-or-not}
+use Rattle.spec.proofs.SchemaLaws.{Is, Before, at, place-found, valid-rises, valid-found, valid-below, valid-above}
+use Rattle.spec.specs.declared.Entry.{Entry}
+use Rattle.schema.specs.Search.{search, within, findIn, ownerNumber}
+
+module _ (row : ℕ → ℕ) (lost key : ℕ) where
+  -- what is left of the search, with k to count down
+  abbrev Left : ℕ → ℕ → ℕ → ℕ
+  Left k lo hi = search k row lost key lo hi
+
+  -- one step, whose k is for the next ones
+  step-end : (k lo hi : ℕ) → hi ≤ lo → Left k lo hi ≡ lost
+  unfolding search
+  step-end zero lo hi h = refl
+  step-end (suc k) lo hi h =
+      ap (λ (b : Bool). if not b then lost else if eqb (row ((lo + hi) / 2)) key then (lo + hi) / 2 else if ltb (row ((lo + hi) / 2)) key then Left k ((lo + hi) / 2 + 1) hi else Left k lo ((lo + hi) / 2))
+      (le-ltb lo hi h)
+
+  step : (k lo hi : ℕ) → lo < hi → Left (suc k) lo hi ≡ (if eqb (row ((lo + hi) / 2)) key then (lo + hi) / 2 else if ltb (row ((lo + hi) / 2)) key then Left k ((lo + hi) / 2 + 1) hi else Left k lo ((lo + hi) / 2))
+  unfolding search
+  step k lo hi h =
+      ap (λ (b : Bool). if not b then lost else if eqb (row ((lo + hi) / 2)) key then (lo + hi) / 2 else if ltb (row ((lo + hi) / 2)) key then Left k ((lo + hi) / 2 + 1) hi else Left k lo ((lo + hi) / 2))
+      (lt-ltb lo hi h)
+
+  step-here : (k lo hi : ℕ) → lo < hi → row ((lo + hi) / 2) ≡ key → Left (suc k) lo hi ≡ (lo + hi) / 2
+  step-here k lo hi h e = step k lo hi h ∙ simp (eq-eqb (row ((lo + hi) / 2)) key e)
+
+  step-above : (k lo hi : ℕ) → lo < hi → row ((lo + hi) / 2) < key → Left (suc k) lo hi ≡ Left k ((lo + hi) / 2 + 1) hi
+  step-above k lo hi h l = step k lo hi h ∙ simp (ne-eqb (row ((lo + hi) / 2)) key (λ e. omega arith), lt-ltb (row ((lo + hi) / 2)) key l)
+
+  step-below : (k lo hi : ℕ) → lo < hi → key < row ((lo + hi) / 2) → Left (suc k) lo hi ≡ Left k lo ((lo + hi) / 2)
+  step-below k lo hi h l = step k lo hi h ∙ simp (ne-eqb (row ((lo + hi) / 2)) key (λ e. omega arith), le-ltb (row ((lo + hi) / 2)) key (omega arith))
+
+  -- where the middle stands to the key
+  by-order {ℓ} : {X : Type ℓ} (x : ℕ) → (x ≡ key → X) → (x < key → X) → (key < x → X) → X
+  by-order x here above below = lower-or-not x key above (λ c. lower-or-not key x below (λ d. here (omega arith)))
+
+  -- enough is enough
+  pub search-enough : (j k lo hi : ℕ) → hi - lo ≤ j → hi - lo ≤ k → Left j lo hi ≡ Left k lo hi
+  search-enough zero k lo hi p q = step-end zero lo hi (omega arith) ∙ sym (step-end k lo hi (omega arith))
+  search-enough (suc j) zero lo hi p q = step-end (suc j) lo hi (omega arith) ∙ sym (step-end zero lo hi (omega arith))
+  search-enough (suc j) (suc k) lo hi p q =
+      lower-or-not lo hi
+      (λ h. by-order (row ((lo + hi) / 2))
+      (λ e. step-here j lo hi h e ∙ sym (step-here k lo hi h e))
+      (λ l. step-above j lo hi h l ∙ search-enough j k ((lo + hi) / 2 + 1) hi (omega arith) (omega arith) ∙ sym (step-above k lo hi h l))
+      (λ l. step-below j lo hi h l ∙ search-enough j k lo ((lo + hi) / 2) (omega arith) (omega arith) ∙ sym (step-below k lo hi h l)))
+      (λ h. step-end (suc j) lo hi h ∙ sym (step-end (suc k) lo hi h))
+
+  -- nothing is found where the key is nowhere
+  pub search-misses : (k lo hi : ℕ) → ((j : ℕ) → lo ≤ j → j < hi → row j ≡ key → ⊥) → Left k lo hi ≡ lost
+  unfolding search
+  search-misses zero lo hi away = refl
+  search-misses (suc k) lo hi away =
+      lower-or-not lo hi
+      (λ h. by-order (row ((lo + hi) / 2))
+      (λ e. absurd (away ((lo + hi) / 2) (omega arith) (omega arith) e))
+      (λ l. step-above k lo hi h l ∙ search-misses k ((lo + hi) / 2 + 1) hi (λ j a b. away j (omega arith) b))
+      (λ l. step-below k lo hi h l ∙ search-misses k lo ((lo + hi) / 2) (λ j a b. away j a (omega arith))))
+      (λ h. step-end (suc k) lo hi h)
+
+  -- and the key is found where what stands before it is below and what stands behind it is above
+  pub search-finds : (k lo hi i : ℕ) → hi - lo ≤ k → lo ≤ i → i < hi → row i ≡ key → ((j : ℕ) → j < i → row j < key) → ((j : ℕ) → i < j → j < hi → key < row j)
+      → Left k lo hi ≡ i
+  search-finds zero lo hi i p a b e under over = absurd (omega arith)
+  search-finds (suc k) lo hi i p a b e under over =
+      let h : lo < hi = omega arith in
+      let mid : ℕ = (lo + hi) / 2 in
+      lower-or-not mid i
+      (λ c. step-above k lo hi h (under mid c) ∙ search-finds k (mid + 1) hi i (omega arith) (omega arith) b e under over)
+      (λ c. lower-or-not i mid
+      (λ d. step-below k lo hi h (over mid d (omega arith)) ∙ search-finds k lo mid i (omega arith) a d e under (λ j u v. over j u (omega arith)))
+      (λ d. let same : i ≡ mid = omega arith in step-here k lo hi h (subst (λ (m : ℕ). row m ≡ key) same e) ∙ sym same))

@@ -1,0 +1,227 @@
+-- Laws of the check, entry by entry: which counts are right, when an entry is the next one, and where the check stands before each.
+-- Assumes nothing.
+use Prim.Native.Nat.{ℕ, zero, suc, _+_, _-_, _*_, _/_, _%_, _^_, _≤_, _<_}
+use native.Mathlib.Omega.{arith}
+use native.Mathlib.Numerals.{add-one}
+use mathlib.Core.Path.{_≡_, refl, sym, ap, ap₂, _∙_, subst}
+use mathlib.Core.Bool.{Bool, true, false, not, _&&_, _||_, and-true, and-false}
+use mathlib.Core.List.{List, [], _∷_}
+use mathlib.Core.Option.{Option, none, some}
+use lib.ListN.{length, drop, getD}
+use lib.Seq.{getD-drop, drop-drop}
+use lib.Dec.{leb, ltb, eqb}
+use borrow.Author.Tests.{ltb-true, ltb-false, lt-ltb, le-ltb, le-leb, lt-leb, leb-true, leb-false, eqb-true, eqb-false, eq-eqb}
+use Rattle.spec.specs.Base.{if_then_else_, between}
+use Rattle.spec.specs.Schema.{Schema, rises, goodEntry, badEntry, badSchema, entryOf, entriesOf, schemaOf}
+use Rattle.spec.proofs.Laws.{both, by-test, chosen}
+use Rattle.spec.proofs.VarintLaws.{lower-or-not}
+use Rattle.spec.proofs.SchemaLaws.{firstEntry, entries-step, length-entries, rest-bad, Good, good-entry}
+use Rattle.spec.specs.declared.Entry.{Entry}
+use Rattle.schema.specs.Tables.{counted, rank, nextKey}
+use Rattle.schema.specs.Told.{entry, fiveAt}
+
+-- ---- the counts
+
+-- the entries of numbers that are whole ones
+abbrev pub entriesIn : List ℕ → List Entry
+entriesIn ns = entriesOf (length ns / 5) ns
+
+abbrev pub schemaIn : ℕ → List ℕ → Schema
+schemaIn types ns = record { types = types; entries = entriesIn ns }
+
+-- so many numbers are so many entries
+five-times : (n : ℕ) → n % 5 ≡ 0 → leb (n / 5) 256 ≡ leb n 1280
+five-times n h = lower-or-not 1280 n (λ c. lt-leb (n / 5) 256 (omega arith) ∙ sym (lt-leb n 1280 c)) (λ c. le-leb (n / 5) 256 (omega arith) ∙ sym (le-leb n 1280 c))
+
+module _ (types : ℕ) (ns : List ℕ) where
+  whole : length ns % 5 ≡ 0 → schemaOf types ns ≡ schemaIn types ns
+  unfolding schemaOf
+  whole h = ap (λ (b : Bool). if b then schemaIn types ns else record { types = 0; entries = [] }) (eq-eqb (length ns % 5) 0 h)
+
+  entry-count : length ns % 5 ≡ 0 → leb (length (entriesIn ns)) 256 ≡ leb (length ns) 1280
+  entry-count h = ap (λ (n : ℕ). leb n 256) (length-entries (length ns / 5) ns) ∙ five-times (length ns) h
+
+  by-counts : length ns % 5 ≡ 0 → badSchema (schemaOf types ns) ≡ (if between 1 32 types && leb (length ns) 1280 then badEntry types 0 0 0 (entriesIn ns) else some 0)
+  unfolding badSchema
+  by-counts h =
+      ap badSchema (whole h)
+      ∙ ap (λ (b : Bool). if between 1 32 types && b then badEntry types 0 0 0 (entriesIn ns) else some 0) (entry-count h)
+
+  -- right counts leave it to the entries, and a wrong one is bad at 0
+  pub counts-right : counted types (length ns) ≡ true
+      → (schemaOf types ns ≡ schemaIn types ns) × (badSchema (schemaOf types ns) ≡ badEntry types 0 0 0 (entriesIn ns)) × (length ns % 5 ≡ 0)
+  counts-right h =
+      let b = both (between 1 32 types && leb (length ns) 1280) (eqb (length ns % 5) 0) h in
+      let w = eqb-true (length ns % 5) 0 (b .1) in
+      (whole w, by-counts w ∙ ap (λ (x : Bool). if x then badEntry types 0 0 0 (entriesIn ns) else some 0) (b .0), w)
+
+  pub counts-wrong : counted types (length ns) ≡ false → badSchema (schemaOf types ns) ≡ some 0
+  counts-wrong h =
+      by-test (eqb (length ns % 5) 0)
+      (λ p. by-counts (eqb-true (length ns % 5) 0 p) ∙ ap (λ (x : Bool). if x then badEntry types 0 0 0 (entriesIn ns) else some 0) (go (between 1 32 types && leb (length ns) 1280) (eqb (length ns % 5) 0) p h))
+      (λ p. rest-bad types ns (eqb-false (length ns % 5) 0 p))
+    where
+      go : (a b : Bool) → b ≡ true → (a && b) ≡ false → a ≡ false
+      go true b p q = sym p ∙ q
+      go false b p q = refl
+
+-- ---- an entry is the next one
+
+-- of good numbers, one entry stands behind another exactly when its rank is above
+rises-rank : (o n last : ℕ) (e : Entry) → last ≡ o * 2 ^ 32 + n * 8 → n < 2 ^ 29 → e .number < 2 ^ 29 → rises o n e ≡ ltb last (rank e)
+rises-rank o n last e p l m = go (ltb o (e .owner)) (eqb o (e .owner)) (ltb n (e .number)) refl refl refl
+  where
+    go : (a b c : Bool) → ltb o (e .owner) ≡ a → eqb o (e .owner) ≡ b → ltb n (e .number) ≡ c → (a || b && c) ≡ ltb last (rank e)
+    go true b c q r s = let h = ltb-true o (e .owner) q in sym (lt-ltb last (rank e) (omega arith))
+    go false true true q r s =
+        let h = eqb-true o (e .owner) r in
+        let g = ltb-true n (e .number) s in
+        sym (lt-ltb last (rank e) (omega arith))
+    go false true false q r s =
+        let h = eqb-true o (e .owner) r in
+        let g = ltb-false n (e .number) s in
+        sym (le-ltb last (rank e) (omega arith))
+    go false false c q r s =
+        let h = ltb-false o (e .owner) q in
+        lower-or-not (e .owner) o
+        (λ g. sym (le-ltb last (rank e) (omega arith)))
+        (λ g. absurd (eqb-false o (e .owner) r (omega arith)))
+
+-- the owner and the number that a rank is of
+abbrev pub ownerOf : ℕ → ℕ
+ownerOf last = last / 2 ^ 32
+
+abbrev pub numberOf : ℕ → ℕ
+numberOf last = last % 2 ^ 32 / 8
+
+module _ (types last : ℕ) (e : Entry) (low : last % 8 ≡ 0) where
+  -- the two tests of an entry in either order
+  abbrev passes : Bool
+  passes = goodEntry types e && ltb last (rank e)
+
+  tested : (rises (ownerOf last) (numberOf last) e && goodEntry types e) ≡ passes
+  tested =
+      by-test (goodEntry types e)
+      (λ p. let l : e .number < 2 ^ 29 = omega (arith, good-entry types e p .number-to) in
+      let r : rises (ownerOf last) (numberOf last) e ≡ ltb last (rank e) = rises-rank (ownerOf last) (numberOf last) last e (omega arith) (omega arith) l in
+      ap₂ (_&&_) r p ∙ and-true (ltb last (rank e)) ∙ ap (λ (b : Bool). b && ltb last (rank e)) (sym p))
+      (λ p. ap (λ (b : Bool). rises (ownerOf last) (numberOf last) e && b) p ∙ and-false (rises (ownerOf last) (numberOf last) e) ∙ ap (λ (b : Bool). b && ltb last (rank e)) (sym p))
+
+  bad-tested : (i : ℕ) (es : List Entry) → badEntry types (ownerOf last) (numberOf last) i (e ∷ es) ≡ (if passes then badEntry types (e .owner) (e .number) (i + 1) es else some i)
+  unfolding badEntry
+  bad-tested i es = ap (λ (b : Bool). if b then badEntry types (e .owner) (e .number) (i + 1) es else some i) tested
+
+  key-passed : passes ≡ true → nextKey types last e ≡ rank e
+  unfolding nextKey
+  key-passed p = ap (λ (b : Bool). if b then rank e else 0) p
+
+  key-refused : passes ≡ false → nextKey types last e ≡ 0
+  unfolding nextKey
+  key-refused p = ap (λ (b : Bool). if b then rank e else 0) p
+
+  -- no next key: this entry is the first bad one
+  pub next-bad : (i : ℕ) (es : List Entry) → nextKey types last e ≡ 0 → badEntry types (ownerOf last) (numberOf last) i (e ∷ es) ≡ some i
+  next-bad i es z =
+      by-test passes
+      (λ p. let g = good-entry types e (both (goodEntry types e) (ltb last (rank e)) p .0) in
+      let k = key-passed p in
+      absurd (omega (arith, g .number-from)))
+      (λ p. bad-tested i es ∙ ap (λ (b : Bool). if b then badEntry types (e .owner) (e .number) (i + 1) es else some i) p)
+
+  -- a next key: the entry is good, and the key is its rank
+  pub next-good : (nextKey types last e ≡ 0 → ⊥) → (goodEntry types e ≡ true) × (nextKey types last e ≡ rank e)
+  next-good z = by-test passes (λ p. (both (goodEntry types e) (ltb last (rank e)) p .0, key-passed p)) (λ p. absurd (z (key-refused p)))
+
+  pub next-later : (i : ℕ) (es : List Entry) → (nextKey types last e ≡ 0 → ⊥)
+      → badEntry types (ownerOf last) (numberOf last) i (e ∷ es) ≡ badEntry types (ownerOf (nextKey types last e)) (numberOf (nextKey types last e)) (i + 1) es
+  next-later i es z =
+      by-test passes
+      (λ p. let g = good-entry types e (both (goodEntry types e) (ltb last (rank e)) p .0) in
+      let l : e .number ≤ 536870911 = g .number-to in
+      let k = key-passed p in
+      let o : e .owner ≡ ownerOf (nextKey types last e) = omega arith in
+      let n : e .number ≡ numberOf (nextKey types last e) = omega arith in
+      bad-tested i es ∙ ap (λ (b : Bool). if b then badEntry types (e .owner) (e .number) (i + 1) es else some i) p
+      ∙ ap₂ (λ (a b : ℕ). badEntry types a b (i + 1) es) o n)
+      (λ p. absurd (z (key-refused p)))
+
+-- ---- where the check stands
+
+-- before entry e, whose numbers begin at i: the rank of the one before it is `last`, and the rest decides
+pub record Here (types : ℕ) (ns : List ℕ) (i e last : ℕ) : Type 0 where
+  pub counts : counted types (length ns) ≡ true
+  pub five : i ≡ 5 * e
+  pub inside : i ≤ length ns
+  pub low : last % 8 ≡ 0
+  pub rest : badSchema (schemaOf types ns) ≡ badEntry types (ownerOf last) (numberOf last) e (entriesOf (length ns / 5 - e) (drop (5 * e) ns))
+
+pub here-first : (types : ℕ) (ns : List ℕ) → counted types (length ns) ≡ true → Here types ns 0 0 0
+here-first types ns h =
+    let k : length ns / 5 ≡ length ns / 5 - 0 = omega arith in
+    record {
+      counts = h;
+      five = omega arith;
+      inside = omega arith;
+      low = omega arith;
+      rest = counts-right types ns h .1 ∙ ap (λ (n : ℕ). badEntry types 0 0 0 (entriesOf n ns)) k;
+    }
+
+-- the numbers from i on are the first entry of what is left
+first-five : (ns : List ℕ) (i : ℕ) → entry (fiveAt ns i) ≡ firstEntry (drop i ns)
+first-five ns i = simp getD-drop
+
+module _ {types : ℕ} {ns : List ℕ} {i e last : ℕ} (h : Here types ns i e last) where
+  whole-fives : length ns % 5 ≡ 0
+  whole-fives = counts-right types ns (h .counts) .2
+
+  pub here-end : length ns ≤ i → badSchema (schemaOf types ns) ≡ none
+  unfolding entriesOf badEntry
+  here-end l =
+      let a = h .five in
+      let z : length ns / 5 - e ≡ 0 = omega (arith, h .inside) in
+      h .rest ∙ ap (λ (n : ℕ). badEntry types (ownerOf last) (numberOf last) e (entriesOf n (drop (5 * e) ns))) z
+
+  module _ (l : i < length ns) where
+    pub here-five : i + 4 < length ns
+    here-five = omega (arith, h .five, whole-fives)
+
+    -- entry e and those behind it
+    here-cons : entriesOf (length ns / 5 - e) (drop (5 * e) ns) ≡ entry (fiveAt ns i) ∷ entriesOf (length ns / 5 - (e + 1)) (drop (5 * (e + 1)) ns)
+    here-cons =
+        let a = h .five in
+        let w = whole-fives in
+        let k : length ns / 5 - e ≡ suc (length ns / 5 - (e + 1)) = omega arith in
+        let d : 5 * e + 5 ≡ 5 * (e + 1) = omega arith in
+        ap (λ (n : ℕ). entriesOf n (drop (5 * e) ns)) k
+        ∙ entries-step (length ns / 5 - (e + 1)) (drop (5 * e) ns)
+        ∙ ap₂ (λ (x : Entry) (xs : List ℕ). x ∷ entriesOf (length ns / 5 - (e + 1)) xs)
+        (ap (λ (n : ℕ). firstEntry (drop n ns)) (sym a) ∙ sym (first-five ns i))
+        (drop-drop 5 (5 * e) ns ∙ ap (λ (n : ℕ). drop n ns) d)
+
+    here-rest : badSchema (schemaOf types ns) ≡ badEntry types (ownerOf last) (numberOf last) e (entry (fiveAt ns i) ∷ entriesOf (length ns / 5 - (e + 1)) (drop (5 * (e + 1)) ns))
+    here-rest = h .rest ∙ ap (badEntry types (ownerOf last) (numberOf last) e) here-cons
+
+    pub here-bad : nextKey types last (entry (fiveAt ns i)) ≡ 0 → badSchema (schemaOf types ns) ≡ some e
+    here-bad z = here-rest ∙ next-bad types last (entry (fiveAt ns i)) (h .low) e (entriesOf (length ns / 5 - (e + 1)) (drop (5 * (e + 1)) ns)) z
+
+    module _ {key : ℕ} (is : key ≡ nextKey types last (entry (fiveAt ns i))) (there : key ≡ 0 → ⊥) where
+      pub here-good : Good types (entry (fiveAt ns i)) × (key ≡ rank (entry (fiveAt ns i)))
+      here-good =
+          let g = next-good types last (entry (fiveAt ns i)) (h .low) (λ z. there (is ∙ z)) in
+          (good-entry types (entry (fiveAt ns i)) (g .0), is ∙ g .1)
+
+      pub here-next : Here types ns (i + 5) (e + 1) key
+      here-next =
+          let a = h .five in
+          let f = here-five in
+          let k = here-good .1 in
+          record {
+            counts = h .counts;
+            five = omega arith;
+            inside = omega arith;
+            low = omega arith;
+            rest =
+                here-rest
+                ∙ next-later types last (entry (fiveAt ns i)) (h .low) e (entriesOf (length ns / 5 - (e + 1)) (drop (5 * (e + 1)) ns)) (λ z. there (is ∙ z))
+                ∙ ap (λ (n : ℕ). badEntry types (ownerOf n) (numberOf n) (e + 1) (entriesOf (length ns / 5 - (e + 1)) (drop (5 * (e + 1)) ns))) (sym is);
+          }

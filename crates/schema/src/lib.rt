@@ -1,0 +1,315 @@
+// A schema on numbers: valid or not, an entry by owner and number, and the tables that a reader makes once for each call.
+// An entry is five numbers: owner, number, kind, repeated (0 or 1), child.
+ghost use mathlib.Core.Path.{_≡_};
+ghost use mathlib.Core.Bool.{_&&_, not};
+ghost use Prim.Native.Nat.{_+_, _*_, _/_, _^_, _≤_, _<_};
+ghost use lib.Dec.{leb, eqb};
+ghost use lib.ListN.{length};
+ghost use Rattle.spec.specs.Base.{if_then_else_};
+ghost use Rattle.spec.specs.Schema.{goodEntry, badSchema, schemaOf};
+ghost use Rattle.schema.specs.Search.{search, findIn};
+ghost use Rattle.schema.specs.Tables.{counted, nextKey, innerIn, noted, soundOf, keysWith, infoWith, keyAt, entryFor, unknown, typed, tableSays};
+ghost use Rattle.schema.specs.Told.{entry, fiveAt, told, place, said};
+
+use wire::wire_format;
+
+// The numbers of an entry.
+struct Five {
+    owner: u32,
+    number: u32,
+    kind: u32,
+    repeated: u32,
+    child: u32,
+}
+
+// Valid, or the place of the first bad entry: 0 where the type count or the entry count is wrong.
+pub enum Verdict {
+    Valid,
+    Bad(usize),
+}
+
+// The place of an entry.
+pub enum Place {
+    At(usize),
+    Nothing,
+}
+
+// What a schema says of a tag: the kind of its field, and the type of a message's fields or the kind of a packed field's elements (else 0).
+pub struct Said {
+    pub kind: u8,
+    pub inner: u8,
+}
+
+// ---- valid or not
+
+fn counts_ok(types: u32, count: usize) -> bool
+    ensures { λ r. ⌜ r ≡ counted types count ⌝ }
+{
+    if types == 0 {
+        return false;
+    }
+    if 32 < types {
+        return false;
+    }
+    if 1280 < count {
+        return false;
+    }
+    count % 5 == 0
+}
+
+// The numbers from place i on.
+fn five_at(numbers: &[u32], i: usize) -> Five
+    requires { ⌜ i + 4 < length (now numbers) ⌝ }
+    ensures { λ r. ⌜ r ≡ fiveAt (now (numbers .entry)) i ⌝ }
+{
+    Five {
+        owner: numbers[i],
+        number: numbers[i + 1],
+        kind: numbers[i + 2],
+        repeated: numbers[i + 3],
+        child: numbers[i + 4],
+    }
+}
+
+fn entry_ok(types: u32, f: Five) -> bool
+    ensures { λ r. ⌜ r ≡ goodEntry types (entry f) ⌝ }
+{
+    if types <= f.owner {
+        return false;
+    }
+    if f.number == 0 {
+        return false;
+    }
+    if 536870911 < f.number {
+        return false;
+    }
+    if f.kind == 0 {
+        return false;
+    }
+    if f.kind == 10 {
+        return false;
+    }
+    if 18 < f.kind {
+        return false;
+    }
+    if 1 < f.repeated {
+        return false;
+    }
+    if f.kind == 11 {
+        return f.child < types;
+    }
+    f.child == 0
+}
+
+// The key of an entry without its wire type, where it is good and stands behind the one whose key is `last`; else 0.
+fn next_key(types: u32, last: u64, f: Five) -> u64
+    ensures { λ r. ⌜ r ≡ nextKey types last (entry f) ⌝ }
+{
+    if !entry_ok(types, f) {
+        return 0;
+    }
+    let key = f.owner as u64 * 4294967296 + f.number as u64 * 8;
+    if key <= last {
+        return 0;
+    }
+    key
+}
+
+// Whether a schema is valid.
+pub fn check(types: u32, numbers: &[u32]) -> Verdict
+    ensures { λ r. ⌜ told r ≡ badSchema (schemaOf types (now (numbers .entry))) ⌝ }
+{
+    if !counts_ok(types, numbers.len()) {
+        return Verdict::Bad(0);
+    }
+    let mut i: usize = 0;
+    let mut e: usize = 0;
+    let mut last: u64 = 0;
+    while i < numbers.len() {
+        let f = five_at(numbers, i);
+        let key = next_key(types, last, f);
+        if key == 0 {
+            return Verdict::Bad(e);
+        }
+        last = key;
+        i += 5;
+        e += 1;
+    }
+    Verdict::Valid
+}
+
+// ---- an entry by owner and number
+
+// By halves: at most nine entries are looked at where there are 256.
+pub fn find(numbers: &[u32], owner: u32, number: u32) -> Place
+    ensures { λ r. ⌜ place r ≡ findIn (now (numbers .entry)) owner number ⌝ }
+{
+    let key = owner as u64 * 4294967296 + number as u64;
+    let mut lo: usize = 0;
+    let mut hi: usize = numbers.len() / 5;
+    while lo < hi {
+        let mid = (lo + hi) / 2;
+        let o = numbers[mid * 5];
+        let n = numbers[mid * 5 + 1];
+        let here = o as u64 * 4294967296 + n as u64;
+        if here == key {
+            return Place::At(mid);
+        }
+        if here < key {
+            lo = mid + 1;
+        } else {
+            hi = mid;
+        }
+    }
+    Place::Nothing
+}
+
+// ---- the tables
+
+// What is noted beside the kind: 255 where the field may be packed, and else the child type.
+fn inner_of(w: u8, repeated: u32, child: u32) -> u8
+    requires { ⌜ child < 256 ⌝ }
+    ensures { λ r. ⌜ r ≡ innerIn w (eqb repeated 1) child ⌝ }
+{
+    if w != 2 {
+        if repeated == 1 {
+            return 255;
+        }
+    }
+    child as u8
+}
+
+// Entry e is noted.
+fn note(e: usize, f: Five, w: u8, info: &mut [u8; 1024])
+    requires { ⌜ (e < 256) × (f .owner < 32) × (f .kind < 256) × (f .child < 256) ⌝ }
+    ensures { λ _. ⌜ now (info .exit) ≡ noted e (f .owner) (f .number) (f .kind) (innerIn w (eqb (f .repeated) 1) (f .child)) (now (info .entry)) ⌝ }
+{
+    info[512 + e] = f.kind as u8;
+    info[768 + e] = inner_of(w, f.repeated, f.child);
+    if f.number < 16 {
+        info[f.owner as usize * 16 + f.number as usize] = e as u8;
+    }
+}
+
+// The tables of a schema; of the entries before the first bad one where it is not valid.
+pub fn tables(types: u32, numbers: &[u32], keys: &mut [u64; 256], info: &mut [u8; 1024]) -> Verdict
+    ensures { λ r. ⌜ (told r ≡ badSchema (schemaOf types (now (numbers .entry))))
+        × (now (keys .exit) ≡ keysWith 0 (soundOf (schemaOf types (now (numbers .entry)))) (now (keys .entry)))
+        × (now (info .exit) ≡ infoWith 0 (soundOf (schemaOf types (now (numbers .entry)))) (now (info .entry))) ⌝ }
+{
+    if !counts_ok(types, numbers.len()) {
+        return Verdict::Bad(0);
+    }
+    let wires = wire_format::kind_wires();
+    let mut i: usize = 0;
+    let mut e: usize = 0;
+    let mut last: u64 = 0;
+    while i < numbers.len() {
+        let f = five_at(numbers, i);
+        let key = next_key(types, last, f);
+        if key == 0 {
+            return Verdict::Bad(e);
+        }
+        last = key;
+        let w = wires[f.kind as usize];
+        keys[e] = key + w as u64;
+        note(e, f, w, info);
+        i += 5;
+        e += 1;
+    }
+    Verdict::Valid
+}
+
+// ---- asking them
+
+// The place of an entry whose key without its wire type is `key`, or 256.
+fn search(keys: &[u64; 256], key: u64) -> usize
+    ensures { λ r. ⌜ r ≡ search 256 (keyAt (now (keys .entry))) 256 key 0 256 ⌝ }
+{
+    let mut lo: usize = 0;
+    let mut hi: usize = 256;
+    while lo < hi {
+        let mid = (lo + hi) / 2;
+        let here = keys[mid] / 8;
+        if here == key {
+            return mid;
+        }
+        if here < key {
+            lo = mid + 1;
+        } else {
+            hi = mid;
+        }
+    }
+    256
+}
+
+// The kinds of fields that no schema says, by wire type.
+const UNKNOWN_KINDS: [u8; 8] = [21, 22, 23, 25, 26, 24, 0, 0];
+
+fn unknown(tag: u32) -> Said
+    ensures { λ r. ⌜ said r ≡ unknown tag ⌝ }
+{
+    let w = tag % 8;
+    Said {
+        kind: UNKNOWN_KINDS[w as usize],
+        inner: 0,
+    }
+}
+
+// What entry i says of a tag that has its number.
+fn typed(keys: &[u64; 256], info: &[u8; 1024], i: usize, key: u64, tag: u32) -> Said
+    requires { ⌜ i < 256 ⌝ }
+    ensures { λ r. ⌜ said r ≡ typed (now (keys .entry)) (now (info .entry)) i key tag ⌝ }
+{
+    let kind = info[512 + i];
+    let inner = info[768 + i];
+    if keys[i] == key {
+        if kind == 11 {
+            return Said {
+                kind,
+                inner,
+            };
+        }
+        return Said {
+            kind,
+            inner: 0,
+        };
+    }
+    if tag % 8 == 2 {
+        if inner == 255 {
+            return Said {
+                kind: 20,
+                inner: kind,
+            };
+        }
+    }
+    unknown(tag)
+}
+
+// The entry of a tag in a message of this type, or 256: the guess where it is right, and else by search.
+fn entry_for(keys: &[u64; 256], info: &[u8; 1024], ty: u32, tag: u32) -> usize
+    ensures { λ r. ⌜ r ≡ entryFor (now (keys .entry)) (now (info .entry)) ty tag ⌝ }
+{
+    let key = ty as u64 * 4294967296 + tag as u64;
+    if tag < 128 {
+        if ty < 32 {
+            let guess = info[ty as usize * 16 + tag as usize / 8] as usize;
+            if keys[guess] == key {
+                return guess;
+            }
+        }
+    }
+    search(keys, key / 8)
+}
+
+// What the tables say of a tag in a message of this type.
+pub fn says(keys: &[u64; 256], info: &[u8; 1024], ty: u32, tag: u32) -> Said
+    ensures { λ r. ⌜ said r ≡ tableSays (now (keys .entry)) (now (info .entry)) ty tag ⌝ }
+{
+    let i = entry_for(keys, info, ty, tag);
+    if i < 256 {
+        let key = ty as u64 * 4294967296 + tag as u64;
+        return typed(keys, info, i, key, tag);
+    }
+    unknown(tag)
+}
