@@ -1,6 +1,7 @@
 -- What a reader does with lent room: each record in turn is stored behind those before it, until one does not fit. Assumes nothing: these are
 -- definitions. That reading from the start of the room leaves what the definition of the call says is a law (proofs/EmitLaws).
-use Prim.Native.Nat.{ℕ, _+_}
+use Prim.Native.Nat.{ℕ, _+_, _≤_}
+use mathlib.Core.Path.{_≡_}
 use mathlib.Core.Bool.{Bool}
 use mathlib.Core.List.{List, []}
 use lib.ListN.{length, set}
@@ -27,3 +28,12 @@ emit room b (Refused k p) = left (Stop k b p) room
 emit room b (r then q) =
     let more = emit (placed room b r) (b + stride) q in
     if leb (b + stride) (length room) then more else left (Stop 8 b (r .tag)) room
+
+-- A part of the work is done, up to the place `at` of `most`: what was to be emitted before is what is to be emitted now, where `todo` is what
+-- there is to do from a place on.
+pub record Further (most : ℕ) (todo : ℕ → Reading) (room : List ℕ) (from b : ℕ) (room′ : List ℕ) (at b′ : ℕ) : Type 0 where
+  pub same : emit room b (todo from) ≡ emit room′ b′ (todo at)
+  pub on : from ≤ at
+  pub inside : at ≤ most
+  pub fits : b′ ≤ length room′
+  pub kept : length room′ ≡ length room

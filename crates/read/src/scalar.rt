@@ -1,0 +1,198 @@
+// Values that are one number, at a place of a slice.
+ghost use mathlib.Core.Path.{_≡_};
+ghost use Prim.Native.Nat.{_+_, _≤_, _<_};
+ghost use lib.ListN.{length, drop};
+ghost use Rattle.spec.specs.Varint.{fixed};
+ghost use Rattle.spec.specs.Base.{meaning};
+ghost use Rattle.spec.specs.Kind.{shape, wire, extend};
+ghost use Rattle.wire.specs.Answers.{told};
+ghost use Rattle.wire.specs.Text.{word};
+ghost use Rattle.read.specs.Answers.{scalarOf, meantBy, inRange, isNarrow, Shortly};
+use wire::found::Found;
+use wire::varint::decode::decode_varint32;
+use wire::varint::decode::decode_varint64;
+use wire::zigzag::unzigzag;
+
+// ---- varints
+
+// A varint of one to three bytes: the common ones, with no call and no loop.
+pub enum Short {
+    Of { value: u64, size: usize },
+    Longer,
+}
+
+pub fn short_at(s: &[u8], at: usize) -> Short
+    requires { ⌜ at < length (now s) ⌝ }
+    ensures { λ r. ⌜ Shortly (drop at (now (s .entry))) r ⌝ }
+{
+    let c = s[at] as u64;
+    if c < 128 {
+        return Short::Of { value: c, size: 1 };
+    }
+    if s.len() - at < 2 {
+        return Short::Longer;
+    }
+    let d = s[at + 1] as u64;
+    if d < 128 {
+        return Short::Of {
+            value: c % 128 + d * 0x80,
+            size: 2,
+        };
+    }
+    if s.len() - at < 3 {
+        return Short::Longer;
+    }
+    let e = s[at + 2] as u64;
+    if e < 128 {
+        return Short::Of {
+            value: c % 128 + d % 128 * 0x80 + e * 0x4000,
+            size: 3,
+        };
+    }
+    Short::Longer
+}
+
+// What a varint says as a value of a kind; nothing where the kind's values are no varints.
+pub enum Meant {
+    Is(u64),
+    Other,
+}
+
+// The first test is for the most frequent kinds.
+pub fn meant(kind: u64, v: u64) -> Meant
+    ensures { λ r. ⌜ r ≡ meantBy (shape kind) v ⌝ }
+{
+    if kind < 6 {
+        if 2 < kind {
+            return Meant::Is(v);
+        }
+        return Meant::Other;
+    }
+    match kind {
+        8 => Meant::Is(if v == 0 { 0 } else { 1 }),
+        13 | 14 | 21 => Meant::Is(v),
+        17 | 18 => Meant::Is(unzigzag(v)),
+        _ => Meant::Other,
+    }
+}
+
+// Whether a varint of a kind may have this value: int32 and enum have 32 signed bits.
+fn in_range(kind: u64, v: u64) -> bool
+    ensures { λ r. ⌜ r ≡ inRange kind v ⌝ }
+{
+    if kind == 5 || kind == 14 {
+        if 0x7fff_ffff < v {
+            return 0xffff_ffff_8000_0000 <= v;
+        }
+    }
+    true
+}
+
+fn is_narrow(kind: u64) -> bool
+    ensures { λ r. ⌜ r ≡ isNarrow kind ⌝ }
+{
+    kind == 13 || kind == 17
+}
+
+// A value of a kind whose values are varints.
+pub fn int_at(s: &[u8], at: usize, kind: u64) -> Found
+    requires { ⌜ wire kind ≡ 0 ⌝ }
+    ensures { λ r. ⌜ told at r ≡ scalarOf (shape kind) (drop at (now (s .entry))) ⌝ }
+{
+    let found = if is_narrow(kind) {
+        decode_varint32(s, at)
+    } else {
+        decode_varint64(s, at)
+    };
+    match found {
+        Found::Value { value, next } => {
+            if !in_range(kind, value) {
+                return Found::Refused(5);
+            }
+            match meant(kind, value) {
+                Meant::Is(v) => Found::Value { value: v, next },
+                Meant::Other => Found::Refused(3),
+            }
+        }
+        Found::Refused(k) => Found::Refused(k),
+    }
+}
+
+// ---- numbers of four and eight bytes
+
+fn four(s: &[u8], i: usize) -> u64
+    requires { ⌜ i + 4 ≤ length (now s) ⌝ }
+    ensures { λ r. ⌜ (r ≡ word 4 (now (s .entry)) i) × (r < 4294967296) ⌝ }
+{
+    let a = s[i] as u64;
+    let b = s[i + 1] as u64;
+    let c = s[i + 2] as u64;
+    let d = s[i + 3] as u64;
+    a + b * 256 + c * 65536 + d * 16777216
+}
+
+fn fixed32_at(s: &[u8], at: usize) -> Found
+    requires { ⌜ at ≤ length (now s) ⌝ }
+    ensures { λ r. ⌜ told at r ≡ fixed 4 (drop at (now (s .entry))) ⌝ }
+{
+    if s.len() - at < 4 {
+        return Found::Refused(1);
+    }
+    let value = four(s, at);
+    let next = at + 4;
+    Found::Value { value, next }
+}
+
+fn fixed64_at(s: &[u8], at: usize) -> Found
+    requires { ⌜ at ≤ length (now s) ⌝ }
+    ensures { λ r. ⌜ told at r ≡ fixed 8 (drop at (now (s .entry))) ⌝ }
+{
+    if s.len() - at < 8 {
+        return Found::Refused(1);
+    }
+    let low = four(s, at);
+    let high = four(s, at + 4);
+    let value = low + high * 4294967296;
+    let next = at + 8;
+    Found::Value { value, next }
+}
+
+// The pattern of a signed number of 32 bits.
+fn extended(v: u64) -> u64
+    requires { ⌜ v < 4294967296 ⌝ }
+    ensures { λ r. ⌜ r ≡ extend v ⌝ }
+{
+    if v < 0x8000_0000 {
+        v
+    } else {
+        v + 0xffff_ffff_0000_0000
+    }
+}
+
+fn sfixed32_at(s: &[u8], at: usize) -> Found
+    requires { ⌜ at ≤ length (now s) ⌝ }
+    ensures { λ r. ⌜ told at r ≡ meaning extend (fixed 4 (drop at (now (s .entry)))) ⌝ }
+{
+    if s.len() - at < 4 {
+        return Found::Refused(1);
+    }
+    let value = extended(four(s, at));
+    let next = at + 4;
+    Found::Value { value, next }
+}
+
+// ---- any of them
+
+// A value of a kind that is one number, and else refusal 3.
+pub fn scalar_at(s: &[u8], at: usize, kind: u64) -> Found
+    requires { ⌜ at ≤ length (now s) ⌝ }
+    ensures { λ r. ⌜ told at r ≡ scalarOf (shape kind) (drop at (now (s .entry))) ⌝ }
+{
+    match kind {
+        1 | 6 | 16 | 22 => fixed64_at(s, at),
+        2 | 7 | 24 => fixed32_at(s, at),
+        15 => sfixed32_at(s, at),
+        3 | 4 | 5 | 8 | 13 | 14 | 17 | 18 | 21 => int_at(s, at, kind),
+        _ => Found::Refused(3),
+    }
+}
