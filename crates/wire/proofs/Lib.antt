@@ -1,4 +1,6 @@
+pub mod FixedLaws
 pub mod FormatLaws
+pub mod FoundLaws
 pub mod Mask
 pub mod PackedLaws
 pub mod PutLaws
@@ -9,3 +11,4 @@ pub mod Upto
 pub mod ValueSizes
 pub mod VarintSteps
 pub mod VarintStores
+pub mod ZigzagLaws

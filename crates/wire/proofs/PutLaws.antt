@@ -3,10 +3,11 @@
 use Prim.Native.Nat.{ℕ, _+_, _≤_, _<_}
 use native.Mathlib.Omega.{arith}
 use mathlib.Core.Path.{_≡_, sym, ap, _∙_}
-use mathlib.Core.List.{List}
-use lib.ListN.{length}
+use mathlib.Core.List.{List, _++_}
+use lib.ListN.{length, drop}
 use lib.Seq.{sets, sets-eq}
 use borrow.Author.Tests.{le-leb, lt-leb}
+use Rattle.spec.specs.Base.{filled}
 use Rattle.wire.specs.Answers.{Stored}
 use Rattle.wire.specs.declared.put.Put.{Put}
 use Rattle.wire.specs.declared.put.Put.the-variants.{Next, NoRoom}
@@ -23,3 +24,9 @@ in-place {before} {bytes = bytes} {at} h e s =
 -- any two answers that the promise allows are equal, and so are the slices
 pub one-storing : {before bytes x y : List ℕ} {at : ℕ} {p q : Put} → Stored before at bytes x p → Stored before at bytes y q → (p ≡ q) × (x ≡ y)
 one-storing s t = (s .says ∙ sym (t .says), s .leaves ∙ sym (t .leaves))
+
+-- storing at the front
+pub at-front : (new room : List ℕ) → length new ≤ length room → sets room 0 new ≡ filled new room
+at-front new room h =
+    let here : 0 + length new ≡ length new = omega arith in
+    sets-eq new room 0 (omega arith) ∙ ap (λ (n : ℕ). new ++ drop n room) here

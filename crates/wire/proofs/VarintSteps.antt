@@ -1,21 +1,20 @@
 -- Reading a varint a byte at a time, at any width: what each byte makes of what was known, and the answer that it gives.
 -- Assumes nothing.
-use Prim.Native.Nat.{ℕ, zero, suc, _+_, _-_, _*_, _/_, _%_, _^_, _≤_, _<_}
+use Prim.Native.Nat.{ℕ, suc, _+_, _-_, _*_, _%_, _^_, _≤_, _<_}
 use native.Mathlib.Nat.{add-mul, mul-assoc, mul-comm, pow-suc, pow-le-pow-right, zero-lt-suc, mul-le-mul-right}
 use native.Mathlib.Numerals.{add-one}
 use native.Mathlib.Omega.{arith}
 use mathlib.Core.Path.{_≡_, refl, sym, ap, ap₂, _∙_, subst}
 use mathlib.Core.Bool.{Bool, true, false}
-use mathlib.Core.List.{List, [], _∷_}
+use mathlib.Core.List.{List}
 use lib.ListN.{length, getD, drop, drop-of-length-le}
 use lib.Seq.{drop-cons}
 use borrow.Author.Tests.{le-leb, lt-leb}
-use Rattle.spec.specs.Base.{if_then_else_, Read, Took, No, digit, meaning, longer}
+use Rattle.spec.specs.Base.{Read, Took, No, digit, meaning, longer}
 use Rattle.spec.specs.Varint.{varint}
 use Rattle.spec.proofs.VarintLaws.{varint-ends, varint-goes-on}
 use Rattle.wire.specs.Reached.{Reached, varintOf}
 use Rattle.wire.specs.Answers.{told}
-use Rattle.wire.specs.declared.found.Found.{Found}
 use Rattle.wire.specs.declared.found.Found.the-variants.{Value, Refused}
 
 -- a digit behind n bytes, and what is read behind it
@@ -66,7 +65,7 @@ module _ {more last : ℕ} {s : List ℕ} {at n value : ℕ} where
         let rest = varint left last (drop (at + (n + 1)) s) in
         let place : suc (at + n) ≡ at + (n + 1) = omega arith in
         let split : varint (suc left) last (drop (at + n) s) ≡ digit 128 (b % 128) rest =
-            rw (drop-cons s (at + n) 0 inside, place) (varint-goes-on left last b (drop (at + (n + 1)) s) big) in
+        rw (drop-cons s (at + n) 0 inside, place) (varint-goes-on left last b (drop (at + (n + 1)) s) big) in
         let group : b % 128 ≤ 127 = omega arith in
         record {
           same = h .same ∙ ap (λ (r : Read). longer n (meaning (λ v. value + v * 128 ^ n) r)) split ∙ passed n value (b % 128) rest;

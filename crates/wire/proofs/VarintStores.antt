@@ -1,14 +1,14 @@
 -- Storing the shortest varint a byte at a time: its two equations with no bound on the bytes in them, and what each store leaves to be done.
 -- Assumes nothing.
-use Prim.Native.Nat.{ℕ, zero, suc, _+_, _-_, _*_, _/_, _%_, _^_, _≤_, _<_}
+use Prim.Native.Nat.{ℕ, zero, suc, _+_, _/_, _%_, _^_, _≤_, _<_}
 use native.Mathlib.Nat.{pow-suc, one-le-pow, zero-lt-suc}
 use native.Mathlib.Numerals.{add-one}
 use native.Mathlib.Omega.{arith}
-use mathlib.Core.Path.{_≡_, refl, sym, ap, _∙_, subst}
+use mathlib.Core.Path.{_≡_, refl, sym, ap, _∙_}
 use mathlib.Core.List.{List, [], _∷_}
 use lib.ListN.{length, set, length-set}
 use lib.Seq.{sets}
-use Rattle.spec.specs.Varint.{shortest, encode, size}
+use Rattle.spec.specs.Varint.{shortest, encode}
 use Rattle.spec.proofs.VarintLaws.{lower-or-not, shortest-ends, shortest-goes-on}
 
 -- one byte more than is needed changes nothing
@@ -68,3 +68,11 @@ module _ {value : ℕ} {before : List ℕ} {at : ℕ} {out : List ℕ} {v i : �
   stored-last small e =
       let one = encode-ends v small in
       (omega (arith, ap length one), rw one at (h .same))
+
+-- k + 1 groups of seven bits take at most k + 1 bytes
+pub bytes-within : (k v : ℕ) → v < 128 ^ suc k → v < 2 ^ 64 → length (encode v) ≤ suc k
+bytes-within zero v h below = rw (encode-ends v h) (omega arith)
+bytes-within (suc k) v h below =
+    lower-or-not v 128
+    (λ c. rw (encode-ends v c) (omega arith))
+    (λ c. rw (encode-goes-on v c below) (omega (arith, bytes-within k (v / 128) (omega (arith, pow-suc 128 (suc k))) (omega arith))))

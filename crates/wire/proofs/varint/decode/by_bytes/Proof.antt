@@ -1,7 +1,7 @@
 -- `wire::varint::decode::by_bytes` meets its contract, at any width. The loop's invariant: n bytes are passed, and `scale` is what the next one counts.
 -- The measure is what is left of `more`.
 -- Assumes nothing.
-use Prim.Native.Nat.{ℕ, suc, _-_, _+_, _*_, _^_, _≤_, _<_}
+use Prim.Native.Nat.{ℕ, suc, _-_, _+_, _^_, _≤_}
 use native.Mathlib.Nat.{pow-suc}
 use native.Mathlib.Numerals.{add-one}
 use native.Mathlib.Omega.{arith}

@@ -11,10 +11,10 @@ cast-b4 : tie.Need-cast-b4
 cast-b4 c = omega (arith, c .shared-slice-known .given (c .before .args .at + 4))
 
 returns : tie.Need-returns
-returns c = refused-last (omega arith) (c .before .before .pre .1) (c .if1 .taken)
+returns c = refused-last (omega arith) (c .before .before .pre .1) (omega arith)
 
 returns-2 : tie.Need-returns-2
-returns-2 c = took-last (omega arith) (c .before .before .pre .1) (c .if1 .left)
+returns-2 c = took-last (omega arith) (c .before .before .pre .1) (omega arith)
 
 pub fifth-of-five-spec : {M : Type 1} → statement M
 fifth-of-five-spec =

@@ -28,13 +28,13 @@ returns-3 : tie.Need-returns-3
 returns-3 c =
     let eighth = c .before .before .before .before in
     let ninth = c .before .before in
-    refused-last (omega arith) (turned (omega arith) (turned (omega arith) (eighth .before .before .pre .1) (eighth .if1 .left)) (ninth .if2 .left)) (c .if3 .taken)
+    refused-last (omega arith) (turned (omega arith) (turned (omega arith) (eighth .before .before .pre .1) (eighth .if1 .left)) (ninth .if2 .left)) (omega arith)
 
 returns-4 : tie.Need-returns-4
 returns-4 c =
     let eighth = c .before .before .before .before in
     let ninth = c .before .before in
-    took-last (omega arith) (turned (omega arith) (turned (omega arith) (eighth .before .before .pre .1) (eighth .if1 .left)) (ninth .if2 .left)) (c .if3 .left)
+    took-last (omega arith) (turned (omega arith) (turned (omega arith) (eighth .before .before .pre .1) (eighth .if1 .left)) (ninth .if2 .left)) (omega arith)
 
 pub from-eighth-spec : {M : Type 1} → statement M
 from-eighth-spec =

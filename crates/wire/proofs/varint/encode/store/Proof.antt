@@ -83,7 +83,7 @@ whole : (c : tie.After-loop2 Inv-loop μ-loop Inv-loop2 μ-loop2)
 whole c = storing-on (c .before .before .before .loop .inv) (c .before .loop2 .inv)
 
 slice-write-out-7 : tie.Need-slice-write-out-7 Inv-loop μ-loop Inv-loop2 μ-loop2
-slice-write-out-7 c = omega (arith, whole (c .before) .room, ap length (encode-ends (c .before .before .loop2 .v) (c .if1 .taken)))
+slice-write-out-7 c = omega (arith, whole (c .before) .room, ap length (encode-ends (c .before .before .loop2 .v) (omega arith)))
 
 add-result : tie.Need-add-result Inv-loop μ-loop Inv-loop2 μ-loop2
 add-result c = omega (arith, slice-write-out-7 c)
@@ -92,11 +92,11 @@ same-length : tie.Need-same-length Inv-loop μ-loop Inv-loop2 μ-loop2
 same-length c = simp length-set (whole (c .before) .long)
 
 returns : tie.Need-returns Inv-loop μ-loop Inv-loop2 μ-loop2
-returns c = stored-last (whole (c .before)) (c .if1 .taken) refl
+returns c = stored-last (whole (c .before)) (omega arith) refl
 
 -- one byte, with one more behind it
 one : (c : tie.Else1 Inv-loop μ-loop Inv-loop2 μ-loop2) → c .before .before .loop2 .i + 1 < length (c .before .before .loop2 .out)
-one c = omega (arith, bytes-beyond 1 (c .before .before .loop2 .v) (c .if1 .left) (c .before .before .loop2 .inv .below))
+one c = omega (arith, bytes-beyond 1 (c .before .before .loop2 .v) (omega arith) (c .before .before .loop2 .inv .below))
 
 slice-write-out-8 : tie.Need-slice-write-out-8 Inv-loop μ-loop Inv-loop2 μ-loop2
 slice-write-out-8 c = omega (arith, one c)
@@ -114,7 +114,7 @@ same-length-2 : tie.Need-same-length-2 Inv-loop μ-loop Inv-loop2 μ-loop2
 same-length-2 c = simp length-set (whole (c .before) .long)
 
 returns-2 : tie.Need-returns-2 Inv-loop μ-loop Inv-loop2 μ-loop2
-returns-2 c = stored-last (stored-byte (whole (c .before)) (c .if1 .left) refl) (omega arith) (omega arith)
+returns-2 c = stored-last (stored-byte (whole (c .before)) (omega arith) refl) (omega arith) (omega arith)
 
 pub store-spec : {M : Type 1} → statement M
 store-spec =
