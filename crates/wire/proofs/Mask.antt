@@ -1,7 +1,7 @@
 -- Several bytes tested at once: where the word that they make has no bit in common with 80..80, each is below 128. One law over the width.
 -- Assumes nothing.
 use Prim.Native.Nat.{ℕ, zero, suc, _+_, _*_, _/_, _%_, _<_}
-use mathlib.Core.Path.{_≡_, refl, ap, sym, _∙_}
+use mathlib.Core.Path.{_≡_, ap, sym, _∙_}
 use mathlib.Core.List.{List}
 use native.Mathlib.Omega.{arith}
 use native.Mathlib.Nat.{add-zero, add-assoc, mod-eq-of-lt}
@@ -29,7 +29,7 @@ split : (n : ℕ) (s : List ℕ) (i : ℕ) → ((j : ℕ) → getD s j 0 < 256)
 unfolding word highs
 split n s i h = and-block 8 (word n s (i + 1)) (highs n) (getD s i 0) 128 (h i) (omega arith)
 
--- what a byte and its highest bit have in common
+-- a byte without its highest bit
 high : (b : ℕ) → b < 256 → bitAnd b 128 ≡ 0 → b < 128
 high b h e =
     let bit : b / 128 % 2 * 128 ≡ 0 = sym (and-high b 1 7) ∙ e in

@@ -4,14 +4,14 @@ use Prim.Native.Nat.{ℕ, zero, suc, _+_, _-_, _≤_, _<_}
 use native.Mathlib.Omega.{arith}
 use native.Mathlib.Numerals.{add-one}
 use mathlib.Core.Path.{_≡_, refl, sym, ap, _∙_}
-use mathlib.Core.Bool.{Bool, true, false, _&&_, and-true, and-false, and-eq-true-iff}
+use mathlib.Core.Bool.{Bool, true, false, and-true, and-false, and-eq-true-iff}
 use mathlib.Core.List.{List, [], _∷_}
 use lib.ListN.{length, drop, getD, length-drop}
-use lib.Seq.{drop-cons, drop-drop, drop-length, getD-drop}
+use lib.Seq.{drop-cons, drop-drop, getD-drop}
 use lib.Dec.{leb}
 use borrow.Author.Tests.{le-leb, lt-leb, leb-true}
 use Rattle.spec.specs.Base.{if_then_else_, between}
-use Rattle.spec.specs.Utf8.{Lead, Follow, NoLead, lead, followers, behind, char, validPrefix}
+use Rattle.spec.specs.Utf8.{Lead, Follow, NoLead, lead, followers, behind, char, validPrefix, utf8}
 use Rattle.spec.proofs.Utf8Laws.{char-le, valid-le, prefix-stop, prefix-step, prefix-ascii}
 use Rattle.wire.specs.Text.{Low, Passed}
 
@@ -26,7 +26,7 @@ pub above : (lo hi b : ℕ) → hi < b → between lo hi b ≡ false
 above lo hi b h = simp (lt-leb _ _ h) (and-false (leb lo b))
 
 -- the bytes end before the followers
-pub short : (n lo hi : ℕ) (s : List ℕ) → length s < n → followers n lo hi s ≡ false
+short : (n lo hi : ℕ) (s : List ℕ) → length s < n → followers n lo hi s ≡ false
 unfolding followers
 short zero lo hi s h = absurd (omega arith)
 short (suc n) lo hi [] h = refl
@@ -121,3 +121,10 @@ whole {s} {i} p h = omega (arith, valid-le (drop i s), length-drop i s, p .same)
 
 pub stopped : {s : List ℕ} {i : ℕ} → Passed s 0 i → 0 ≡ char (drop i s) → i ≡ validPrefix s
 stopped {s} {i} p e = omega (arith, prefix-stop (drop i s) (sym e), p .same)
+
+-- each promise allows one answer
+pub one-prefix : (s : List ℕ) {x y : ℕ} → x ≡ validPrefix s → y ≡ validPrefix s → x ≡ y
+one-prefix s p q = p ∙ sym q
+
+pub one-verdict : (s : List ℕ) {x y : Bool} → x ≡ utf8 s → y ≡ utf8 s → x ≡ y
+one-verdict s p q = p ∙ sym q

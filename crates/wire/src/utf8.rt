@@ -2,7 +2,7 @@
 ghost use mathlib.Core.Path.{_≡_};
 ghost use mathlib.Core.Bool.{true};
 ghost use Prim.Native.Nat.{_+_, _<_, _≤_};
-ghost use lib.ListN.{length, drop, getD};
+ghost use lib.ListN.{length, drop};
 ghost use Rattle.spec.specs.Base.{between};
 ghost use Rattle.spec.specs.Utf8.{lead, followers, char, validPrefix, utf8};
 ghost use Rattle.wire.specs.Text.{leadOf, countOf, word, Low, Passed};
@@ -40,7 +40,7 @@ fn ascii8(s: &[u8], i: usize) -> bool
     ensures { λ r. ⌜ (r ≡ true → Low 8 (now (s .entry)) i) ⌝ }
 {
     let w = eight(s, i);
-    w & 9259542123273814144 == 0
+    w & 0x8080808080808080 == 0
 }
 
 // Past the last bytes, at most eight, if they are ASCII. Fewer than eight are looked at together with those before them.
@@ -88,7 +88,7 @@ fn ascii_run(s: &[u8], i: usize) -> usize
 {
     let mut j = ascii_words(s, i);
     while j < s.len() {
-        if 128 <= s[j] {
+        if 0x80 <= s[j] {
             return j;
         }
         j += 1;
@@ -112,10 +112,10 @@ fn pair_run(s: &[u8], i: usize) -> usize
 {
     let mut j = i;
     while 2 <= s.len() - j {
-        if !within(s[j], 194, 223) {
+        if !within(s[j], 0xc2, 0xdf) {
             return j;
         }
-        if !within(s[j + 1], 128, 191) {
+        if !within(s[j + 1], 0x80, 0xbf) {
             return j;
         }
         j += 2;
@@ -137,7 +137,7 @@ fn same_run(s: &[u8], i: usize, n: usize) -> usize
 
 // What a lead byte says: how many bytes follow, and the bounds of the first of them; or that it is none.
 enum Lead {
-    Follow { count: usize, low: u8, high: u8 },
+    Follow(usize, u8, u8),
     NoLead,
 }
 
@@ -145,14 +145,14 @@ fn lead_of(b: u8) -> Lead
     ensures { λ r. ⌜ (leadOf r ≡ lead b) × (countOf r ≤ 3) ⌝ }
 {
     match b {
-        0..=127 => Lead::Follow { count: 0, low: 128, high: 191 },
-        194..=223 => Lead::Follow { count: 1, low: 128, high: 191 },
-        224 => Lead::Follow { count: 2, low: 160, high: 191 },
-        225..=236 | 238..=239 => Lead::Follow { count: 2, low: 128, high: 191 },
-        237 => Lead::Follow { count: 2, low: 128, high: 159 },
-        240 => Lead::Follow { count: 3, low: 144, high: 191 },
-        241..=243 => Lead::Follow { count: 3, low: 128, high: 191 },
-        244 => Lead::Follow { count: 3, low: 128, high: 143 },
+        0x00..=0x7f => Lead::Follow(0, 0x80, 0xbf),
+        0xc2..=0xdf => Lead::Follow(1, 0x80, 0xbf),
+        0xe0 => Lead::Follow(2, 0xa0, 0xbf),
+        0xe1..=0xec | 0xee..=0xef => Lead::Follow(2, 0x80, 0xbf),
+        0xed => Lead::Follow(2, 0x80, 0x9f),
+        0xf0 => Lead::Follow(3, 0x90, 0xbf),
+        0xf1..=0xf3 => Lead::Follow(3, 0x80, 0xbf),
+        0xf4 => Lead::Follow(3, 0x80, 0x8f),
         _ => Lead::NoLead,
     }
 }
@@ -176,7 +176,7 @@ fn two(s: &[u8], at: usize, low: u8, high: u8) -> bool
     if !within(s[at], low, high) {
         return false;
     }
-    within(s[at + 1], 128, 191)
+    within(s[at + 1], 0x80, 0xbf)
 }
 
 fn three(s: &[u8], at: usize, low: u8, high: u8) -> bool
@@ -189,10 +189,10 @@ fn three(s: &[u8], at: usize, low: u8, high: u8) -> bool
     if !within(s[at], low, high) {
         return false;
     }
-    if !within(s[at + 1], 128, 191) {
+    if !within(s[at + 1], 0x80, 0xbf) {
         return false;
     }
-    within(s[at + 2], 128, 191)
+    within(s[at + 2], 0x80, 0xbf)
 }
 
 // Whether the bytes that a lead byte asks for stand from `at` on, a branch for each count.
@@ -214,7 +214,7 @@ fn char_at(s: &[u8], at: usize) -> usize
     ensures { λ r. ⌜ r ≡ char (drop at (now (s .entry))) ⌝ }
 {
     match lead_of(s[at]) {
-        Lead::Follow { count, low, high } => {
+        Lead::Follow(count, low, high) => {
             if follows(s, at + 1, count, low, high) {
                 count + 1
             } else {

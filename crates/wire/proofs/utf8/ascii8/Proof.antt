@@ -1,8 +1,7 @@
 -- `wire::utf8::ascii8` meets its contract: the number is the mask of eight bytes.
 -- Assumes nothing.
-use Prim.Native.Nat.{ℕ}
 use native.Mathlib.Omega.{arith}
-use mathlib.Core.Path.{_≡_, sym, ap, _∙_}
+use mathlib.Core.Path.{_≡_}
 use borrow.Author.Needs.{needs}
 use borrow.Author.Tests.{eqb-true}
 use denote.Ref.{now}

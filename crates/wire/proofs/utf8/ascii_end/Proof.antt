@@ -1,6 +1,5 @@
 -- `wire::utf8::ascii_end` meets its contract.
 -- Assumes nothing.
-use native.Mathlib.Omega.{arith}
 use borrow.Author.Needs.{needs}
 use denote.Ref.{now}
 use Rattle.wire.proofs.Text.{stay, ascii-last}

@@ -18,12 +18,12 @@ add-result c = let few = rw (c .before .before .before .count .given .1) at (c .
 returns : tie.Need-returns
 returns c =
     let a = c .before .before .before .before .before .before .before .before .args in
-    stands (now (a .s)) (a .at) (omega arith) (sym (c .before .before .before .before .before .lead-of .ensures .0) ∙ ap leadOf (c .before .before .before .count .given .1)) (sym (c .before .follows .ensures) ∙ c .if1 .taken)
+    stands (now (a .s)) (a .at) (omega arith) (sym (c .before .before .before .before .before .lead-of .ensures .0) ∙ ap leadOf (c .before .before .before .count .given .1)) (rw (c .before .follows .ensures) at (c .if1 .taken))
 
 returns-2 : tie.Need-returns-2
 returns-2 c =
     let a = c .before .before .before .before .before .before .before .before .args in
-    broken (now (a .s)) (a .at) (omega arith) (sym (c .before .before .before .before .before .lead-of .ensures .0) ∙ ap leadOf (c .before .before .before .count .given .1)) (sym (c .before .follows .ensures) ∙ c .if1 .left)
+    broken (now (a .s)) (a .at) (omega arith) (sym (c .before .before .before .before .before .lead-of .ensures .0) ∙ ap leadOf (c .before .before .before .count .given .1)) (rw (c .before .follows .ensures) at (c .if1 .left))
 
 returns-3 : tie.Need-returns-3
 returns-3 c = let a = c .before .before .before .before .before .args in no-lead (now (a .s)) (a .at) (omega arith) (sym (c .before .before .lead-of .ensures .0) ∙ ap leadOf (c .enum-told .given .1))

@@ -8,7 +8,6 @@ use Rattle.wire.proofs.utf8.eight.Statement.{statement}
 use Rattle.wire.proofs.utf8.eight.Tie as tie
 
 returns : tie.Need-returns
-
 returns c = let a = c .before .before .before .args in omega (arith, word-eight (now (a .s)) (a .i))
 
 pub eight-spec : {M : Type 1} → statement M

@@ -8,7 +8,6 @@ use Rattle.wire.proofs.utf8.four.Statement.{statement}
 use Rattle.wire.proofs.utf8.four.Tie as tie
 
 returns : tie.Need-returns
-
 returns c = let a = c .before .before .before .before .before .before .before .before .before .args in (omega (arith, word-four (now (a .s)) (a .i)), omega arith)
 
 pub four-spec : {M : Type 1} → statement M

@@ -15,28 +15,54 @@ module _ (b : ℕ) where
   unfolding lead
   threes l h p q =
       simp (lt-leb b 0x7f (omega arith), above 0xc2 0xdf b (omega arith), ne-eqb b 0xe0 p)
-      (elim (decLt b 237)
-      [ yes e ↦ simp (inside 0xe1 0xec b (omega arith) (omega arith))
-      | no e ↦ simp (above 0xe1 0xec b (omega arith), ne-eqb b 0xed q, inside 0xee 0xef b (omega arith) (omega arith))
+      (elim (decLt b 237) [
+        | yes e ↦ simp (inside 0xe1 0xec b (omega arith) (omega arith))
+        | no e ↦ simp (above 0xe1 0xec b (omega arith), ne-eqb b 0xed q, inside 0xee 0xef b (omega arith) (omega arith))
       ])
 
   fours : 240 ≤ b → b < 244 → (b ≡ 240 → ⊥) → Follow 3 0x80 0xbf ≡ lead b
   unfolding lead
   fours l h p =
-      simp (lt-leb b 0x7f (omega arith), above 0xc2 0xdf b (omega arith), ne-eqb b 0xe0 (λ e. omega arith), above 0xe1 0xec b (omega arith),
-      ne-eqb b 0xed (λ e. omega arith), above 0xee 0xef b (omega arith), ne-eqb b 0xf0 p, inside 0xf1 0xf3 b (omega arith) (omega arith))
+      simp (
+        lt-leb b 0x7f (omega arith),
+        above 0xc2 0xdf b (omega arith),
+        ne-eqb b 0xe0 (λ e. omega arith),
+        above 0xe1 0xec b (omega arith),
+        ne-eqb b 0xed (λ e. omega arith),
+        above 0xee 0xef b (omega arith),
+        ne-eqb b 0xf0 p,
+        inside 0xf1 0xf3 b (omega arith) (omega arith),
+      )
 
   under : 128 ≤ b → b < 194 → NoLead ≡ lead b
   unfolding lead
   under l h =
-      simp (lt-leb b 0x7f (omega arith), below 0xc2 0xdf b (omega arith), ne-eqb b 0xe0 (λ e. omega arith), below 0xe1 0xec b (omega arith),
-      ne-eqb b 0xed (λ e. omega arith), below 0xee 0xef b (omega arith), ne-eqb b 0xf0 (λ e. omega arith), below 0xf1 0xf3 b (omega arith), ne-eqb b 0xf4 (λ e. omega arith))
+      simp (
+        lt-leb b 0x7f (omega arith),
+        below 0xc2 0xdf b (omega arith),
+        ne-eqb b 0xe0 (λ e. omega arith),
+        below 0xe1 0xec b (omega arith),
+        ne-eqb b 0xed (λ e. omega arith),
+        below 0xee 0xef b (omega arith),
+        ne-eqb b 0xf0 (λ e. omega arith),
+        below 0xf1 0xf3 b (omega arith),
+        ne-eqb b 0xf4 (λ e. omega arith),
+      )
 
   over : 244 ≤ b → (b ≡ 244 → ⊥) → NoLead ≡ lead b
   unfolding lead
   over l p =
-      simp (lt-leb b 0x7f (omega arith), above 0xc2 0xdf b (omega arith), ne-eqb b 0xe0 (λ e. omega arith), above 0xe1 0xec b (omega arith),
-      ne-eqb b 0xed (λ e. omega arith), above 0xee 0xef b (omega arith), ne-eqb b 0xf0 (λ e. omega arith), above 0xf1 0xf3 b (omega arith), ne-eqb b 0xf4 p)
+      simp (
+        lt-leb b 0x7f (omega arith),
+        above 0xc2 0xdf b (omega arith),
+        ne-eqb b 0xe0 (λ e. omega arith),
+        above 0xe1 0xec b (omega arith),
+        ne-eqb b 0xed (λ e. omega arith),
+        above 0xee 0xef b (omega arith),
+        ne-eqb b 0xf0 (λ e. omega arith),
+        above 0xf1 0xf3 b (omega arith),
+        ne-eqb b 0xf4 p,
+      )
 
 -- the bytes whose first follower has bounds of its own
 returns : tie.Need-returns
