@@ -1,13 +1,14 @@
+pub mod Below
 pub mod FixedLaws
 pub mod FormatLaws
 pub mod FoundLaws
 pub mod Mask
+pub mod OneAnswer
 pub mod PackedLaws
 pub mod PutLaws
 pub mod Sums
 pub mod Text
 pub mod UnknownLaws
-pub mod Upto
 pub mod ValueSizes
 pub mod VarintSteps
 pub mod VarintStores

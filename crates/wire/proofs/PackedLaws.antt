@@ -1,5 +1,5 @@
 -- Laws of packed fields: the size from a content that was summed up and cut off, and from a count of values of one width. Assumes nothing.
-use Prim.Native.Nat.{ℕ, suc, _+_, _*_, _≤_, _<_}
+use Prim.Native.Nat.{ℕ, suc, _+_, _*_}
 use mathlib.Core.Path.{_≡_, refl, sym, ap, _∙_}
 use mathlib.Core.List.{List, [], _∷_, map, map-id}
 use native.Mathlib.Decide.{decLe}
@@ -8,12 +8,12 @@ use lib.Dec.{eqb}
 use lib.ListN.{length, length-map}
 use borrow.Author.Tests.{ne-eqb}
 use Rattle.spec.specs.Base.{if_then_else_, Read, Took, limit, limited}
-use Rattle.spec.specs.Varint.{size, tagSize}
+use Rattle.spec.specs.Varint.{tagSize}
 use Rattle.spec.specs.Kind.{shape}
 use Rattle.spec.specs.Sizes.{prefixedSize, valueSize, valuesSize, packedSize}
 use Rattle.wire.specs.SizeParts.{capped}
 use Rattle.wire.proofs.ValueSizes.{limited-same}
-use Rattle.wire.proofs.Sums.{each, each-same, mapped-each}
+use Rattle.wire.proofs.Sums.{each-same, mapped-each}
 
 -- a tag, a length and so many bytes
 abbrev pub field : ℕ → ℕ → Read

@@ -1,6 +1,6 @@
 -- A sum that is left as soon as it is above the limit, for any way to go on from one place to the next; and the sums over lists that it is used for.
 -- Assumes nothing.
-use Prim.Native.Nat.{ℕ, suc, _+_, _*_, _≤_, _<_, min}
+use Prim.Native.Nat.{ℕ, _+_, _*_, _≤_, _<_}
 use mathlib.Core.Path.{_≡_, refl, sym, ap, _∙_}
 use mathlib.Core.List.{List, [], _∷_, map, map-id}
 use native.Mathlib.Numerals.{add-one}

@@ -1,17 +1,17 @@
 -- Laws of unknown fields in a list of records: what a record takes, and the list as one record and the rest. Assumes nothing.
 use Prim.Native.Nat.{ℕ, zero, suc, _+_, _-_, _≤_, _<_}
-use mathlib.Core.Path.{_≡_, refl, sym, ap, ap₂, _∙_, subst}
-use mathlib.Core.Bool.{Bool, true, false}
+use mathlib.Core.Path.{_≡_, refl, ap, subst}
+use mathlib.Core.Bool.{false}
 use mathlib.Core.List.{List, [], _∷_}
 use native.Mathlib.Omega.{arith}
 use lib.Dec.{eqb}
 use lib.ListN.{length, drop, getD, length-drop}
 use lib.Seq.{getD-drop, drop-drop}
-use borrow.Author.Tests.{le-leb, lt-leb}
+use borrow.Author.Tests.{le-leb}
 use Rattle.spec.specs.Base.{if_then_else_, between}
 use Rattle.spec.specs.Varint.{tagSize}
 use Rattle.spec.specs.Kind.{shapes, shape}
-use Rattle.spec.specs.Record.{Record, row, loaded, broken, stride, recordsOf}
+use Rattle.spec.specs.Record.{Record, row, recordsOf}
 use Rattle.spec.specs.Sizes.{scalarSize, valueSize, bodySize, unknownsSize}
 use Rattle.spec.proofs.FlatLaws.{records-nil, records-broken, records-cons}
 
@@ -38,9 +38,12 @@ other-record d n k v a e h = simp h
 
 -- ---- the list, from a place on
 
+-- the record at a place
+abbrev pub recordAt : List ℕ → ℕ → Record
+recordAt ns i = row (getD (drop i ns) 0 0) (getD ns (i + 1) 0) (getD ns (i + 2) 0) (getD ns (i + 3) 0) (getD ns (i + 4) 0) (getD ns (i + 5) 0) 0
+
 pub unknown-step : (ns : List ℕ) (i : ℕ) → i + 6 ≤ length ns
-    → unknownsSize (recordsOf (drop i ns))
-    ≡ unknownsSize (row (getD (drop i ns) 0 0) (getD ns (i + 1) 0) (getD ns (i + 2) 0) (getD ns (i + 3) 0) (getD ns (i + 4) 0) (getD ns (i + 5) 0) 0 ∷ []) + unknownsSize (recordsOf (drop (i + 6) ns))
+    → unknownsSize (recordsOf (drop i ns)) ≡ unknownsSize (recordAt ns i ∷ []) + unknownsSize (recordsOf (drop (i + 6) ns))
 unfolding unknownsSize
 unknown-step ns i h =
     rw (records-cons (drop i ns) (omega (arith, length-drop i ns)))

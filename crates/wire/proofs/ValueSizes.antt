@@ -1,22 +1,22 @@
 -- Laws of the sizes of values: a varint takes at most ten bytes, the wire type of a kind says how its size is found, and cutting a part off above
 -- the limit does not change whether the whole is within it. Assumes nothing.
-use Prim.Native.Nat.{ℕ, zero, suc, _+_, _*_, _-_, _/_, _^_, _≤_, _<_, min, max}
+use Prim.Native.Nat.{ℕ, zero, suc, _+_, _*_, _/_, _^_, _≤_}
 use mathlib.Core.Path.{_≡_, refl, sym, ap, ap₂, _∙_}
 use mathlib.Core.Bool.{Bool, true, false}
 use native.Mathlib.Decide.{decLt, decLe}
 use native.Mathlib.Omega.{arith}
 use native.Mathlib.Nat.{pow-suc, one-le-pow, zero-lt-suc}
 use lib.Count.{leadingZeros}
-use lib.Dec.{eqb, leb}
+use lib.Dec.{eqb}
 use lib.ListN.{length, List·getD-eq-default}
 use borrow.Author.Tests.{le-leb, lt-leb}
 use Rattle.spec.specs.Base.{if_then_else_, between, limit, limited, Took}
 use Rattle.spec.specs.Varint.{size, tagSize, zigzag}
-use Rattle.spec.specs.Kind.{Scalar, int32, uint32, uint64, bool, sint32, sint64, fixed32, sfixed32, fixed64, Shape, one, other, string, bytes, message, packed, startGroup, endGroup, nothing, shapes, shape, wire}
+use Rattle.spec.specs.Kind.{int32, uint32, uint64, bool, sint32, sint64, fixed32, sfixed32, fixed64, Shape, one, other, string, bytes, message, packed, startGroup, endGroup, nothing, shapes, shape, wire}
 use Rattle.spec.specs.Sizes.{scalarSize, prefixedSize, valueSize, fieldSize}
 use Rattle.spec.proofs.KindLaws.{wireOne, wireOf, wire-shape}
 use Rattle.wire.specs.SizeParts.{capped, coded}
-use Rattle.wire.proofs.Upto.{equal-below}
+use Rattle.wire.proofs.Below.{equal-below}
 
 pub size-most : (v : ℕ) → size v ≤ 10
 unfolding size

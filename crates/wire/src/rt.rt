@@ -65,7 +65,8 @@ fn pattern(value: i64) -> u64
     ensures { λ r. ⌜ r ≡ ofZ w64 value ⌝ }
 {
     if value < 0 {
-        !(!value as u64)
+        let below = !value as u64;
+        0xffff_ffff_ffff_ffff - below
     } else {
         value as u64
     }

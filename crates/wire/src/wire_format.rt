@@ -130,18 +130,18 @@ impl Tag {
     }
 
     // The tag of a field number and a wire type's number.
-    pub fn make(field_number: u32, wire_type: u32) -> Tagged
-        ensures { λ r. ⌜ tagTold r ≡ makeTag «field_number» «wire_type» ⌝ }
+    pub fn make(number: u32, wire_type: u32) -> Tagged
+        ensures { λ r. ⌜ tagTold r ≡ makeTag number «wire_type» ⌝ }
     {
-        if field_number == 0 {
+        if number == 0 {
             return Tagged::BadTag;
         }
-        if FIELD_NUMBER_MAX < field_number {
+        if FIELD_NUMBER_MAX < number {
             return Tagged::BadTag;
         }
         match WireType::new(wire_type) {
             MaybeWireType::Known(known) => Tagged::Tag(Tag {
-                field_number,
+                field_number: number,
                 wire_type: known,
             }),
             MaybeWireType::Unknown => Tagged::BadTag,

@@ -4,7 +4,6 @@ ghost use mathlib.Core.List.{map};
 ghost use Prim.Native.Nat.{_+_, _*_, _^_, _<_};
 ghost use lib.Dec.{eqb};
 ghost use lib.Ieee.{binary32, binary64, toBits};
-ghost use lib.ListN.{length};
 ghost use mir.Syntax.{w64};
 ghost use mir.Val.{ofZ, boolByte};
 ghost use Rattle.spec.specs.Base.{if_then_else_, Took, limited};
@@ -29,7 +28,9 @@ fn packed_field(number: u32, count: usize, content: u64) -> Sized
     if count == 0 {
         return Sized::Size(0);
     }
-    check_message_size(tag_size(number) + prefixed_size(content))
+    let head = tag_size(number);
+    let body = prefixed_size(content);
+    check_message_size(head + body)
 }
 
 // The sum of the values' sizes, cut off above the limit: of patterns, and of numbers of each type. The sum is left as soon as it is above the limit.

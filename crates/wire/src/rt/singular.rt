@@ -65,7 +65,9 @@ pub fn sint64_size(number: u32, value: i64) -> u64
 pub fn field_size(kind: u32, number: u32, value: u64) -> Sized
     ensures { λ r. ⌜ sizeTold r ≡ fieldSize kind number value ⌝ }
 {
-    check_message_size(tag_size(number) + value_size(kind, value))
+    let head = tag_size(number);
+    let body = value_size(kind, value);
+    check_message_size(head + body)
 }
 
 pub fn bytes_size(number: u32, bytes: &[u8]) -> Sized

@@ -1,13 +1,9 @@
 -- `wire::rt::coded_of` meets its contract: the kinds 17 and 18 are those between them. Assumes nothing.
-use mathlib.Core.Path.{_∙_}
 use native.Mathlib.Omega.{arith}
 use borrow.Author.Needs.{needs}
 use borrow.Author.Tests.{le-leb, lt-leb}
 use Rattle.wire.proofs.rt.coded_of.Statement.{statement}
 use Rattle.wire.proofs.rt.coded_of.Tie as tie
-
-zigzag-of-requires : tie.Need-zigzag-of-requires
-zigzag-of-requires c κs = search needs
 
 returns : tie.Need-returns
 returns c =
@@ -21,4 +17,4 @@ returns-3 c =
     simp (le-leb 17 (c .before .before .args .kind) (omega arith), lt-leb (c .before .before .args .kind) 18 (omega arith))
 
 pub coded-of-spec : {M : Type 1} → statement M
-coded-of-spec = tie.close (tie.spec zigzag-of-requires returns returns-2 returns-3)
+coded-of-spec = tie.close (tie.spec (λ c κs. search needs) returns returns-2 returns-3)

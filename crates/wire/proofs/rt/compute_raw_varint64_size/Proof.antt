@@ -1,10 +1,8 @@
--- `wire::rt::compute_raw_varint64_size` meets its contract: its formula and the definition's agree at each of the 65 counts of bits.
+-- `wire::rt::compute_raw_varint64_size` meets its contract: its formula and the definition's agree at each count of bits up to 64.
 -- Assumes nothing.
-use Prim.Native.Nat.{ℕ, _+_, _*_, _-_, _/_, max}
 use native.Mathlib.Omega.{arith}
-use lib.Count.{leadingZeros, leading-le}
+use lib.Count.{leading-le}
 use Rattle.spec.specs.Varint.{size}
-use Rattle.wire.proofs.Upto.{equal-below}
 use Rattle.wire.proofs.rt.compute_raw_varint64_size.Statement.{statement}
 use Rattle.wire.proofs.rt.compute_raw_varint64_size.Tie as tie
 
@@ -19,8 +17,7 @@ sub-result c = omega (arith, leading-le 64 (c .args .value))
 
 returns : tie.Need-returns
 unfolding size
-returns c =
-    equal-below (λ n. (640 - 9 * n) / 64) (λ n. (max 1 (64 - n) + 6) / 7) 65 (leadingZeros 64 (c .args .value)) tt (omega (arith, leading-le 64 (c .args .value)))
+returns c = omega (arith, leading-le 64 (c .args .value))
 
 pub compute-raw-varint64-size-spec : {M : Type 1} → statement M
 compute-raw-varint64-size-spec = tie.close (tie.spec cast-zeros mul-result sub-result returns)

@@ -1,7 +1,7 @@
 -- `wire::rt::pattern` meets its contract: the bits of a negative number, each turned over, are a number that is not negative, and turned over again
 -- they are its pattern. Assumes nothing.
 use Prim.Native.Nat.{ℕ, suc, _-_, _^_, _<_}
-use mathlib.Core.Path.{_≡_, refl, sym, ap, _∙_}
+use mathlib.Core.Path.{_≡_, ap, _∙_}
 use mathlib.Core.Bool.{true, false}
 use native.Mathlib.Omega.{arith}
 use borrow.Author.Tests.{ltb-true}
@@ -31,15 +31,20 @@ below z f = ofZ-fits w64 z f .fits
 fits : (z : ℤ) (n : ℕ) → z ≡ pos n → n < 2 ^ 64 → T (nonNeg z) × Fits w64 (natAbs z)
 fits z n e h = rw e (tt, record { fits = h })
 
-cast-result : tie.Need-cast-result
-cast-result c =
+cast-below : tie.Need-cast-below
+cast-below c =
     let z : ℤ = c .before .args .value in
     fits (toZ w64 (2 ^ 64 - 1 - ofZ w64 z)) (2 ^ 64 - 1 - ofZ w64 z) (over z (c .before .fits .value) (c .if1 .taken)) (omega arith)
 
-cast-result-2 : tie.Need-cast-result-2
-cast-result-2 c =
+cast-result : tie.Need-cast-result
+cast-result c =
     let z : ℤ = c .before .args .value in
     fits (toZ w64 (ofZ w64 z)) (ofZ w64 z) (same z (c .before .fits .value) (c .if1 .left)) (below z (c .before .fits .value))
+
+sub-result : tie.Need-sub-result
+sub-result c =
+    let turned = ap natAbs (over (c .before .args .value) (c .before .fits .value) (c .if1 .taken)) in
+    omega arith
 
 returns : tie.Need-returns
 returns c = ap (λ (z : ℤ). 2 ^ 64 - 1 - natAbs z) (over (c .before .args .value) (c .before .fits .value) (c .if1 .taken)) ∙ omega (arith, below (c .before .args .value) (c .before .fits .value))
@@ -48,4 +53,4 @@ returns-2 : tie.Need-returns-2
 returns-2 c = ap natAbs (same (c .before .args .value) (c .before .fits .value) (c .if1 .left))
 
 pub pattern-spec : {M : Type 1} → statement M
-pattern-spec = tie.close (tie.spec cast-result cast-result-2 returns returns-2)
+pattern-spec = tie.close (tie.spec cast-below sub-result cast-result returns returns-2)

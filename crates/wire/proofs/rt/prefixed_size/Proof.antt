@@ -6,21 +6,12 @@ use Rattle.wire.proofs.ValueSizes.{size-most}
 use Rattle.wire.proofs.rt.prefixed_size.Statement.{statement}
 use Rattle.wire.proofs.rt.prefixed_size.Tie as tie
 
-add-result : tie.Need-add-result
-add-result c = search needs
-
 returns : tie.Need-returns
 unfolding prefixedSize
 returns c = omega arith
 
-compute-raw-varint64-size-requires : tie.Need-compute-raw-varint64-size-requires
-compute-raw-varint64-size-requires c κs = search needs
-
 add-whole : tie.Need-add-whole
 add-whole c = record { fits = omega (arith, size-most (c .before .before .args .length)) }
-
-add-result-2 : tie.Need-add-result-2
-add-result-2 c = search needs
 
 returns-2 : tie.Need-returns-2
 unfolding prefixedSize
@@ -34,10 +25,10 @@ pub prefixed-size-spec : {M : Type 1} → statement M
 prefixed-size-spec =
     tie.close
     (tie.spec
-    add-result
+    (λ c. search needs)
     returns
-    compute-raw-varint64-size-requires
+    (λ c κs. search needs)
     add-whole
-    add-result-2
+    (λ c. search needs)
     returns-2
     returns-3)

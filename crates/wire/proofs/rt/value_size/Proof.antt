@@ -1,7 +1,6 @@
 -- `wire::rt::value_size` meets its contract: the wire type of the kind says how the size is found. Assumes nothing.
 use Prim.Native.Nat.{ℕ}
-use mathlib.Core.Path.{_≡_, sym, ap, _∙_}
-use native.Mathlib.Omega.{arith}
+use mathlib.Core.Path.{sym, ap, _∙_}
 use borrow.Author.Needs.{needs}
 use borrow.Author.Tests.{ne-eqb}
 use Rattle.spec.specs.Varint.{size}
@@ -9,18 +8,6 @@ use Rattle.wire.specs.SizeParts.{capped}
 use Rattle.wire.proofs.ValueSizes.{value-by-wire, capped-varint}
 use Rattle.wire.proofs.rt.value_size.Statement.{statement}
 use Rattle.wire.proofs.rt.value_size.Tie as tie
-
-wire-of-requires : tie.Need-wire-of-requires
-wire-of-requires c κs = search needs
-
-coded-of-requires : tie.Need-coded-of-requires
-coded-of-requires c κs = search needs
-
-compute-raw-varint64-size-requires : tie.Need-compute-raw-varint64-size-requires
-compute-raw-varint64-size-requires c κs = search needs
-
-prefixed-size-requires : tie.Need-prefixed-size-requires
-prefixed-size-requires c κs = search needs
 
 returns : tie.Need-returns
 returns c =
@@ -53,10 +40,10 @@ pub value-size-spec : {M : Type 1} → statement M
 value-size-spec =
     tie.close
     (tie.spec
-    wire-of-requires
-    coded-of-requires
-    compute-raw-varint64-size-requires
-    prefixed-size-requires
+    (λ c κs. search needs)
+    (λ c κs. search needs)
+    (λ c κs. search needs)
+    (λ c κs. search needs)
     returns
     returns-2
     returns-3

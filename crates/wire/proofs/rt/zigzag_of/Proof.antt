@@ -7,18 +7,6 @@ use Rattle.spec.specs.Varint.{zigzag}
 use Rattle.wire.proofs.rt.zigzag_of.Statement.{statement}
 use Rattle.wire.proofs.rt.zigzag_of.Tie as tie
 
-mul-result : tie.Need-mul-result
-mul-result c = search needs
-
-sub-result : tie.Need-sub-result
-sub-result c = search needs
-
-mul-result-2 : tie.Need-mul-result-2
-mul-result-2 c = search needs
-
-add-result : tie.Need-add-result
-add-result c = search needs
-
 returns : tie.Need-returns
 unfolding zigzag
 returns c = simp (lt-ltb (c .before .args .pattern) (2 ^ 63) (omega arith)) (omega arith)
@@ -28,4 +16,4 @@ unfolding zigzag
 returns-2 c = simp (le-ltb (c .before .args .pattern) (2 ^ 63) (omega arith)) (omega arith)
 
 pub zigzag-of-spec : {M : Type 1} → statement M
-zigzag-of-spec = tie.close (tie.spec mul-result sub-result mul-result-2 add-result returns returns-2)
+zigzag-of-spec = tie.close (tie.spec (λ c. search needs) (λ c. search needs) (λ c. search needs) (λ c. search needs) returns returns-2)

@@ -5,22 +5,13 @@ use native.Mathlib.Omega.{arith}
 use borrow.Author.Needs.{needs}
 use lib.ListN.{length, getD, List·getD-eq-default}
 use Rattle.spec.specs.Kind.{kindWires, ownWires, wires, wire}
-use Rattle.wire.proofs.Upto.{equal-below}
+use Rattle.wire.proofs.Below.{equal-below}
 use Rattle.wire.proofs.wire_format.wire_of.Statement.{statement}
 use Rattle.wire.proofs.wire_format.wire_of.Tie as tie
-
-array-read-result : tie.Need-array-read-result
-array-read-result c = search needs
 
 returns : tie.Need-returns
 unfolding kindWires ownWires wires wire
 returns c = equal-below (λ k. getD kindWires k 0) wire 19 (c .before .args .kind) tt (omega arith)
-
-cast-result : tie.Need-cast-result
-cast-result c = search needs
-
-array-read-result-2 : tie.Need-array-read-result-2
-array-read-result-2 c = search needs
 
 returns-2 : tie.Need-returns-2
 unfolding kindWires ownWires wires wire
@@ -36,4 +27,4 @@ returns-3 c =
     sym (List·getD-eq-default wires 7 past)
 
 pub wire-of-spec : {M : Type 1} → statement M
-wire-of-spec = tie.close (tie.spec array-read-result returns cast-result array-read-result-2 returns-2 returns-3)
+wire-of-spec = tie.close (tie.spec (λ c. search needs) returns (λ c. search needs) (λ c. search needs) returns-2 returns-3)

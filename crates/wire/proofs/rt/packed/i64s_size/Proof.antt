@@ -26,18 +26,6 @@ abbrev μ-loop : tie.MeasureT-loop
 loop-holds : tie.Need-loop-holds Inv-loop μ-loop
 loop-holds c = start _
 
-mul-pattern : tie.Need-mul-pattern Inv-loop μ-loop
-mul-pattern c = search needs
-
-shared-slice-copy-out-pattern : tie.Need-shared-slice-copy-out-pattern Inv-loop μ-loop
-shared-slice-copy-out-pattern c = search needs
-
-pattern-requires : tie.Need-pattern-requires Inv-loop μ-loop
-pattern-requires c κs = search needs
-
-value-size-requires : tie.Need-value-size-requires Inv-loop μ-loop
-value-size-requires c κs = search needs
-
 -- what is added is the size of the element's pattern, cut off
 added : (c : tie.After-value-size Inv-loop μ-loop)
     → c .value-size .result
@@ -51,21 +39,12 @@ added c =
 add-sum : tie.Need-add-sum Inv-loop μ-loop
 add-sum c = record { fits = omega (arith, c .before .before .before .before .loop .inv .small) }
 
-add-result : tie.Need-add-result Inv-loop μ-loop
-add-result c = search needs
-
 returns : tie.Need-returns Inv-loop μ-loop
 returns c =
     let k : ℕ = c .before .before .before .before .before .before .args .kind in
     let vs : List ℤ = c .before .before .before .before .before .before .args .values .now in
     above (λ z. valueSize (shape k) (ofZ w64 z)) vs _ _ _ (pos 0) (c .before .before .before .before .before .loop .inv) (omega arith) (added (c .before)) (omega arith)
     ∙ ap capped (sym (mapped-each (shape k) (ofZ w64) vs))
-
-add-i : tie.Need-add-i Inv-loop μ-loop
-add-i c = search needs
-
-loop-less : tie.Need-loop-less Inv-loop μ-loop
-loop-less c = search needs
 
 loop-again : tie.Need-loop-again Inv-loop μ-loop
 loop-again c =
@@ -86,14 +65,14 @@ i64s-size-spec =
     Inv-loop
     μ-loop
     loop-holds
-    mul-pattern
-    shared-slice-copy-out-pattern
-    pattern-requires
-    value-size-requires
+    (λ c. search needs)
+    (λ c. search needs)
+    (λ c κs. search needs)
+    (λ c κs. search needs)
     add-sum
-    add-result
+    (λ c. search needs)
     returns
-    add-i
-    loop-less
+    (λ c. search needs)
+    (λ c. search needs)
     loop-again
     returns-2)

@@ -14,17 +14,8 @@ use Rattle.wire.proofs.rt.packed.packed_field.Tie as tie
 returns : tie.Need-returns
 returns c = simp (eq-eqb (c .before .args .count) 0 (c .if1 .taken))
 
-tag-size-requires : tie.Need-tag-size-requires
-tag-size-requires c κs = search needs
-
-prefixed-size-requires : tie.Need-prefixed-size-requires
-prefixed-size-requires c κs = search needs
-
 add-check-message-size : tie.Need-add-check-message-size
 add-check-message-size c = record { fits = omega (arith, size-most (c .before .before .before .args .number * 8)) }
-
-check-message-size-requires : tie.Need-check-message-size-requires
-check-message-size-requires c κs = search needs
 
 returns-2 : tie.Need-returns-2
 returns-2 c =
@@ -38,8 +29,8 @@ packed-field-spec =
     tie.close
     (tie.spec
     returns
-    tag-size-requires
-    prefixed-size-requires
+    (λ c κs. search needs)
+    (λ c κs. search needs)
     add-check-message-size
-    check-message-size-requires
+    (λ c κs. search needs)
     returns-2)

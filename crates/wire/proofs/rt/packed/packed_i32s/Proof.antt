@@ -7,16 +7,10 @@ use Rattle.wire.proofs.PackedLaws.{packed-mapped}
 use Rattle.wire.proofs.rt.packed.packed_i32s.Statement.{statement}
 use Rattle.wire.proofs.rt.packed.packed_i32s.Tie as tie
 
-i32s-size-requires : tie.Need-i32s-size-requires
-i32s-size-requires c κs = search needs
-
-packed-field-requires : tie.Need-packed-field-requires
-packed-field-requires c κs = search needs
-
 returns : tie.Need-returns
 returns c =
     c .packed-field .ensures
     ∙ packed-mapped (c .before .before .args .kind) (c .before .before .args .number) _ (ofZ w64) (c .before .before .args .values .now) (c .before .i32s-size .ensures)
 
 pub packed-i32s-spec : {M : Type 1} → statement M
-packed-i32s-spec = tie.close (tie.spec i32s-size-requires packed-field-requires returns)
+packed-i32s-spec = tie.close (tie.spec (λ c κs. search needs) (λ c κs. search needs) returns)

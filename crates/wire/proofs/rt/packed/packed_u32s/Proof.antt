@@ -5,16 +5,10 @@ use Rattle.wire.proofs.PackedLaws.{packed-cut}
 use Rattle.wire.proofs.rt.packed.packed_u32s.Statement.{statement}
 use Rattle.wire.proofs.rt.packed.packed_u32s.Tie as tie
 
-u32s-size-requires : tie.Need-u32s-size-requires
-u32s-size-requires c κs = search needs
-
-packed-field-requires : tie.Need-packed-field-requires
-packed-field-requires c κs = search needs
-
 returns : tie.Need-returns
 returns c =
     c .packed-field .ensures
     ∙ packed-cut (c .before .before .before .args .kind) (c .before .before .before .args .number) _ (c .before .before .before .args .values .now) (c .before .u32s-size .ensures)
 
 pub packed-u32s-spec : {M : Type 1} → statement M
-packed-u32s-spec = tie.close (tie.spec u32s-size-requires packed-field-requires returns)
+packed-u32s-spec = tie.close (tie.spec (λ c κs. search needs) (λ c κs. search needs) returns)

@@ -22,20 +22,8 @@ abbrev μ-loop : tie.MeasureT-loop
 loop-holds : tie.Need-loop-holds Inv-loop μ-loop
 loop-holds c = start _
 
-mul-value-size : tie.Need-mul-value-size Inv-loop μ-loop
-mul-value-size c = search needs
-
-shared-slice-read-value-size : tie.Need-shared-slice-read-value-size Inv-loop μ-loop
-shared-slice-read-value-size c = search needs
-
-value-size-requires : tie.Need-value-size-requires Inv-loop μ-loop
-value-size-requires c κs = search needs
-
 add-sum : tie.Need-add-sum Inv-loop μ-loop
 add-sum c = record { fits = omega (arith, c .before .before .before .loop .inv .small) }
-
-add-result : tie.Need-add-result Inv-loop μ-loop
-add-result c = search needs
 
 returns : tie.Need-returns Inv-loop μ-loop
 returns c =
@@ -43,12 +31,6 @@ returns c =
     let vs : List ℕ = c .before .before .before .before .before .before .args .values .now in
     above (valueSize (shape k)) vs _ _ _ 0 (c .before .before .before .before .loop .inv) (omega arith) (c .before .value-size .ensures) (omega arith)
     ∙ ap capped (sym (values-each (shape k) vs))
-
-add-i : tie.Need-add-i Inv-loop μ-loop
-add-i c = search needs
-
-loop-less : tie.Need-loop-less Inv-loop μ-loop
-loop-less c = search needs
 
 loop-again : tie.Need-loop-again Inv-loop μ-loop
 loop-again c =
@@ -69,13 +51,13 @@ patterns-size-spec =
     Inv-loop
     μ-loop
     loop-holds
-    mul-value-size
-    shared-slice-read-value-size
-    value-size-requires
+    (λ c. search needs)
+    (λ c. search needs)
+    (λ c κs. search needs)
     add-sum
-    add-result
+    (λ c. search needs)
     returns
-    add-i
-    loop-less
+    (λ c. search needs)
+    (λ c. search needs)
     loop-again
     returns-2)

@@ -16,11 +16,8 @@ unfolding shapes shape scalarSize valueSize size leadingZeros
 one-byte true = refl
 one-byte false = refl
 
-packed-fixed-requires : tie.Need-packed-fixed-requires
-packed-fixed-requires c κs = search needs
-
 returns : tie.Need-returns
 returns c = c .packed-fixed .ensures ∙ packed-same 8 (c .before .before .args .number) 1 boolByte one-byte (c .before .before .args .values .now)
 
 pub vec-packed-bool-size-spec : {M : Type 1} → statement M
-vec-packed-bool-size-spec = tie.close (tie.spec packed-fixed-requires returns)
+vec-packed-bool-size-spec = tie.close (tie.spec (λ c κs. search needs) returns)

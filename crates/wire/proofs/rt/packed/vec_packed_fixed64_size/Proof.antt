@@ -7,12 +7,9 @@ use Rattle.wire.proofs.PackedLaws.{packed-same-plain}
 use Rattle.wire.proofs.rt.packed.vec_packed_fixed64_size.Statement.{statement}
 use Rattle.wire.proofs.rt.packed.vec_packed_fixed64_size.Tie as tie
 
-packed-fixed-requires : tie.Need-packed-fixed-requires
-packed-fixed-requires c κs = search needs
-
 returns : tie.Need-returns
 unfolding shapes shape scalarSize valueSize
 returns c = c .packed-fixed .ensures ∙ packed-same-plain 6 (c .before .before .args .number) 8 (λ v. refl) (c .before .before .args .values .now)
 
 pub vec-packed-fixed64-size-spec : {M : Type 1} → statement M
-vec-packed-fixed64-size-spec = tie.close (tie.spec packed-fixed-requires returns)
+vec-packed-fixed64-size-spec = tie.close (tie.spec (λ c κs. search needs) returns)

@@ -8,12 +8,9 @@ use Rattle.wire.proofs.PackedLaws.{packed-same}
 use Rattle.wire.proofs.rt.packed.vec_packed_float_size.Statement.{statement}
 use Rattle.wire.proofs.rt.packed.vec_packed_float_size.Tie as tie
 
-packed-fixed-requires : tie.Need-packed-fixed-requires
-packed-fixed-requires c κs = search needs
-
 returns : tie.Need-returns
 unfolding shapes shape scalarSize valueSize
 returns c = c .packed-fixed .ensures ∙ packed-same 2 (c .before .before .args .number) 4 (toBits binary32) (λ v. refl) (c .before .before .args .values .now)
 
 pub vec-packed-float-size-spec : {M : Type 1} → statement M
-vec-packed-float-size-spec = tie.close (tie.spec packed-fixed-requires returns)
+vec-packed-float-size-spec = tie.close (tie.spec (λ c κs. search needs) returns)

@@ -9,12 +9,9 @@ use Rattle.wire.proofs.PackedLaws.{packed-same}
 use Rattle.wire.proofs.rt.packed.vec_packed_sfixed64_size.Statement.{statement}
 use Rattle.wire.proofs.rt.packed.vec_packed_sfixed64_size.Tie as tie
 
-packed-fixed-requires : tie.Need-packed-fixed-requires
-packed-fixed-requires c κs = search needs
-
 returns : tie.Need-returns
 unfolding shapes shape scalarSize valueSize
 returns c = c .packed-fixed .ensures ∙ packed-same 16 (c .before .args .number) 8 (ofZ w64) (λ v. refl) (c .before .args .values .now)
 
 pub vec-packed-sfixed64-size-spec : {M : Type 1} → statement M
-vec-packed-sfixed64-size-spec = tie.close (tie.spec packed-fixed-requires returns)
+vec-packed-sfixed64-size-spec = tie.close (tie.spec (λ c κs. search needs) returns)

@@ -12,12 +12,6 @@ use Rattle.wire.proofs.ValueSizes.{number-field}
 use Rattle.wire.proofs.rt.singular.int64_size.Statement.{statement}
 use Rattle.wire.proofs.rt.singular.int64_size.Tie as tie
 
-pattern-requires : tie.Need-pattern-requires
-pattern-requires c κs = search needs
-
-varint-size-requires : tie.Need-varint-size-requires
-varint-size-requires c κs = search needs
-
 returns : tie.Need-returns
 unfolding shapes shape scalarSize valueSize
 returns c =
@@ -25,4 +19,4 @@ returns c =
     number-field 3 (c .before .before .args .number) (ofZ w64 (c .before .before .args .value)) _ _ (c .varint-size .ensures) (ap size (sym is))
 
 pub int64-size-spec : {M : Type 1} → statement M
-int64-size-spec = tie.close (tie.spec pattern-requires varint-size-requires returns)
+int64-size-spec = tie.close (tie.spec (λ c κs. search needs) (λ c κs. search needs) returns)

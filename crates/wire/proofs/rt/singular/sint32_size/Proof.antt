@@ -12,15 +12,6 @@ use Rattle.wire.proofs.ValueSizes.{number-field}
 use Rattle.wire.proofs.rt.singular.sint32_size.Statement.{statement}
 use Rattle.wire.proofs.rt.singular.sint32_size.Tie as tie
 
-pattern32-requires : tie.Need-pattern32-requires
-pattern32-requires c κs = search needs
-
-zigzag-of-requires : tie.Need-zigzag-of-requires
-zigzag-of-requires c κs = search needs
-
-varint-size-requires : tie.Need-varint-size-requires
-varint-size-requires c κs = search needs
-
 returns : tie.Need-returns
 unfolding shapes shape scalarSize valueSize
 returns c =
@@ -28,4 +19,4 @@ returns c =
     number-field 17 (c .before .before .before .args .number) (ofZ w64 (c .before .before .before .args .value)) _ _ (c .varint-size .ensures) (ap size (sym (c .before .zigzag-of .ensures ∙ ap zigzag is)))
 
 pub sint32-size-spec : {M : Type 1} → statement M
-sint32-size-spec = tie.close (tie.spec pattern32-requires zigzag-of-requires varint-size-requires returns)
+sint32-size-spec = tie.close (tie.spec (λ c κs. search needs) (λ c κs. search needs) (λ c κs. search needs) returns)

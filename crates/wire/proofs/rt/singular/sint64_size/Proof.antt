@@ -12,15 +12,6 @@ use Rattle.wire.proofs.ValueSizes.{number-field}
 use Rattle.wire.proofs.rt.singular.sint64_size.Statement.{statement}
 use Rattle.wire.proofs.rt.singular.sint64_size.Tie as tie
 
-pattern-requires : tie.Need-pattern-requires
-pattern-requires c κs = search needs
-
-zigzag-of-requires : tie.Need-zigzag-of-requires
-zigzag-of-requires c κs = search needs
-
-varint-size-requires : tie.Need-varint-size-requires
-varint-size-requires c κs = search needs
-
 returns : tie.Need-returns
 unfolding shapes shape scalarSize valueSize
 returns c =
@@ -28,4 +19,4 @@ returns c =
     number-field 18 (c .before .before .before .args .number) (ofZ w64 (c .before .before .before .args .value)) _ _ (c .varint-size .ensures) (ap size (sym (c .before .zigzag-of .ensures ∙ ap zigzag is)))
 
 pub sint64-size-spec : {M : Type 1} → statement M
-sint64-size-spec = tie.close (tie.spec pattern-requires zigzag-of-requires varint-size-requires returns)
+sint64-size-spec = tie.close (tie.spec (λ c κs. search needs) (λ c κs. search needs) (λ c κs. search needs) returns)

@@ -8,12 +8,9 @@ use Rattle.wire.proofs.ValueSizes.{number-field}
 use Rattle.wire.proofs.rt.singular.uint32_size.Statement.{statement}
 use Rattle.wire.proofs.rt.singular.uint32_size.Tie as tie
 
-varint-size-requires : tie.Need-varint-size-requires
-varint-size-requires c κs = search needs
-
 returns : tie.Need-returns
 unfolding shapes shape scalarSize valueSize
 returns c = number-field 13 (c .before .args .number) (c .before .args .value) _ _ (c .varint-size .ensures) refl
 
 pub uint32-size-spec : {M : Type 1} → statement M
-uint32-size-spec = tie.close (tie.spec varint-size-requires returns)
+uint32-size-spec = tie.close (tie.spec (λ c κs. search needs) returns)

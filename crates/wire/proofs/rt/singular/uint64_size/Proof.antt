@@ -8,12 +8,9 @@ use Rattle.wire.proofs.ValueSizes.{number-field}
 use Rattle.wire.proofs.rt.singular.uint64_size.Statement.{statement}
 use Rattle.wire.proofs.rt.singular.uint64_size.Tie as tie
 
-varint-size-requires : tie.Need-varint-size-requires
-varint-size-requires c κs = search needs
-
 returns : tie.Need-returns
 unfolding shapes shape scalarSize valueSize
 returns c = number-field 4 (c .before .args .number) (c .before .args .value) _ _ (c .varint-size .ensures) refl
 
 pub uint64-size-spec : {M : Type 1} → statement M
-uint64-size-spec = tie.close (tie.spec varint-size-requires returns)
+uint64-size-spec = tie.close (tie.spec (λ c κs. search needs) returns)

@@ -1,5 +1,5 @@
 -- `wire::rt::unknown_or_group::record_size` meets its contract: the kinds 21 to 24 count, and no other. Assumes nothing.
-use Prim.Native.Nat.{ℕ, _+_, _-_, _*_}
+use Prim.Native.Nat.{ℕ, _-_, _*_}
 use mathlib.Core.Path.{_≡_, sym, ap, _∙_}
 use mathlib.Core.Bool.{false}
 use native.Mathlib.Omega.{arith}
@@ -7,7 +7,6 @@ use borrow.Author.Needs.{needs}
 use borrow.Author.Tests.{le-leb, lt-leb}
 use lib.Dec.{eqb}
 use Rattle.spec.specs.Base.{if_then_else_, between}
-use Rattle.spec.specs.Varint.{tagSize}
 use Rattle.spec.specs.Kind.{shape}
 use Rattle.spec.specs.Sizes.{valueSize}
 use Rattle.wire.specs.SizeParts.{capped}

@@ -1,19 +1,19 @@
 -- `wire::rt::unknown_or_group::unknown_fields_size` meets its contract. The loop's invariant: what is summed up and what is left are the whole.
 -- Assumes nothing.
 use Prim.Native.Nat.{ℕ, _+_, _-_, _≤_}
-use mathlib.Core.Path.{_≡_, sym, ap, _∙_}
+use mathlib.Core.Path.{_≡_}
 use mathlib.Core.List.{List, [], _∷_}
 use native.Mathlib.Omega.{arith}
 use borrow.Author.Needs.{needs}
 use borrow.Author.Tests.{le-leb}
-use lib.ListN.{length, drop, getD}
+use lib.ListN.{length, drop}
 use Rattle.spec.specs.Base.{limit, limited}
-use Rattle.spec.specs.Record.{Record, row, recordsOf}
+use Rattle.spec.specs.Record.{recordsOf}
 use Rattle.spec.specs.Sizes.{unknownsSize, unknownFieldsSize}
 use Rattle.wire.specs.SizeParts.{capped}
 use Rattle.wire.proofs.Sums.{Summed, start, more, over, done}
 use Rattle.wire.proofs.ValueSizes.{limited-same}
-use Rattle.wire.proofs.UnknownLaws.{unknown-step, unknown-end}
+use Rattle.wire.proofs.UnknownLaws.{recordAt, unknown-step, unknown-end}
 use Rattle.wire.proofs.rt.unknown_or_group.unknown_fields_size.Statement.{statement}
 use Rattle.wire.proofs.rt.unknown_or_group.unknown_fields_size.Tie as tie
 
@@ -23,15 +23,8 @@ Inv-loop records sum₀ i₀ sum i = (i ≤ length records) × Summed (λ k. unk
 abbrev μ-loop : tie.MeasureT-loop
 μ-loop records sum₀ i₀ sum i = length records - i
 
--- the record at a place
-abbrev at : List ℕ → ℕ → Record
-at ns i = row (getD (drop i ns) 0 0) (getD ns (i + 1) 0) (getD ns (i + 2) 0) (getD ns (i + 3) 0) (getD ns (i + 4) 0) (getD ns (i + 5) 0) 0
-
 loop-holds : tie.Need-loop-holds Inv-loop μ-loop
 loop-holds c = (omega arith, start _)
-
-add-loop : tie.Need-add-loop Inv-loop μ-loop
-add-loop c = search needs
 
 add-sum : tie.Need-add-sum Inv-loop μ-loop
 add-sum c = record { fits = omega (arith, c .before .before .before .before .before .before .before .loop .inv .1 .small, c .record-size .ensures .1) }
@@ -41,7 +34,7 @@ unfolding unknownFieldsSize limited
 returns c =
     let ns : List ℕ = c .before .before .before .before .before .before .before .before .before .before .args .records .now in
     let i : ℕ = c .before .before .before .before .before .before .before .before .loop .i in
-    let e : ℕ = unknownsSize (at ns i ∷ []) in
+    let e : ℕ = unknownsSize (recordAt ns i ∷ []) in
     let high : 2147483648 ≡ capped (unknownsSize (recordsOf ns)) = over (i + 6) e (c .before .record-size .result) (c .before .before .before .before .before .before .before .before .loop .inv .1) (unknown-step ns i (omega arith)) (c .before .record-size .ensures .0 _) (omega arith) in
     limited-same 2147483648 (unknownsSize (recordsOf ns)) (omega arith)
 
@@ -49,7 +42,7 @@ loop-again : tie.Need-loop-again Inv-loop μ-loop
 loop-again c =
     let ns : List ℕ = c .before .before .before .before .before .before .before .before .before .before .args .records .now in
     let i : ℕ = c .before .before .before .before .before .before .before .before .loop .i in
-    let e : ℕ = unknownsSize (at ns i ∷ []) in
+    let e : ℕ = unknownsSize (recordAt ns i ∷ []) in
     (omega arith, more (i + 6) e (c .before .record-size .result) (c .before .before .before .before .before .before .before .before .loop .inv .1) (unknown-step ns i (omega arith)) (c .before .record-size .ensures .0 _) (omega arith))
 
 returns-2 : tie.Need-returns-2 Inv-loop μ-loop
@@ -67,7 +60,7 @@ unknown-fields-size-spec =
     Inv-loop
     μ-loop
     loop-holds
-    add-loop
+    (λ c. search needs)
     (λ c. search needs)
     (λ c. search needs)
     (λ c. search needs)

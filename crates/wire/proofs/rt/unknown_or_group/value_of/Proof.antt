@@ -1,6 +1,5 @@
 -- `wire::rt::unknown_or_group::value_of` meets its contract: a content that ends before it starts has no length. Assumes nothing.
 use native.Mathlib.Omega.{arith}
-use borrow.Author.Needs.{needs}
 use borrow.Author.Tests.{eq-eqb, ne-eqb}
 use Rattle.wire.proofs.rt.unknown_or_group.value_of.Statement.{statement}
 use Rattle.wire.proofs.rt.unknown_or_group.value_of.Tie as tie

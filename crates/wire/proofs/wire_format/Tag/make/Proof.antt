@@ -1,6 +1,6 @@
 -- `wire::wire_format::Tag::make` meets its contract: each test is one of the definition's. Assumes nothing.
 use Prim.Native.Nat.{ℕ, _+_, _*_}
-use mathlib.Core.Path.{_≡_, sym, ap, _∙_}
+use mathlib.Core.Path.{sym, ap, _∙_}
 use native.Mathlib.Omega.{arith}
 use borrow.Author.Needs.{needs}
 use borrow.Author.Tests.{le-leb, lt-leb}
@@ -13,27 +13,18 @@ use Rattle.wire.proofs.wire_format.Tag.make.Tie as tie
 
 returns : tie.Need-returns
 unfolding makeTag
-returns c = simp (lt-leb 1 (c .before .args .field-number) (omega arith))
+returns c = simp (lt-leb 1 (c .before .args .number) (omega arith))
 
 returns-2 : tie.Need-returns-2
 unfolding makeTag
 returns-2 c =
-    let n : ℕ = c .before .before .args .field-number in
+    let n : ℕ = c .before .before .args .number in
     simp (le-leb 1 n (omega arith), lt-leb n 536870911 (omega arith))
-
-new-requires : tie.Need-new-requires
-new-requires c κs = search needs
-
-enum-known-known : tie.Need-enum-known-known
-enum-known-known c = search needs
-
-enum-told : tie.Need-enum-told
-enum-told c = search needs
 
 returns-3 : tie.Need-returns-3
 unfolding makeTag
 returns-3 c =
-    let n : ℕ = c .before .before .before .before .before .before .args .field-number in
+    let n : ℕ = c .before .before .before .before .before .before .args .number in
     let w : ℕ = c .before .before .before .before .before .before .args .wire-type in
     let is = known w (c .before .known .given .0 .0) (sym (ap wireTold (c .before .known .given .1)) ∙ c .before .before .before .new .ensures) in
     simp (le-leb 1 n (omega arith), le-leb n 536870911 (omega arith), le-leb w 5 (is .0)) (ap (λ (x : ℕ). Took (n * 8 + x) 0) (is .1))
@@ -41,7 +32,7 @@ returns-3 c =
 returns-4 : tie.Need-returns-4
 unfolding makeTag
 returns-4 c =
-    let n : ℕ = c .before .before .before .before .before .args .field-number in
+    let n : ℕ = c .before .before .before .before .before .args .number in
     let w : ℕ = c .before .before .before .before .before .args .wire-type in
     let is = unknown w (sym (ap wireTold (c .enum-told .given .1)) ∙ c .before .before .new .ensures) in
     simp (le-leb 1 n (omega arith), le-leb n 536870911 (omega arith), lt-leb w 5 is)
@@ -49,4 +40,4 @@ returns-4 c =
 pub make-spec : {M : Type 1} → statement M
 make-spec =
     tie.close
-    (tie.spec returns returns-2 new-requires enum-known-known enum-told returns-3 returns-4)
+    (tie.spec returns returns-2 (λ c κs. search needs) (λ c. search needs) (λ c. search needs) returns-3 returns-4)

@@ -4,17 +4,11 @@ use mathlib.Core.Path.{_≡_, sym, ap, _∙_}
 use native.Mathlib.Omega.{arith}
 use borrow.Author.Needs.{needs}
 use borrow.Author.Tests.{le-leb, lt-leb}
-use Rattle.spec.specs.Base.{Read, Took, require}
+use Rattle.spec.specs.Base.{Took, require}
 use Rattle.wire.specs.FormatTold.{wireNumber, wireTold}
 use Rattle.wire.proofs.FormatLaws.{known, unknown}
 use Rattle.wire.proofs.wire_format.Tag.new.Statement.{statement}
 use Rattle.wire.proofs.wire_format.Tag.new.Tie as tie
-
-new-requires : tie.Need-new-requires
-new-requires c κs = search needs
-
-enum-known-wire-type : tie.Need-enum-known-wire-type
-enum-known-wire-type c = search needs
 
 returns : tie.Need-returns
 unfolding require
@@ -22,9 +16,6 @@ returns c =
     let v : ℕ = c .before .before .before .before .before .args .value in
     let is = known (v % 8) (c .before .before .wire-type .given .0 .0) (sym (ap wireTold (c .before .before .wire-type .given .1)) ∙ c .before .before .before .before .new .ensures) in
     simp (le-leb (v % 8) 5 (is .0), lt-leb 1 (v / 8) (omega arith))
-
-enum-told : tie.Need-enum-told
-enum-told c = search needs
 
 returns-2 : tie.Need-returns-2
 unfolding require
@@ -43,4 +34,4 @@ returns-3 c =
 
 pub new-spec : {M : Type 1} → statement M
 new-spec =
-    tie.close (tie.spec new-requires enum-known-wire-type returns enum-told returns-2 returns-3)
+    tie.close (tie.spec (λ c κs. search needs) (λ c. search needs) returns (λ c. search needs) returns-2 returns-3)

@@ -7,7 +7,7 @@ use lib.Dec.{leb}
 use lib.ListN.{length, getD, List·getD-eq-default}
 use Rattle.spec.specs.Base.{if_then_else_}
 use Rattle.spec.specs.Kind.{kindWires}
-use Rattle.wire.proofs.Upto.{equal-below}
+use Rattle.wire.proofs.Below.{equal-below}
 use Rattle.wire.proofs.wire_format.WireType.for_type.Statement.{statement}
 use Rattle.wire.proofs.wire_format.WireType.for_type.Tie as tie
 
@@ -16,18 +16,12 @@ abbrev found : ℕ → ℕ
 unfolding kindWires
 found k = if leb (getD kindWires k 0) 5 then getD kindWires k 0 else 7
 
-array-read-n : tie.Need-array-read-n
-array-read-n c = search needs
-
 cast-new : tie.Need-cast-new
 unfolding kindWires
 cast-new c =
     let k : ℕ = c .before .args .kind in
     let small : min 7 (getD kindWires k 0) ≡ getD kindWires k 0 = equal-below (λ i. min 7 (getD kindWires i 0)) (λ i. getD kindWires i 0) 19 k tt (omega arith) in
     record { fits = omega arith }
-
-new-requires : tie.Need-new-requires
-new-requires c κs = search needs
 
 returns : tie.Need-returns
 unfolding kindWires
@@ -40,4 +34,4 @@ returns-2 c =
     sym (List·getD-eq-default kindWires 7 past)
 
 pub for-type-spec : {M : Type 1} → statement M
-for-type-spec = tie.close (tie.spec array-read-n cast-new new-requires returns returns-2)
+for-type-spec = tie.close (tie.spec (λ c. search needs) cast-new (λ c κs. search needs) returns returns-2)

@@ -8,26 +8,26 @@ use Rattle.spec.specs.Base.{if_then_else_}
 use Rattle.wire.proofs.wire_format.WireType.new.Statement.{statement}
 use Rattle.wire.proofs.wire_format.WireType.new.Tie as tie
 
-is : {n k : ℕ} → n ≡ k → k ≤ 5 → k ≡ (if leb n 5 then n else 7)
-is {n} {k} e h = simp (le-leb n 5 (omega arith)) (sym e)
+is : (n k : ℕ) → n ≡ k → k ≤ 5 → k ≡ (if leb n 5 then n else 7)
+is n k e h = simp (le-leb n 5 (omega arith)) (sym e)
 
 returns : tie.Need-returns
-returns c = is (c .match .keys1) (omega arith)
+returns c = is (c .before .args .n) 0 (omega arith) (omega arith)
 
 returns-2 : tie.Need-returns-2
-returns-2 c = is (c .match .keys2) (omega arith)
+returns-2 c = is (c .before .args .n) 1 (omega arith) (omega arith)
 
 returns-3 : tie.Need-returns-3
-returns-3 c = is (c .match .keys3) (omega arith)
+returns-3 c = is (c .before .args .n) 2 (omega arith) (omega arith)
 
 returns-4 : tie.Need-returns-4
-returns-4 c = is (c .match .keys4) (omega arith)
+returns-4 c = is (c .before .args .n) 3 (omega arith) (omega arith)
 
 returns-5 : tie.Need-returns-5
-returns-5 c = is (c .match .keys5) (omega arith)
+returns-5 c = is (c .before .args .n) 4 (omega arith) (omega arith)
 
 returns-6 : tie.Need-returns-6
-returns-6 c = is (c .match .keys6) (omega arith)
+returns-6 c = is (c .before .args .n) 5 (omega arith) (omega arith)
 
 returns-7 : tie.Need-returns-7
 returns-7 c =
