@@ -74,10 +74,10 @@ isRun-enough (suc f) (suc g) o (b ∷ s) hf hg =
     isRun-enough f g p (drop n (b ∷ s)) (omega (arith, length-drop n (b ∷ s))) (omega (arith, length-drop n (b ∷ s)))
 
 -- the walk, with no count
-abbrev walk : List ℕ → List ℕ → Bool
+abbrev pub walk : List ℕ → List ℕ → Bool
 walk o s = isRun (length s) o s
 
-walk-step : (o s : List ℕ) (t n : ℕ) → tag s ≡ Took t n → walk o s ≡ goOn (step o s (Took t n)) (λ p m. walk p (drop m s))
+pub walk-step : (o s : List ℕ) (t n : ℕ) → tag s ≡ Took t n → walk o s ≡ goOn (step o s (Took t n)) (λ p m. walk p (drop m s))
 unfolding isRun tag require varint
 walk-step o [] t n e = let z : _≡_ {A = ℕ} 0 1 = cc in absurd (omega arith)
 walk-step o (b ∷ s) t n e =
@@ -180,15 +180,15 @@ sound (suc f) o (b ∷ s) h l e =
 -- ---- a run is accepted
 
 module _ (o a x : List ℕ) where
-  step-start : (t n : ℕ) → t % 8 ≡ 3 → length o < 100 → step o x (Took t n) ≡ Go (t / 8 ∷ o) n
+  pub step-start : (t n : ℕ) → t % 8 ≡ 3 → length o < 100 → step o x (Took t n) ≡ Go (t / 8 ∷ o) n
   unfolding step
   step-start t n h l = simp (eq-eqb (t % 8) 3 h, lt-ltb (length o) 100 l)
 
-  step-end : (y t n : ℕ) → t % 8 ≡ 4 → step (y ∷ o) x (Took t n) ≡ Go o n
+  pub step-end : (y t n : ℕ) → t % 8 ≡ 4 → step (y ∷ o) x (Took t n) ≡ Go o n
   unfolding step closed
   step-end y t n h = simp (ne-eqb (t % 8) 3 (λ q. omega arith), eq-eqb (t % 8) 4 h)
 
-  step-value : (t n : ℕ) → (t % 8 ≡ 3 → ⊥) → (t % 8 ≡ 4 → ⊥) → step o x (Took t n) ≡ passed o (longer n (plain (t % 8) (drop n x)))
+  pub step-value : (t n : ℕ) → (t % 8 ≡ 3 → ⊥) → (t % 8 ≡ 4 → ⊥) → step o x (Took t n) ≡ passed o (longer n (plain (t % 8) (drop n x)))
   unfolding step
   step-value t n p q = simp (ne-eqb (t % 8) 3 p, ne-eqb (t % 8) 4 q)
 

@@ -1,0 +1,6 @@
+pub mod PastLaws
+pub mod VarintTurn
+pub mod GroupTurn
+pub mod SkipAnswers
+pub mod DocumentTurn
+pub mod DocumentAnswers

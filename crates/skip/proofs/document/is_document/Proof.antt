@@ -1,0 +1,146 @@
+-- `skip::document::is_document` meets its contract. The loop's invariant: what is to be said of all the bytes is what is said from here, with
+-- the groups that are open. Assumes nothing.
+use Prim.Native.Nat.{ℕ, _+_, _-_, _/_, _%_, _≤_, _<_}
+use mathlib.Core.Path.{_≡_, refl, sym, ap, _∙_}
+use native.Mathlib.Omega.{arith}
+use borrow.Author.Needs.{needs}
+use lib.ListN.{length, drop}
+use Rattle.spec.specs.Base.{Took}
+use Rattle.spec.specs.Varint.{tag}
+use Rattle.wire.specs.Answers.{told}
+use Rattle.skip.proofs.PastLaws.{tag-low}
+use Rattle.skip.proofs.DocumentTurn.{Here, too-long, start, finish, bad-tag, tag-bounds, opens, too-many, closes, none-open, value, lost}
+use Rattle.skip.proofs.document.is_document.Statement.{statement}
+use Rattle.skip.proofs.document.is_document.Tie as tie
+
+abbrev Inv-loop : tie.InvT-loop
+Inv-loop s numbers₀ n₀ at₀ numbers n at = Here s numbers n at
+
+abbrev μ-loop : tie.MeasureT-loop
+μ-loop s numbers₀ n₀ at₀ numbers n at = length s - at
+
+-- the tag that was read, and where the loop is
+tagged : (c : tie.After-known-told Inv-loop μ-loop) →
+    let i = c .before .before .before .before in
+    let v = c .before .value .given in
+    Took (v .0 .0) (v .0 .1 .0 - i .before .loop .at) ≡ tag (drop (i .before .loop .at) (i .before .before .before .before .args .s .now))
+tagged c = ap (told _) (sym (c .before .value .given .1)) ∙ c .before .before .before .tag-at .ensures
+
+here : (c : tie.After-known-told Inv-loop μ-loop) →
+    let b = c .before .before .before .before .before in Here (b .before .before .before .args .s .now) (b .loop .numbers) (b .loop .n) (b .loop .at)
+here c = c .before .before .before .before .before .loop .inv
+
+returns : tie.Need-returns Inv-loop μ-loop
+returns c = too-long _ (c .if1 .taken)
+
+loop-holds : tie.Need-loop-holds Inv-loop μ-loop
+loop-holds c = start _ _ (c .if1 .left) refl
+
+returns-2 : tie.Need-returns-2 Inv-loop μ-loop
+returns-2 c = let g = c .before .before in bad-tag (g .before .before .loop .inv) _ (g .before .loop-test .taken) (ap (told _) (sym (c .enum-told .given .1)) ∙ g .tag-at .ensures)
+
+quick-value-requires : tie.Need-quick-value-requires Inv-loop μ-loop
+quick-value-requires c κs = tag-bounds (here c) _ _ (tagged c) .1
+
+loop-less : tie.Need-loop-less Inv-loop μ-loop
+loop-less c = let k = c .before .before in omega (arith, tag-bounds (here k) _ _ (tagged k))
+
+loop-again : tie.Need-loop-again Inv-loop μ-loop
+loop-again c = let k = c .before .before in value (here k) _ _ (tagged k) _ (c .before .quick-value .ensures (c .if2 .taken)) .1
+
+returns-3 : tie.Need-returns-3 Inv-loop μ-loop
+returns-3 c = let k = c .before .before .before .before in too-many (here k) _ _ (tagged k) (c .before .match2 .keys1) (c .if3 .taken)
+
+cast-numbers : tie.Need-cast-numbers Inv-loop μ-loop
+cast-numbers c = let k = c .before .before .before .before in omega (arith, tag-low _ _ _ (tagged k))
+
+mul-numbers : tie.Need-mul-numbers Inv-loop μ-loop
+mul-numbers c = omega arith
+
+array-write-numbers : tie.Need-array-write-numbers Inv-loop μ-loop
+array-write-numbers c = omega arith
+
+add-n : tie.Need-add-n Inv-loop μ-loop
+add-n c = omega arith
+
+loop-less-2 : tie.Need-loop-less-2 Inv-loop μ-loop
+loop-less-2 c = let k = c .before .before .before .before in omega (arith, tag-bounds (here k) _ _ (tagged k))
+
+loop-again-2 : tie.Need-loop-again-2 Inv-loop μ-loop
+loop-again-2 c = let k = c .before .before .before .before in opens (here k) _ _ (tagged k) (c .before .match2 .keys1) (c .if3 .left)
+
+returns-4 : tie.Need-returns-4 Inv-loop μ-loop
+returns-4 c = let k = c .before .before .before .before in none-open (here k) _ _ (tagged k) (c .before .match2 .keys2) (c .if4 .taken)
+
+sub-n : tie.Need-sub-n Inv-loop μ-loop
+sub-n c = omega arith
+
+loop-less-3 : tie.Need-loop-less-3 Inv-loop μ-loop
+loop-less-3 c = let k = c .before .before .before .before in omega (arith, tag-bounds (here k) _ _ (tagged k))
+
+loop-again-3 : tie.Need-loop-again-3 Inv-loop μ-loop
+loop-again-3 c = let k = c .before .before .before .before in closes (here k) _ _ (tagged k) (c .before .match2 .keys2) (c .if4 .left)
+
+past-plain-requires : tie.Need-past-plain-requires Inv-loop μ-loop
+past-plain-requires c κs = let k = c .before .before .before in tag-bounds (here k) _ _ (tagged k) .1
+
+returns-5 : tie.Need-returns-5 Inv-loop μ-loop
+returns-5 c =
+    let p = c .before .before in
+    let k = p .before .before .before .before in
+    let r = p .before .match2 .rest in
+    lost (here k) _ _ (tagged k) _ (r .0 .1) (r .1) (sym (c .enum-told2 .given .1) ∙ p .past-plain .ensures)
+
+-- behind a value
+beyond : (c : tie.After-known-told2 Inv-loop μ-loop) →
+    let k = c .before .before .before .before .before .before .before in
+    let b = k .before .before .before .before .before in
+    let q = c .before .e .given .0 .0 in
+    (k .before .value .given .0 .1 .0 ≤ q) × Here (b .before .before .before .args .s .now) (b .loop .numbers) (b .loop .n) q
+beyond c =
+    let p = c .before .before .before in
+    let k = p .before .before .before .before in
+    value (here k) _ _ (tagged k) _ (sym (c .before .e .given .1) ∙ p .past-plain .ensures)
+
+loop-less-4 : tie.Need-loop-less-4 Inv-loop μ-loop
+loop-less-4 c = let k = c .before .before .before .before .before .before .before in omega (arith, beyond c .0, tag-bounds (here k) _ _ (tagged k))
+
+loop-again-4 : tie.Need-loop-again-4 Inv-loop μ-loop
+loop-again-4 c = beyond c .1
+
+returns-6 : tie.Need-returns-6 Inv-loop μ-loop
+returns-6 c = finish (c .before .loop .inv) (c .loop-test .left)
+
+pub is-document-spec : {M : Type 1} → statement M
+is-document-spec =
+    tie.close
+    (tie.spec
+    Inv-loop
+    μ-loop
+    returns
+    loop-holds
+    (λ c κs. search needs)
+    (λ c. search needs)
+    (λ c. search needs)
+    returns-2
+    quick-value-requires
+    loop-less
+    loop-again
+    returns-3
+    cast-numbers
+    mul-numbers
+    array-write-numbers
+    add-n
+    loop-less-2
+    loop-again-2
+    returns-4
+    sub-n
+    loop-less-3
+    loop-again-3
+    past-plain-requires
+    (λ c. search needs)
+    (λ c. search needs)
+    returns-5
+    loop-less-4
+    loop-again-4
+    returns-6)

@@ -1,0 +1,145 @@
+// Skipping a field and a group: rt/unknown_or_group.rs and coded_input_stream/mod.rs of rust-protobuf.
+ghost use mathlib.Core.Path.{_≡_};
+ghost use Prim.Native.Nat.{_≤_};
+ghost use lib.ListN.{length, drop};
+ghost use Rattle.spec.specs.Base.{refusal, taken};
+ghost use Rattle.spec.specs.Skip.{skipField, skipGroup, innerGroup, outerGroup, skipFieldForTag, readUnknownOrSkipGroup};
+ghost use Rattle.skip.specs.Passed.{past, behind, atEnd};
+use crate::field::Past;
+use crate::field::past_plain;
+use crate::field::quick_value;
+use crate::field::tag_at;
+use wire::found::Found;
+
+// What a skip comes to: the refusal's number, 0 for none, and the bytes used, 0 on refusal.
+pub struct Skipped {
+    pub number: u32,
+    pub used: usize,
+}
+
+// Skips the fields of a group from `from` on, and the end-group tag that closes it. A loop, so that the stack grows with the groups only.
+fn skip_group(s: &[u8], from: usize, level: u32, outer: bool) -> Past
+    ensures { λ r. ⌜ r ≡ behind from (skipGroup (length (drop from (now (s .entry)))) (atEnd outer) level (drop from (now (s .entry)))) ⌝ }
+{
+    let mut at = from;
+    while at < s.len() {
+        let f = tag_at(s, at);
+        match f {
+            Found::Value { value, next } => {
+                let w = value % 8;
+                let q = quick_value(s, next, w);
+                if next < q {
+                    at = q;
+                } else {
+                    match w {
+                        3 => {
+                            let p = skip_field(s, next, w, level);
+                            let Past::To(e) = p else {
+                                return p;
+                            };
+                            at = e;
+                        }
+                        4 => {
+                            return Past::To(next);
+                        }
+                        _ => {
+                            let p = past_plain(s, next, w);
+                            let Past::To(e) = p else {
+                                return p;
+                            };
+                            at = e;
+                        }
+                    }
+                }
+            }
+            Found::Refused(k) => {
+                return Past::Refused(k);
+            }
+        }
+    }
+    if outer {
+        return Past::Refused(1);
+    }
+    Past::To(at)
+}
+
+// Skips the value at `at` of a field of wire type w. A group is counted: it is entered below level 100.
+fn skip_field(s: &[u8], at: usize, w: u64, level: u32) -> Past
+    requires { ⌜ at ≤ length (now s) ⌝ }
+    ensures { λ r. ⌜ r ≡ behind at (skipField innerGroup level w (drop at (now (s .entry)))) ⌝ }
+{
+    if w == 3 {
+        if 100 <= level {
+            return Past::Refused(7);
+        }
+        return skip_group(s, at, level + 1, false);
+    }
+    past_plain(s, at, w)
+}
+
+// The outermost group of an unknown field, whose fields stand at `at`: it is not counted, and the end of the bytes is refused.
+pub fn skip_unknown_group(s: &[u8], at: usize, level: u32) -> Past
+    ensures { λ r. ⌜ past at r ≡ outerGroup level (drop at (now (s .entry))) ⌝ }
+{
+    skip_group(s, at, level, true)
+}
+
+// An answer as a number and the bytes used, of a skip that began at 0.
+fn used_of(p: Past) -> Skipped
+    ensures { λ r. ⌜ (r .number ≡ refusal (past 0 p)) × (r .used ≡ taken (past 0 p)) ⌝ }
+{
+    match p {
+        Past::To(next) => Skipped {
+            number: 0,
+            used: next,
+        },
+        Past::Refused(k) => Skipped { number: k, used: 0 },
+    }
+}
+
+// Skips the field behind a tag. Every group counts, and the end of the bytes closes all open groups.
+pub fn skip_field_for_tag(tag: u32, s: &[u8], level: u32) -> Skipped
+    ensures { λ r. ⌜ (r .number ≡ refusal (skipFieldForTag tag level (now (s .entry)))) × (r .used ≡ taken (skipFieldForTag tag level (now (s .entry)))) ⌝ }
+{
+    if 0x7fff_ffff < s.len() {
+        return Skipped {
+            number: 11,
+            used: 0,
+        };
+    }
+    let w = tag % 8;
+    if 5 < w {
+        return Skipped { number: 3, used: 0 };
+    }
+    if tag < 8 {
+        return Skipped { number: 3, used: 0 };
+    }
+    let q = quick_value(s, 0, w as u64);
+    if 0 < q {
+        return Skipped { number: 0, used: q };
+    }
+    used_of(skip_field(s, 0, w as u64, level))
+}
+
+// Skips the field behind the tag of an unknown field, as the message loop does: its outermost group is not counted.
+pub fn read_unknown_or_skip_group(tag: u32, s: &[u8], level: u32) -> Skipped
+    ensures { λ r. ⌜ (r .number ≡ refusal (readUnknownOrSkipGroup tag level (now (s .entry)))) × (r .used ≡ taken (readUnknownOrSkipGroup tag level (now (s .entry)))) ⌝ }
+{
+    if 0x7fff_ffff < s.len() {
+        return Skipped {
+            number: 11,
+            used: 0,
+        };
+    }
+    let w = tag % 8;
+    if 5 < w {
+        return Skipped { number: 3, used: 0 };
+    }
+    if tag < 8 {
+        return Skipped { number: 3, used: 0 };
+    }
+    if w == 3 {
+        return used_of(skip_group(s, 0, level, true));
+    }
+    used_of(past_plain(s, 0, w as u64))
+}
