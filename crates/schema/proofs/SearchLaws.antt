@@ -1,37 +1,36 @@
 -- Laws of the search by halves: k does not matter where it is enough; what is found, and when nothing is; and that in a valid schema it is the
 -- entry of an owner and a number.
 -- Assumes nothing.
-use Prim.Native.Nat.{ℕ, zero, suc, _+_, _-_, _*_, _/_, _%_, _^_, _≤_, _<_}
+use Prim.Native.Nat.{ℕ, zero, suc, _+_, _-_, _/_, _≤_, _<_}
 use native.Mathlib.Omega.{arith}
-use mathlib.Core.Path.{_≡_, refl, sym, ap, ap₂, _∙_, subst}
-use mathlib.Core.Bool.{Bool, true, false, not}
-use mathlib.Core.List.{List}
+use mathlib.Core.Path.{_≡_, refl, sym, ap, _∙_, subst}
+use mathlib.Core.Bool.{Bool, not}
 use mathlib.Core.Option.{Option, none, some}
-use lib.ListN.{length, getD}
+use lib.ListN.{length}
 use lib.Dec.{ltb, eqb}
 use borrow.Author.Tests.{lt-ltb, le-ltb, eq-eqb, ne-eqb}
 use Rattle.spec.specs.Base.{if_then_else_}
 use Rattle.spec.specs.Schema.{Schema, badSchema, placeOf}
 use Rattle.spec.proofs.VarintLaws.{lower-or-not}
-use Rattle.spec.proofs.SchemaLaws.{Is, Before, at, place-found, valid-rises, valid-found, valid-below, valid-above}
+use Rattle.spec.proofs.SchemaLaws.{Is, Before, type-before, number-before, at, place-found, valid-rises, valid-found}
 use Rattle.spec.specs.declared.Entry.{Entry}
-use Rattle.schema.specs.Search.{search, within, findIn, ownerNumber}
+use Rattle.schema.specs.Search.{seek}
 
 module _ (row : ℕ → ℕ) (lost key : ℕ) where
   -- what is left of the search, with k to count down
   abbrev Left : ℕ → ℕ → ℕ → ℕ
-  Left k lo hi = search k row lost key lo hi
+  Left k lo hi = seek k row lost key lo hi
 
   -- one step, whose k is for the next ones
   step-end : (k lo hi : ℕ) → hi ≤ lo → Left k lo hi ≡ lost
-  unfolding search
+  unfolding seek
   step-end zero lo hi h = refl
   step-end (suc k) lo hi h =
       ap (λ (b : Bool). if not b then lost else if eqb (row ((lo + hi) / 2)) key then (lo + hi) / 2 else if ltb (row ((lo + hi) / 2)) key then Left k ((lo + hi) / 2 + 1) hi else Left k lo ((lo + hi) / 2))
       (le-ltb lo hi h)
 
   step : (k lo hi : ℕ) → lo < hi → Left (suc k) lo hi ≡ (if eqb (row ((lo + hi) / 2)) key then (lo + hi) / 2 else if ltb (row ((lo + hi) / 2)) key then Left k ((lo + hi) / 2 + 1) hi else Left k lo ((lo + hi) / 2))
-  unfolding search
+  unfolding seek
   step k lo hi h =
       ap (λ (b : Bool). if not b then lost else if eqb (row ((lo + hi) / 2)) key then (lo + hi) / 2 else if ltb (row ((lo + hi) / 2)) key then Left k ((lo + hi) / 2 + 1) hi else Left k lo ((lo + hi) / 2))
       (lt-ltb lo hi h)
@@ -63,7 +62,7 @@ module _ (row : ℕ → ℕ) (lost key : ℕ) where
 
   -- nothing is found where the key is nowhere
   pub search-misses : (k lo hi : ℕ) → ((j : ℕ) → lo ≤ j → j < hi → row j ≡ key → ⊥) → Left k lo hi ≡ lost
-  unfolding search
+  unfolding seek
   search-misses zero lo hi away = refl
   search-misses (suc k) lo hi away =
       lower-or-not lo hi
@@ -85,3 +84,71 @@ module _ (row : ℕ → ℕ) (lost key : ℕ) where
       (λ c. lower-or-not i mid
       (λ d. step-below k lo hi h (over mid d (omega arith)) ∙ search-finds k lo mid i (omega arith) a d e under (λ j u v. over j u (omega arith)))
       (λ d. let same : i ≡ mid = omega arith in step-here k lo hi h (subst (λ (m : ℕ). row m ≡ key) same e) ∙ sym same))
+
+  -- with no k: the steps that a loop takes
+  pub halves-end : (lo hi : ℕ) → hi ≤ lo → Left (hi - lo) lo hi ≡ lost
+  halves-end lo hi h = step-end (hi - lo) lo hi h
+
+  module _ (lo hi : ℕ) (h : lo < hi) where
+    one-more : Left (hi - lo) lo hi ≡ Left (suc (hi - lo)) lo hi
+    one-more = search-enough (hi - lo) (suc (hi - lo)) lo hi (omega arith) (omega arith)
+
+    pub halves-here : row ((lo + hi) / 2) ≡ key → Left (hi - lo) lo hi ≡ (lo + hi) / 2
+    halves-here e = one-more ∙ step-here (hi - lo) lo hi h e
+
+    pub halves-above : row ((lo + hi) / 2) < key → Left (hi - lo) lo hi ≡ Left (hi - ((lo + hi) / 2 + 1)) ((lo + hi) / 2 + 1) hi
+    halves-above l =
+        one-more ∙ step-above (hi - lo) lo hi h l
+        ∙ search-enough (hi - lo) (hi - ((lo + hi) / 2 + 1)) ((lo + hi) / 2 + 1) hi (omega arith) (omega arith)
+
+    pub halves-below : key < row ((lo + hi) / 2) → Left (hi - lo) lo hi ≡ Left ((lo + hi) / 2 - lo) lo ((lo + hi) / 2)
+    halves-below l =
+        one-more ∙ step-below (hi - lo) lo hi h l ∙ search-enough (hi - lo) ((lo + hi) / 2 - lo) lo ((lo + hi) / 2) (omega arith) (omega arith)
+
+-- ---- in a valid schema
+
+-- the number of an entry stands to the key as the entry to the owner o and the number n
+pub record Keyed (o n key : ℕ) (e : Entry) (x : ℕ) : Type 0 where
+  pub same : Is o n e → x ≡ key
+  pub only : x ≡ key → Is o n e
+  pub under : Before (e .owner) (e .number) o n → x < key
+  pub over : Before o n (e .owner) (e .number) → key < x
+
+-- a place, or what stands for none
+abbrev pub placedOr : ℕ → Option ℕ → ℕ
+placedOr lost none = lost
+placedOr lost (some i) = i
+
+before-it : {a b o n : ℕ} (e : Entry) → Before a b (e .owner) (e .number) → Is o n e → Before a b o n
+before-it e (type-before h) is = type-before (omega arith)
+before-it e (number-before p h) is = number-before (omega arith) (omega arith)
+
+behind-it : {a b o n : ℕ} (e : Entry) → Before (e .owner) (e .number) a b → Is o n e → Before o n a b
+behind-it e (type-before h) is = type-before (omega arith)
+behind-it e (number-before p h) is = number-before (omega arith) (omega arith)
+
+module _ (sch : Schema) (valid : badSchema sch ≡ none) (row : ℕ → ℕ) (count o n key : ℕ) (enough : length (sch .entries) ≤ count)
+    (keyed : (i : ℕ) → i < length (sch .entries) → Keyed o n key (at sch i) (row i))
+    (behind : (i : ℕ) → length (sch .entries) ≤ i → i < count → key < row i) where
+  found : (i : ℕ) → placeOf 0 (sch .entries) o n ≡ some i → seek count row count key 0 count ≡ i
+  found i e =
+      let f = place-found (sch .entries) o n i e in
+      search-finds row count key count 0 count i (omega arith) (omega arith) (omega arith) (keyed i (f .0) .same (f .2))
+      (λ j u. keyed j (omega arith) .under (before-it (at sch i) (valid-rises sch valid j i u (f .0)) (f .2)))
+      (λ j u v. lower-or-not j (length (sch .entries))
+      (λ l. keyed j l .over (behind-it (at sch i) (valid-rises sch valid i j u l) (f .2)))
+      (λ l. behind j l v))
+
+  missed : placeOf 0 (sch .entries) o n ≡ none → seek count row count key 0 count ≡ count
+  missed e =
+      search-misses row count key count 0 count λ j u v is.
+      lower-or-not j (length (sch .entries))
+      (λ l. let z : _≡_ {A = ℕ} 0 1 = cc (valid-found sch valid o n j l (keyed j l .only is) .1) in omega arith)
+      (λ l. omega (arith, behind j l v))
+
+  pub search-place : seek count row count key 0 count ≡ placedOr count (placeOf 0 (sch .entries) o n)
+  search-place = go (placeOf 0 (sch .entries) o n) refl
+    where
+      go : (p : Option ℕ) → placeOf 0 (sch .entries) o n ≡ p → seek count row count key 0 count ≡ placedOr count p
+      go none e = missed e
+      go (some i) e = found i e

@@ -1,22 +1,22 @@
 -- Laws of the check, entry by entry: which counts are right, when an entry is the next one, and where the check stands before each.
 -- Assumes nothing.
-use Prim.Native.Nat.{ℕ, zero, suc, _+_, _-_, _*_, _/_, _%_, _^_, _≤_, _<_}
+use Prim.Native.Nat.{ℕ, suc, _+_, _-_, _*_, _/_, _%_, _^_, _≤_, _<_}
 use native.Mathlib.Omega.{arith}
-use native.Mathlib.Numerals.{add-one}
-use mathlib.Core.Path.{_≡_, refl, sym, ap, ap₂, _∙_, subst}
-use mathlib.Core.Bool.{Bool, true, false, not, _&&_, _||_, and-true, and-false}
+use mathlib.Core.Path.{_≡_, refl, sym, ap, ap₂, _∙_}
+use mathlib.Core.Bool.{Bool, true, false, _&&_, _||_, false≢true, and-true, and-false}
 use mathlib.Core.List.{List, [], _∷_}
-use mathlib.Core.Option.{Option, none, some}
+use mathlib.Core.Option.{none, some}
 use lib.ListN.{length, drop, getD}
 use lib.Seq.{getD-drop, drop-drop}
 use lib.Dec.{leb, ltb, eqb}
-use borrow.Author.Tests.{ltb-true, ltb-false, lt-ltb, le-ltb, le-leb, lt-leb, leb-true, leb-false, eqb-true, eqb-false, eq-eqb}
+use borrow.Author.Tests.{ltb-true, ltb-false, lt-ltb, le-ltb, le-leb, lt-leb, leb-true, eqb-true, eqb-false, eq-eqb, ne-eqb}
 use Rattle.spec.specs.Base.{if_then_else_, between}
-use Rattle.spec.specs.Schema.{Schema, rises, goodEntry, badEntry, badSchema, entryOf, entriesOf, schemaOf}
-use Rattle.spec.proofs.Laws.{both, by-test, chosen}
+use Rattle.spec.specs.Schema.{Schema, rises, goodEntry, badEntry, badSchema, noEntry, entryOf, entriesOf, schemaOf}
+use Rattle.spec.proofs.Laws.{both, by-test}
 use Rattle.spec.proofs.VarintLaws.{lower-or-not}
-use Rattle.spec.proofs.SchemaLaws.{firstEntry, entries-step, length-entries, rest-bad, Good, good-entry}
+use Rattle.spec.proofs.SchemaLaws.{firstEntry, entries-step, length-entries, entry-at, repeated-bad, rest-bad, Good, good-entry}
 use Rattle.spec.specs.declared.Entry.{Entry}
+use Rattle.schema.specs.declared.Five.{Five}
 use Rattle.schema.specs.Tables.{counted, rank, nextKey}
 use Rattle.schema.specs.Told.{entry, fiveAt}
 
@@ -29,12 +29,18 @@ entriesIn ns = entriesOf (length ns / 5) ns
 abbrev pub schemaIn : ℕ → List ℕ → Schema
 schemaIn types ns = record { types = types; entries = entriesIn ns }
 
+pub counts-bounds : (types count : ℕ) → counted types count ≡ true → (types ≤ 32) × (count ≤ 1280)
+counts-bounds types count h =
+    let a = both (between 1 32 types && leb count 1280) (eqb (count % 5) 0) h in
+    let b = both (between 1 32 types) (leb count 1280) (a .0) in
+    (leb-true types 32 (both (leb 1 types) (leb types 32) (b .0) .1), leb-true count 1280 (b .1))
+
 -- so many numbers are so many entries
 five-times : (n : ℕ) → n % 5 ≡ 0 → leb (n / 5) 256 ≡ leb n 1280
 five-times n h = lower-or-not 1280 n (λ c. lt-leb (n / 5) 256 (omega arith) ∙ sym (lt-leb n 1280 c)) (λ c. le-leb (n / 5) 256 (omega arith) ∙ sym (le-leb n 1280 c))
 
 module _ (types : ℕ) (ns : List ℕ) where
-  whole : length ns % 5 ≡ 0 → schemaOf types ns ≡ schemaIn types ns
+  pub whole : length ns % 5 ≡ 0 → schemaOf types ns ≡ schemaIn types ns
   unfolding schemaOf
   whole h = ap (λ (b : Bool). if b then schemaIn types ns else record { types = 0; entries = [] }) (eq-eqb (length ns % 5) 0 h)
 
@@ -65,6 +71,36 @@ module _ (types : ℕ) (ns : List ℕ) where
       go true b p q = sym p ∙ q
       go false b p q = refl
 
+-- ---- a good entry
+
+-- five numbers whose `repeated` is 0 or 1 are an entry
+module _ (types : ℕ) (f : Five) where
+  abbrev pub plain : Entry
+  plain = record { owner = f .owner; number = f .number; kind = f .kind; repeated = eqb (f .repeated) 1; child = f .child }
+
+  pub is-entry : f .repeated < 2 → entry f ≡ plain
+  unfolding entryOf
+  is-entry h = ap (λ (b : Bool). if b then plain else noEntry) (lt-ltb (f .repeated) 2 h)
+
+  -- what good numbers are
+  pub good-five : goodEntry types (entry f) ≡ true → (f .repeated < 2) × Good types plain
+  good-five g =
+      lower-or-not (f .repeated) 2
+      (λ h. (h, good-entry types plain (ap (goodEntry types) (sym (is-entry h)) ∙ g)))
+      (λ h. absurd (false≢true (sym (repeated-bad types (f .owner) (f .number) (f .kind) (f .repeated) (f .child) h) ∙ g)))
+
+  -- and which are bad
+  pub bad-five : ((f .repeated < 2) × Good types plain → ⊥) → false ≡ goodEntry types (entry f)
+  bad-five h = by-test (goodEntry types (entry f)) (λ p. absurd (h (good-five p))) (λ p. sym p)
+
+  -- the child decides, where all else is right
+  pub child-decides : f .owner < types → 1 ≤ f .number → f .number ≤ 536870911 → 1 ≤ f .kind → f .kind ≤ 18 → (f .kind ≡ 10 → ⊥) → f .repeated < 2
+      → goodEntry types (entry f) ≡ (if eqb (f .kind) 11 then ltb (f .child) types else eqb (f .child) 0)
+  unfolding goodEntry
+  child-decides o n m k l t r =
+      ap (goodEntry types) (is-entry r)
+      ∙ simp (lt-ltb (f .owner) types o, le-leb 1 (f .number) n, le-leb (f .number) 536870911 m, le-leb 1 (f .kind) k, le-leb (f .kind) 18 l, ne-eqb (f .kind) 10 t)
+
 -- ---- an entry is the next one
 
 -- of good numbers, one entry stands behind another exactly when its rank is above
@@ -94,12 +130,21 @@ ownerOf last = last / 2 ^ 32
 abbrev pub numberOf : ℕ → ℕ
 numberOf last = last % 2 ^ 32 / 8
 
-module _ (types last : ℕ) (e : Entry) (low : last % 8 ≡ 0) where
-  -- the two tests of an entry in either order
-  abbrev passes : Bool
+module _ (types last : ℕ) (e : Entry) where
+  -- the two tests of an entry
+  abbrev pub passes : Bool
   passes = goodEntry types e && ltb last (rank e)
 
-  tested : (rises (ownerOf last) (numberOf last) e && goodEntry types e) ≡ passes
+  pub key-passed : passes ≡ true → nextKey types last e ≡ rank e
+  unfolding nextKey
+  key-passed p = ap (λ (b : Bool). if b then rank e else 0) p
+
+  pub key-refused : passes ≡ false → nextKey types last e ≡ 0
+  unfolding nextKey
+  key-refused p = ap (λ (b : Bool). if b then rank e else 0) p
+
+module _ (types last : ℕ) (e : Entry) (low : last % 8 ≡ 0) where
+  tested : (rises (ownerOf last) (numberOf last) e && goodEntry types e) ≡ passes types last e
   tested =
       by-test (goodEntry types e)
       (λ p. let l : e .number < 2 ^ 29 = omega (arith, good-entry types e p .number-to) in
@@ -107,43 +152,35 @@ module _ (types last : ℕ) (e : Entry) (low : last % 8 ≡ 0) where
       ap₂ (_&&_) r p ∙ and-true (ltb last (rank e)) ∙ ap (λ (b : Bool). b && ltb last (rank e)) (sym p))
       (λ p. ap (λ (b : Bool). rises (ownerOf last) (numberOf last) e && b) p ∙ and-false (rises (ownerOf last) (numberOf last) e) ∙ ap (λ (b : Bool). b && ltb last (rank e)) (sym p))
 
-  bad-tested : (i : ℕ) (es : List Entry) → badEntry types (ownerOf last) (numberOf last) i (e ∷ es) ≡ (if passes then badEntry types (e .owner) (e .number) (i + 1) es else some i)
+  bad-tested : (i : ℕ) (es : List Entry) → badEntry types (ownerOf last) (numberOf last) i (e ∷ es) ≡ (if passes types last e then badEntry types (e .owner) (e .number) (i + 1) es else some i)
   unfolding badEntry
   bad-tested i es = ap (λ (b : Bool). if b then badEntry types (e .owner) (e .number) (i + 1) es else some i) tested
-
-  key-passed : passes ≡ true → nextKey types last e ≡ rank e
-  unfolding nextKey
-  key-passed p = ap (λ (b : Bool). if b then rank e else 0) p
-
-  key-refused : passes ≡ false → nextKey types last e ≡ 0
-  unfolding nextKey
-  key-refused p = ap (λ (b : Bool). if b then rank e else 0) p
 
   -- no next key: this entry is the first bad one
   pub next-bad : (i : ℕ) (es : List Entry) → nextKey types last e ≡ 0 → badEntry types (ownerOf last) (numberOf last) i (e ∷ es) ≡ some i
   next-bad i es z =
-      by-test passes
+      by-test (passes types last e)
       (λ p. let g = good-entry types e (both (goodEntry types e) (ltb last (rank e)) p .0) in
-      let k = key-passed p in
+      let k = key-passed types last e p in
       absurd (omega (arith, g .number-from)))
       (λ p. bad-tested i es ∙ ap (λ (b : Bool). if b then badEntry types (e .owner) (e .number) (i + 1) es else some i) p)
 
   -- a next key: the entry is good, and the key is its rank
   pub next-good : (nextKey types last e ≡ 0 → ⊥) → (goodEntry types e ≡ true) × (nextKey types last e ≡ rank e)
-  next-good z = by-test passes (λ p. (both (goodEntry types e) (ltb last (rank e)) p .0, key-passed p)) (λ p. absurd (z (key-refused p)))
+  next-good z = by-test (passes types last e) (λ p. (both (goodEntry types e) (ltb last (rank e)) p .0, key-passed types last e p)) (λ p. absurd (z (key-refused types last e p)))
 
   pub next-later : (i : ℕ) (es : List Entry) → (nextKey types last e ≡ 0 → ⊥)
       → badEntry types (ownerOf last) (numberOf last) i (e ∷ es) ≡ badEntry types (ownerOf (nextKey types last e)) (numberOf (nextKey types last e)) (i + 1) es
   next-later i es z =
-      by-test passes
+      by-test (passes types last e)
       (λ p. let g = good-entry types e (both (goodEntry types e) (ltb last (rank e)) p .0) in
       let l : e .number ≤ 536870911 = g .number-to in
-      let k = key-passed p in
+      let k = key-passed types last e p in
       let o : e .owner ≡ ownerOf (nextKey types last e) = omega arith in
       let n : e .number ≡ numberOf (nextKey types last e) = omega arith in
       bad-tested i es ∙ ap (λ (b : Bool). if b then badEntry types (e .owner) (e .number) (i + 1) es else some i) p
       ∙ ap₂ (λ (a b : ℕ). badEntry types a b (i + 1) es) o n)
-      (λ p. absurd (z (key-refused p)))
+      (λ p. absurd (z (key-refused types last e p)))
 
 -- ---- where the check stands
 
@@ -167,8 +204,10 @@ here-first types ns h =
     }
 
 -- the numbers from i on are the first entry of what is left
-first-five : (ns : List ℕ) (i : ℕ) → entry (fiveAt ns i) ≡ firstEntry (drop i ns)
-first-five ns i = simp getD-drop
+pub first-five : (ns : List ℕ) (i : ℕ) → entry (fiveAt ns i) ≡ firstEntry (drop i ns)
+first-five ns i =
+    let z : i ≡ i + 0 = omega arith in
+    simp getD-drop (ap (λ (n : ℕ). entryOf (getD ns n 0) (getD ns (i + 1) 0) (getD ns (i + 2) 0) (getD ns (i + 3) 0) (getD ns (i + 4) 0)) z)
 
 module _ {types : ℕ} {ns : List ℕ} {i e last : ℕ} (h : Here types ns i e last) where
   whole-fives : length ns % 5 ≡ 0
@@ -185,43 +224,57 @@ module _ {types : ℕ} {ns : List ℕ} {i e last : ℕ} (h : Here types ns i e l
     pub here-five : i + 4 < length ns
     here-five = omega (arith, h .five, whole-fives)
 
-    -- entry e and those behind it
-    here-cons : entriesOf (length ns / 5 - e) (drop (5 * e) ns) ≡ entry (fiveAt ns i) ∷ entriesOf (length ns / 5 - (e + 1)) (drop (5 * (e + 1)) ns)
-    here-cons =
-        let a = h .five in
-        let w = whole-fives in
-        let k : length ns / 5 - e ≡ suc (length ns / 5 - (e + 1)) = omega arith in
-        let d : 5 * e + 5 ≡ 5 * (e + 1) = omega arith in
-        ap (λ (n : ℕ). entriesOf n (drop (5 * e) ns)) k
-        ∙ entries-step (length ns / 5 - (e + 1)) (drop (5 * e) ns)
-        ∙ ap₂ (λ (x : Entry) (xs : List ℕ). x ∷ entriesOf (length ns / 5 - (e + 1)) xs)
-        (ap (λ (n : ℕ). firstEntry (drop n ns)) (sym a) ∙ sym (first-five ns i))
-        (drop-drop 5 (5 * e) ns ∙ ap (λ (n : ℕ). drop n ns) d)
+    module _ {f : Five} (at : f ≡ fiveAt ns i) where
+      first : entry f ≡ firstEntry (drop i ns)
+      first = ap entry at ∙ first-five ns i
 
-    here-rest : badSchema (schemaOf types ns) ≡ badEntry types (ownerOf last) (numberOf last) e (entry (fiveAt ns i) ∷ entriesOf (length ns / 5 - (e + 1)) (drop (5 * (e + 1)) ns))
-    here-rest = h .rest ∙ ap (badEntry types (ownerOf last) (numberOf last) e) here-cons
-
-    pub here-bad : nextKey types last (entry (fiveAt ns i)) ≡ 0 → badSchema (schemaOf types ns) ≡ some e
-    here-bad z = here-rest ∙ next-bad types last (entry (fiveAt ns i)) (h .low) e (entriesOf (length ns / 5 - (e + 1)) (drop (5 * (e + 1)) ns)) z
-
-    module _ {key : ℕ} (is : key ≡ nextKey types last (entry (fiveAt ns i))) (there : key ≡ 0 → ⊥) where
-      pub here-good : Good types (entry (fiveAt ns i)) × (key ≡ rank (entry (fiveAt ns i)))
-      here-good =
-          let g = next-good types last (entry (fiveAt ns i)) (h .low) (λ z. there (is ∙ z)) in
-          (good-entry types (entry (fiveAt ns i)) (g .0), is ∙ g .1)
-
-      pub here-next : Here types ns (i + 5) (e + 1) key
-      here-next =
+      -- entry e by its place among all
+      pub here-entry : getD (entriesIn ns) e noEntry ≡ entry f
+      here-entry =
           let a = h .five in
-          let f = here-five in
-          let k = here-good .1 in
-          record {
-            counts = h .counts;
-            five = omega arith;
-            inside = omega arith;
-            low = omega arith;
-            rest =
-                here-rest
-                ∙ next-later types last (entry (fiveAt ns i)) (h .low) e (entriesOf (length ns / 5 - (e + 1)) (drop (5 * (e + 1)) ns)) (λ z. there (is ∙ z))
-                ∙ ap (λ (n : ℕ). badEntry types (ownerOf n) (numberOf n) (e + 1) (entriesOf (length ns / 5 - (e + 1)) (drop (5 * (e + 1)) ns))) (sym is);
-          }
+          let w = whole-fives in
+          entry-at (length ns / 5) ns e (omega arith) ∙ ap (λ (n : ℕ). firstEntry (drop n ns)) (sym a) ∙ sym first
+
+      -- and those behind it
+      others : List Entry
+      others = entriesOf (length ns / 5 - (e + 1)) (drop (5 * (e + 1)) ns)
+
+      here-cons : entriesOf (length ns / 5 - e) (drop (5 * e) ns) ≡ entry f ∷ others
+      unfolding others
+      here-cons =
+          let a = h .five in
+          let w = whole-fives in
+          let k : length ns / 5 - e ≡ suc (length ns / 5 - (e + 1)) = omega arith in
+          let d : 5 * e + 5 ≡ 5 * (e + 1) = omega arith in
+          ap (λ (n : ℕ). entriesOf n (drop (5 * e) ns)) k
+          ∙ entries-step (length ns / 5 - (e + 1)) (drop (5 * e) ns)
+          ∙ ap₂ (λ (x : Entry) (xs : List ℕ). x ∷ entriesOf (length ns / 5 - (e + 1)) xs)
+          (ap (λ (n : ℕ). firstEntry (drop n ns)) (sym a) ∙ sym first)
+          (drop-drop 5 (5 * e) ns ∙ ap (λ (n : ℕ). drop n ns) d)
+
+      here-rest : badSchema (schemaOf types ns) ≡ badEntry types (ownerOf last) (numberOf last) e (entry f ∷ others)
+      here-rest = h .rest ∙ ap (badEntry types (ownerOf last) (numberOf last) e) here-cons
+
+      module _ {key : ℕ} (is : key ≡ nextKey types last (entry f)) where
+        pub here-bad : key ≡ 0 → badSchema (schemaOf types ns) ≡ some e
+        here-bad z = here-rest ∙ next-bad types last (entry f) (h .low) e others (sym is ∙ z)
+
+        module _ (there : key ≡ 0 → ⊥) where
+          pub here-good : (goodEntry types (entry f) ≡ true) × (key ≡ rank (entry f))
+          here-good = let g = next-good types last (entry f) (h .low) (λ z. there (is ∙ z)) in (g .0, is ∙ g .1)
+
+          pub here-next : Here types ns (i + 5) (e + 1) key
+          unfolding others
+          here-next =
+              let a = h .five in
+              let l = here-five in
+              let k = here-good .1 in
+              record {
+                counts = h .counts;
+                five = omega arith;
+                inside = omega arith;
+                low = omega arith;
+                rest =
+                    here-rest ∙ next-later types last (entry f) (h .low) e others (λ z. there (is ∙ z))
+                    ∙ ap (λ (n : ℕ). badEntry types (ownerOf n) (numberOf n) (e + 1) others) (sym is);
+              }

@@ -1,7 +1,7 @@
 -- A search by halves. What is searched is any function from places to numbers, so that the same is said of the numbers of a schema and of
 -- the keys of its tables. Assumes nothing: these are definitions.
 use Prim.Native.Nat.{ℕ, zero, suc, _+_, _*_, _/_, _^_}
-use mathlib.Core.Bool.{Bool, true, false, not}
+use mathlib.Core.Bool.{not}
 use mathlib.Core.List.{List}
 use mathlib.Core.Option.{Option, none, some}
 use lib.ListN.{length, getD}
@@ -10,12 +10,12 @@ use Rattle.spec.specs.Base.{if_then_else_}
 use Rattle.spec.specs.Schema.{entryStride}
 
 -- The place between lo and hi where `at` is `key`, and `lost` where none is found. k is no less than hi - lo.
-unfoldable pub search : ℕ → (at : ℕ → ℕ) → (lost key lo hi : ℕ) → ℕ
-search zero at lost key lo hi = lost
-search (suc k) at lost key lo hi =
+unfoldable pub seek : ℕ → (at : ℕ → ℕ) → (lost key lo hi : ℕ) → ℕ
+seek zero at lost key lo hi = lost
+seek (suc k) at lost key lo hi =
     let mid = (lo + hi) / 2 in
-    let above = search k at lost key (mid + 1) hi in
-    let below = search k at lost key lo mid in
+    let above = seek k at lost key (mid + 1) hi in
+    let below = seek k at lost key lo mid in
     if not (ltb lo hi) then lost else
     if eqb (at mid) key then mid else
     if ltb (at mid) key then above else below
@@ -33,4 +33,4 @@ within count i = if ltb i count then some i else none
 unfoldable pub findIn : List ℕ → (owner number : ℕ) → Option ℕ
 findIn ns owner number =
     let count = length ns / entryStride in
-    within count (search count (ownerNumber ns) count (owner * 2 ^ 32 + number) 0 count)
+    within count (seek count (ownerNumber ns) count (owner * 2 ^ 32 + number) 0 count)

@@ -5,8 +5,8 @@
 --     info[512 + i]  the kind of entry i
 --     info[768 + i]  its child type, or 255 where it may be packed
 -- Assumes nothing: these are definitions.
-use Prim.Native.Nat.{ℕ, zero, suc, _+_, _*_, _/_, _%_, _^_}
-use mathlib.Core.Bool.{Bool, true, false, not, _&&_}
+use Prim.Native.Nat.{ℕ, _+_, _*_, _/_, _%_, _^_}
+use mathlib.Core.Bool.{Bool, not, _&&_}
 use mathlib.Core.List.{List, [], _∷_}
 use mathlib.Core.Option.{Option, none, some}
 use lib.ListN.{getD, set, take}
@@ -15,7 +15,7 @@ use Rattle.spec.specs.Base.{if_then_else_, between}
 use Rattle.spec.specs.Kind.{wire}
 use Rattle.spec.specs.Schema.{Schema, goodEntry, badSchema, entryStride, Says, unknownKind}
 use Rattle.spec.specs.declared.Entry.{Entry}
-use Rattle.schema.specs.Search.{search}
+use Rattle.schema.specs.Search.{seek}
 
 -- ---- which entries are in them
 
@@ -84,7 +84,7 @@ unfoldable pub entryFor : (keys info : List ℕ) → (type tag : ℕ) → ℕ
 entryFor keys info type t =
     let key = type * 2 ^ 32 + t in
     let guess = getD info (type * 16 + t / 8) 0 in
-    let found = search 256 (keyAt keys) 256 (key / 8) 0 256 in
+    let found = seek 256 (keyAt keys) 256 (key / 8) 0 256 in
     if ltb t 128 && ltb type 32 && eqb (getD keys guess 0) key then guess else found
 
 abbrev pub unknown : ℕ → Says

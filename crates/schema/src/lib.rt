@@ -7,10 +7,9 @@ ghost use lib.Dec.{leb, eqb};
 ghost use lib.ListN.{length};
 ghost use Rattle.spec.specs.Base.{if_then_else_};
 ghost use Rattle.spec.specs.Schema.{goodEntry, badSchema, schemaOf};
-ghost use Rattle.schema.specs.Search.{search, findIn};
+ghost use Rattle.schema.specs.Search.{seek, findIn};
 ghost use Rattle.schema.specs.Tables.{counted, nextKey, innerIn, noted, soundOf, keysWith, infoWith, keyAt, entryFor, unknown, typed, tableSays};
 ghost use Rattle.schema.specs.Told.{entry, fiveAt, told, place, said};
-
 use wire::wire_format;
 
 // The numbers of an entry.
@@ -171,10 +170,11 @@ fn inner_of(w: u8, repeated: u32, child: u32) -> u8
     requires { ⌜ child < 256 ⌝ }
     ensures { λ r. ⌜ r ≡ innerIn w (eqb repeated 1) child ⌝ }
 {
-    if w != 2 {
-        if repeated == 1 {
-            return 255;
-        }
+    if w == 2 {
+        return child as u8;
+    }
+    if repeated == 1 {
+        return 255;
     }
     child as u8
 }
@@ -224,7 +224,7 @@ pub fn tables(types: u32, numbers: &[u32], keys: &mut [u64; 256], info: &mut [u8
 
 // The place of an entry whose key without its wire type is `key`, or 256.
 fn search(keys: &[u64; 256], key: u64) -> usize
-    ensures { λ r. ⌜ r ≡ search 256 (keyAt (now (keys .entry))) 256 key 0 256 ⌝ }
+    ensures { λ r. ⌜ r ≡ seek 256 (keyAt (now (keys .entry))) 256 key 0 256 ⌝ }
 {
     let mut lo: usize = 0;
     let mut hi: usize = 256;
@@ -265,15 +265,9 @@ fn typed(keys: &[u64; 256], info: &[u8; 1024], i: usize, key: u64, tag: u32) -> 
     let inner = info[768 + i];
     if keys[i] == key {
         if kind == 11 {
-            return Said {
-                kind,
-                inner,
-            };
+            return Said { kind, inner };
         }
-        return Said {
-            kind,
-            inner: 0,
-        };
+        return Said { kind, inner: 0 };
     }
     if tag % 8 == 2 {
         if inner == 255 {
@@ -286,6 +280,13 @@ fn typed(keys: &[u64; 256], info: &[u8; 1024], i: usize, key: u64, tag: u32) -> 
     unknown(tag)
 }
 
+// A byte as a place among 256.
+fn index(byte: u8) -> usize
+    ensures { λ r. ⌜ (r ≡ byte) × (r < 256) ⌝ }
+{
+    byte as usize
+}
+
 // The entry of a tag in a message of this type, or 256: the guess where it is right, and else by search.
 fn entry_for(keys: &[u64; 256], info: &[u8; 1024], ty: u32, tag: u32) -> usize
     ensures { λ r. ⌜ r ≡ entryFor (now (keys .entry)) (now (info .entry)) ty tag ⌝ }
@@ -293,7 +294,7 @@ fn entry_for(keys: &[u64; 256], info: &[u8; 1024], ty: u32, tag: u32) -> usize
     let key = ty as u64 * 4294967296 + tag as u64;
     if tag < 128 {
         if ty < 32 {
-            let guess = info[ty as usize * 16 + tag as usize / 8] as usize;
+            let guess = index(info[ty as usize * 16 + tag as usize / 8]);
             if keys[guess] == key {
                 return guess;
             }

@@ -1,0 +1,22 @@
+-- `schema::counts_ok` meets its contract: each test is one of the definition's. Assumes nothing.
+use native.Mathlib.Omega.{arith}
+use borrow.Author.Tests.{le-leb, lt-leb}
+use Rattle.schema.proofs.counts_ok.Statement.{statement}
+use Rattle.schema.proofs.counts_ok.Tie as tie
+
+returns : tie.Need-returns
+returns c = simp (lt-leb 1 (c .before .args .types) (omega arith))
+
+returns-2 : tie.Need-returns-2
+returns-2 c = simp (le-leb 1 (c .before .before .args .types) (omega arith), lt-leb (c .before .before .args .types) 32 (omega arith))
+
+returns-3 : tie.Need-returns-3
+returns-3 c =
+    simp (le-leb 1 (c .before .before .before .args .types) (omega arith), le-leb (c .before .before .before .args .types) 32 (omega arith), lt-leb (c .before .before .before .args .count) 1280 (omega arith))
+
+returns-4 : tie.Need-returns-4
+returns-4 c =
+    simp (le-leb 1 (c .before .before .before .args .types) (omega arith), le-leb (c .before .before .before .args .types) 32 (omega arith), le-leb (c .before .before .before .args .count) 1280 (omega arith))
+
+pub counts-ok-spec : {M : Type 1} → statement M
+counts-ok-spec = tie.close (tie.spec returns returns-2 returns-3 returns-4)

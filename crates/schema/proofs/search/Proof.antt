@@ -1,0 +1,49 @@
+-- `schema::search` meets its contract. The loop's invariant: what is searched in all is what is searched from here. Assumes nothing.
+use native.Mathlib.Omega.{arith}
+use borrow.Author.Needs.{needs}
+use mathlib.Core.Path.{_≡_, refl, sym, _∙_}
+use Prim.Native.Nat.{_-_, _≤_}
+use Rattle.schema.specs.Search.{seek}
+use Rattle.schema.specs.Tables.{keyAt}
+use Rattle.schema.proofs.SearchLaws.{halves-end, halves-here, halves-above, halves-below}
+use Rattle.schema.proofs.search.Statement.{statement}
+use Rattle.schema.proofs.search.Tie as tie
+
+abbrev Inv-loop : tie.InvT-loop
+Inv-loop keys key lo₀ hi₀ lo hi = (lo ≤ hi) × (hi ≤ 256) × (seek 256 (keyAt keys) 256 key 0 256 ≡ seek (hi - lo) (keyAt keys) 256 key lo hi)
+
+abbrev μ-loop : tie.MeasureT-loop
+μ-loop keys key lo₀ hi₀ lo hi = hi - lo
+
+loop-holds : tie.Need-loop-holds Inv-loop μ-loop
+loop-holds c = (omega arith, omega arith, refl)
+
+returns : tie.Need-returns Inv-loop μ-loop
+returns c = sym (c .before .before .before .loop .inv .2 ∙ halves-here (keyAt (c .before .before .before .before .args .keys .now)) 256 (c .before .before .before .before .args .key) (c .before .before .before .loop .lo) (c .before .before .before .loop .hi) (c .before .before .loop-test .taken) (c .if1 .taken))
+
+loop-again : tie.Need-loop-again Inv-loop μ-loop
+loop-again c = (omega arith, omega arith, c .before .before .before .before .loop .inv .2 ∙ halves-above (keyAt (c .before .before .before .before .before .args .keys .now)) 256 (c .before .before .before .before .before .args .key) (c .before .before .before .before .loop .lo) (c .before .before .before .before .loop .hi) (c .before .before .before .loop-test .taken) (c .if2 .taken))
+
+loop-again-2 : tie.Need-loop-again-2 Inv-loop μ-loop
+loop-again-2 c = (omega arith, omega arith, c .before .before .before .before .loop .inv .2 ∙ halves-below (keyAt (c .before .before .before .before .before .args .keys .now)) 256 (c .before .before .before .before .before .args .key) (c .before .before .before .before .loop .lo) (c .before .before .before .before .loop .hi) (c .before .before .before .loop-test .taken) (omega arith))
+
+returns-2 : tie.Need-returns-2 Inv-loop μ-loop
+returns-2 c = sym (c .before .loop .inv .2 ∙ halves-end (keyAt (c .before .before .args .keys .now)) 256 (c .before .before .args .key) (c .before .loop .lo) (c .before .loop .hi) (c .loop-test .left))
+
+pub search-spec : {M : Type 1} → statement M
+search-spec =
+    tie.close
+    (tie.spec
+    Inv-loop
+    μ-loop
+    loop-holds
+    (λ c. search needs)
+    (λ c. search needs)
+    (λ c. search needs)
+    returns
+    (λ c. search needs)
+    (λ c. search needs)
+    loop-again
+    (λ c. search needs)
+    loop-again-2
+    returns-2)
