@@ -13,7 +13,6 @@ mod message;
 mod packed;
 mod room;
 mod scalar;
-mod skip;
 
 use crate::message::message;
 use crate::room::Step;

@@ -17,8 +17,8 @@ use crate::scalar::Meant;
 use crate::scalar::Short;
 use crate::scalar::meant;
 use crate::scalar::short_at;
-use crate::skip::Past;
-use crate::skip::skip_unknown_group;
+use skip::field::Past;
+use skip::unknown_or_group::skip_unknown_group;
 
 enum Kind {
     Of(u64),

@@ -6,8 +6,10 @@ ghost use Rattle.spec.specs.Varint.{fixed};
 ghost use Rattle.spec.specs.Base.{meaning};
 ghost use Rattle.spec.specs.Kind.{shape, wire, extend};
 ghost use Rattle.wire.specs.Answers.{told};
-ghost use Rattle.wire.specs.Text.{word};
 ghost use Rattle.read.specs.Answers.{scalarOf, meantBy, inRange, isNarrow, Shortly};
+use wire::fixed::decode_fixed32;
+use wire::fixed::decode_fixed64;
+use wire::fixed::extend32;
 use wire::found::Found;
 use wire::varint::decode::decode_varint32;
 use wire::varint::decode::decode_varint64;
@@ -118,79 +120,29 @@ pub fn int_at(s: &[u8], at: usize, kind: u64) -> Found
     }
 }
 
-// ---- numbers of four and eight bytes
-
-fn four(s: &[u8], i: usize) -> u64
-    requires { ⌜ i + 4 ≤ length (now s) ⌝ }
-    ensures { λ r. ⌜ (r ≡ word 4 (now (s .entry)) i) × (r < 4294967296) ⌝ }
-{
-    let a = s[i] as u64;
-    let b = s[i + 1] as u64;
-    let c = s[i + 2] as u64;
-    let d = s[i + 3] as u64;
-    a + b * 256 + c * 65536 + d * 16777216
-}
-
-fn fixed32_at(s: &[u8], at: usize) -> Found
-    requires { ⌜ at ≤ length (now s) ⌝ }
-    ensures { λ r. ⌜ told at r ≡ fixed 4 (drop at (now (s .entry))) ⌝ }
-{
-    if s.len() - at < 4 {
-        return Found::Refused(1);
-    }
-    let value = four(s, at);
-    let next = at + 4;
-    Found::Value { value, next }
-}
-
-fn fixed64_at(s: &[u8], at: usize) -> Found
-    requires { ⌜ at ≤ length (now s) ⌝ }
-    ensures { λ r. ⌜ told at r ≡ fixed 8 (drop at (now (s .entry))) ⌝ }
-{
-    if s.len() - at < 8 {
-        return Found::Refused(1);
-    }
-    let low = four(s, at);
-    let high = four(s, at + 4);
-    let value = low + high * 4294967296;
-    let next = at + 8;
-    Found::Value { value, next }
-}
-
-// The pattern of a signed number of 32 bits.
-fn extended(v: u64) -> u64
-    requires { ⌜ v < 4294967296 ⌝ }
-    ensures { λ r. ⌜ r ≡ extend v ⌝ }
-{
-    if v < 0x8000_0000 {
-        v
-    } else {
-        v + 0xffff_ffff_0000_0000
-    }
-}
+// ---- numbers of four bytes with a sign
 
 fn sfixed32_at(s: &[u8], at: usize) -> Found
-    requires { ⌜ at ≤ length (now s) ⌝ }
     ensures { λ r. ⌜ told at r ≡ meaning extend (fixed 4 (drop at (now (s .entry)))) ⌝ }
 {
-    if s.len() - at < 4 {
-        return Found::Refused(1);
+    match decode_fixed32(s, at) {
+        Found::Value { value, next } => {
+            let v = extend32(value as u32);
+            Found::Value { value: v, next }
+        }
+        Found::Refused(k) => Found::Refused(k),
     }
-    let value = extended(four(s, at));
-    let next = at + 4;
-    Found::Value { value, next }
 }
 
 // ---- any of them
 
 // A value of a kind that is one number, and else refusal 3.
 pub fn scalar_at(s: &[u8], at: usize, kind: u64) -> Found
-    requires { ⌜ at ≤ length (now s) ⌝ }
     ensures { λ r. ⌜ told at r ≡ scalarOf (shape kind) (drop at (now (s .entry))) ⌝ }
 {
     match kind {
-        1 | 6 | 16 | 22 => fixed64_at(s, at),
-        2 | 7 | 24 => fixed32_at(s, at),
+        1 | 6 | 16 | 22 => decode_fixed64(s, at),
+        2 | 7 | 24 => decode_fixed32(s, at),
         15 => sfixed32_at(s, at),
         3 | 4 | 5 | 8 | 13 | 14 | 17 | 18 | 21 => int_at(s, at, kind),
         _ => Found::Refused(3),

@@ -18,14 +18,14 @@ returns c = no-room (omega arith)
 returns-2 : tie.Need-returns-2
 returns-2 c =
     let start = c .before .before .before .before .before in
-    no-room (omega (arith, length-encode (start .args .value) (start .fits .value .fits)))
+    no-room (omega (arith, length-encode (start .args .value)))
 
 -- there is room, whichever way it was found
 room : (c : tie.Joined2) → c .before .before .before .args .at + length (encode (c .before .before .before .args .value)) ≤ length (c .before .before .before .args .out .now)
 room c =
     let start = c .before .before .before in
     ⊎-elim
-    (λ w. omega (arith, length-encode (start .args .value) (start .fits .value .fits)))
+    (λ w. omega (arith, length-encode (start .args .value)))
     (λ w. omega (arith, bytes-within 9 (start .args .value) (omega arith) (omega arith)))
     (c .if2 .came)
 
