@@ -16,7 +16,7 @@ use Rattle.spec.proofs.VarintLaws.{lower-or-not}
 use Rattle.spec.proofs.FieldLaws.{kind-typed, kind-packed, kind-unknown, kind-lacking}
 use Rattle.spec.proofs.SchemaLaws.{schema-kinds, Is, Before, type-before, number-before, Good, good-entry, at, place-found, place-none, valid-types, valid-count, valid-good, valid-found}
 use Rattle.spec.specs.declared.Entry.{Entry}
-use Rattle.wire.proofs.Upto.{equal-below}
+use Rattle.wire.proofs.Below.{equal-below}
 use Rattle.schema.proofs.SearchLaws.{Keyed, placedOr, search-place}
 use Rattle.schema.proofs.MakingLaws.{wire-below}
 use Rattle.schema.proofs.StoredLaws.{length-keys, keys-at, keys-else, kinds-at, inners-at}

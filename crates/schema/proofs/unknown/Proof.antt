@@ -6,7 +6,7 @@ use Prim.Native.Nat.{ℕ, _%_}
 use mathlib.Core.List.{[], _∷_}
 use lib.ListN.{getD}
 use Rattle.spec.specs.Schema.{unknownKind}
-use Rattle.wire.proofs.Upto.{equal-below}
+use Rattle.wire.proofs.Below.{equal-below}
 use Rattle.schema.proofs.unknown.Statement.{statement}
 use Rattle.schema.proofs.unknown.Tie as tie
 
