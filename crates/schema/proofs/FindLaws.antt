@@ -49,11 +49,11 @@ module _ (types : ℕ) (ns : List ℕ) (valid : badSchema (schemaOf types ns) �
         let k : i < length ns / 5 = omega (arith, length-entries (length ns / 5) ns) in
         let five : at (schemaIn types ns) i ≡ entry (fiveAt ns (5 * i)) = entry-at (length ns / 5) ns i k ∙ sym (first-five ns (5 * i)) in
         let good = good-five types (fiveAt ns (5 * i)) (ap (goodEntry types) (sym five) ∙ valid-good (schemaIn types ns) valid-whole i u) in
-        let is = five ∙ is-entry types (fiveAt ns (5 * i)) (good .0) in
+        let is = five ∙ is-entry (fiveAt ns (5 * i)) (good .0) in
         let m = good .1 .number-to in
         let p : 5 * i ≡ i * 5 = omega arith in
         subst (λ (j : ℕ). Keyed o n (o * 2 ^ 32 + n) (at (schemaIn types ns) i) (getD ns j 0 * 2 ^ 32 + getD ns (j + 1) 0)) p
-        (subst (λ (e : Entry). Keyed o n (o * 2 ^ 32 + n) e (getD ns (5 * i) 0 * 2 ^ 32 + getD ns (5 * i + 1) 0)) (sym is) (keyed o n (plain types (fiveAt ns (5 * i))) l (omega arith)))
+        (subst (λ (e : Entry). Keyed o n (o * 2 ^ 32 + n) e (getD ns (5 * i) 0 * 2 ^ 32 + getD ns (5 * i + 1) 0)) (sym is) (keyed o n (plain (fiveAt ns (5 * i))) l (omega arith)))
 
     pub find-place : findIn ns o n ≡ placeOf 0 (schemaOf types ns .entries) o n
     unfolding findIn

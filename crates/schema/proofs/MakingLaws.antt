@@ -103,16 +103,16 @@ module _ {types : ℕ} {ns : List ℕ} {i e last : ℕ} {keys₀ keys info₀ in
       made-bad z = promised (some e) (here-bad (m .here) l at is z) refl
 
       module _ (there : key ≡ 0 → ⊥) where
-        good : (f .repeated < 2) × Good types (plain types f)
+        good : (f .repeated < 2) × Good types (plain f)
         good = good-five types f (here-good (m .here) l at is there .0)
 
-        as-plain : entry f ≡ plain types f
-        as-plain = is-entry types f (good .0)
+        as-plain : entry f ≡ plain f
+        as-plain = is-entry f (good .0)
 
-        key-plain : key ≡ rank (plain types f)
+        key-plain : key ≡ rank (plain f)
         key-plain = here-good (m .here) l at is there .1 ∙ ap rank as-plain
 
-        at-place : getD (entriesIn ns) e noEntry ≡ plain types f
+        at-place : getD (entriesIn ns) e noEntry ≡ plain f
         at-place = here-entry (m .here) l at ∙ as-plain
 
         among : e < length (entriesIn ns)

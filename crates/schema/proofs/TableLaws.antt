@@ -21,7 +21,7 @@ use Rattle.schema.proofs.SearchLaws.{Keyed, placedOr, search-place}
 use Rattle.schema.proofs.MakingLaws.{wire-below}
 use Rattle.schema.proofs.StoredLaws.{length-keys, keys-at, keys-else, kinds-at, inners-at}
 use Rattle.schema.specs.Search.{seek}
-use Rattle.schema.specs.Tables.{keyOf, innerOf, keysWith, infoWith, keyAt, entryFor, unknown, typed, tableSays}
+use Rattle.schema.specs.Tables.{upTo, soundOf, keyOf, innerOf, keysWith, infoWith, keyAt, entryFor, unknown, typed, tableSays}
 use Rattle.schema.proofs.AskingLaws.{guessed, Right, right-or-not, entry-guessed, entry-searched, typed-same, typed-packed, typed-else, says-typed, says-unknown}
 
 -- each kind of descriptor.proto is one number exactly when its wire type is not 2
@@ -38,7 +38,6 @@ bit-once false false e = refl
 
 scalar-kind : {types : ℕ} {e : Entry} → Good types e → isScalar (shape (e .kind)) ≡ not (eqb (wire (e .kind)) 2)
 scalar-kind {types} {e} g =
-    let k = e .kind in
     bit-once (isScalar (shape (e .kind))) (not (eqb (wire (e .kind)) 2) && not (eqb (e .kind) 0) && not (eqb (e .kind) 10)) (kind-test (e .kind) (g .kind-to))
     ∙ ap₂ (λ (a b : Bool). not (eqb (wire (e .kind)) 2) && not a && not b) (ne-eqb (e .kind) 0 (λ z. omega (arith, g .kind-from))) (ne-eqb (e .kind) 10 (g .no-group))
     ∙ go (not (eqb (wire (e .kind)) 2))
@@ -154,9 +153,9 @@ module _ (sch : Schema) (valid : badSchema sch ≡ none) (keys₀ info₀ : List
         (λ i l. keyed-row type t (good-at i l) (key-at i l) tag-below)
         (λ i l u. omega (arith, keys-else (sch .entries) keys₀ few (omega arith) i l u, unused i u))
 
-    guess-right : Right keys info type t → guessed keys info type t ≡ placedOr 256 (placeOf 0 (sch .entries) type (t / 8))
+    guess-right : Right keys info type t → guessed info type t ≡ placedOr 256 (placeOf 0 (sch .entries) type (t / 8))
     guess-right r =
-        let i : ℕ = guessed keys info type t in
+        let i : ℕ = guessed info type t in
         let l = key-within i (type * 2 ^ 32 + t) (r .2) (omega arith) (omega arith) in
         let k : keyOf (at sch i) ≡ type * 2 ^ 32 + t = sym (key-at i l) ∙ r .2 in
         let g = good-at i l in
@@ -171,9 +170,6 @@ module _ (sch : Schema) (valid : badSchema sch ≡ none) (keys₀ info₀ : List
         (λ r. entry-searched keys info type t r ∙ searched)
 
     module _ (wired : t % 8 ≤ 5) (i : ℕ) (l : i < length (sch .entries)) (is : Is type (t / 8) (at sch i)) where
-      abbrev e : Entry
-      e = at sch i
-
       abbrev Typed : Type 0
       Typed = typed keys info i (type * 2 ^ 32 + t) t ≡ saysOf (at sch i) (t % 8)
 
@@ -226,6 +222,11 @@ module _ (sch : Schema) (valid : badSchema sch ≡ none) (keys₀ info₀ : List
             says-typed keys info type t {i = i} (sym (entry-place ∙ ap (placedOr 256) p)) (omega (arith, few, f .0))
             ∙ typed-entry wired i (f .0) (f .2)
             ∙ ap (λ (x : Entry). saysOf x (t % 8)) (sym (f .1))
+
+-- all entries of a valid schema are in them
+pub sound-valid : (sch : Schema) → badSchema sch ≡ none → soundOf sch ≡ sch .entries
+unfolding soundOf
+sound-valid sch valid = ap (λ (bad : Option ℕ). upTo bad (sch .entries)) valid
 
 -- The same of the arrays that a reader clears: every key the largest number.
 pub made-says : (sch : Schema) → badSchema sch ≡ none → (info : List ℕ) → 1024 ≤ length info → (type t : ℕ) → type < 32 → 1 ≤ t / 8 → t < 2 ^ 32 → t % 8 ≤ 5

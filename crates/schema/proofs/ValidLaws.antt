@@ -74,23 +74,23 @@ module _ (types : ℕ) (ns : List ℕ) where
 -- ---- a good entry
 
 -- five numbers whose `repeated` is 0 or 1 are an entry
+abbrev pub plain : Five → Entry
+plain f = record { owner = f .owner; number = f .number; kind = f .kind; repeated = eqb (f .repeated) 1; child = f .child }
+
+pub is-entry : (f : Five) → f .repeated < 2 → entry f ≡ plain f
+unfolding entryOf
+is-entry f h = ap (λ (b : Bool). if b then plain f else noEntry) (lt-ltb (f .repeated) 2 h)
+
 module _ (types : ℕ) (f : Five) where
-  abbrev pub plain : Entry
-  plain = record { owner = f .owner; number = f .number; kind = f .kind; repeated = eqb (f .repeated) 1; child = f .child }
-
-  pub is-entry : f .repeated < 2 → entry f ≡ plain
-  unfolding entryOf
-  is-entry h = ap (λ (b : Bool). if b then plain else noEntry) (lt-ltb (f .repeated) 2 h)
-
   -- what good numbers are
-  pub good-five : goodEntry types (entry f) ≡ true → (f .repeated < 2) × Good types plain
+  pub good-five : goodEntry types (entry f) ≡ true → (f .repeated < 2) × Good types (plain f)
   good-five g =
       lower-or-not (f .repeated) 2
-      (λ h. (h, good-entry types plain (ap (goodEntry types) (sym (is-entry h)) ∙ g)))
+      (λ h. (h, good-entry types (plain f) (ap (goodEntry types) (sym (is-entry f h)) ∙ g)))
       (λ h. absurd (false≢true (sym (repeated-bad types (f .owner) (f .number) (f .kind) (f .repeated) (f .child) h) ∙ g)))
 
   -- and which are bad
-  pub bad-five : ((f .repeated < 2) × Good types plain → ⊥) → false ≡ goodEntry types (entry f)
+  pub bad-five : ((f .repeated < 2) × Good types (plain f) → ⊥) → false ≡ goodEntry types (entry f)
   bad-five h = by-test (goodEntry types (entry f)) (λ p. absurd (h (good-five p))) (λ p. sym p)
 
   -- the child decides, where all else is right
@@ -98,7 +98,7 @@ module _ (types : ℕ) (f : Five) where
       → goodEntry types (entry f) ≡ (if eqb (f .kind) 11 then ltb (f .child) types else eqb (f .child) 0)
   unfolding goodEntry
   child-decides o n m k l t r =
-      ap (goodEntry types) (is-entry r)
+      ap (goodEntry types) (is-entry f r)
       ∙ simp (lt-ltb (f .owner) types o, le-leb 1 (f .number) n, le-leb (f .number) 536870911 m, le-leb 1 (f .kind) k, le-leb (f .kind) 18 l, ne-eqb (f .kind) 10 t)
 
 -- ---- an entry is the next one

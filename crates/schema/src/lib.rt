@@ -1,11 +1,9 @@
 // A schema on numbers: valid or not, an entry by owner and number, and the tables that a reader makes once for each call.
 // An entry is five numbers: owner, number, kind, repeated (0 or 1), child.
 ghost use mathlib.Core.Path.{_≡_};
-ghost use mathlib.Core.Bool.{_&&_, not};
-ghost use Prim.Native.Nat.{_+_, _*_, _/_, _^_, _≤_, _<_};
-ghost use lib.Dec.{leb, eqb};
+ghost use Prim.Native.Nat.{_+_, _<_};
+ghost use lib.Dec.{eqb};
 ghost use lib.ListN.{length};
-ghost use Rattle.spec.specs.Base.{if_then_else_};
 ghost use Rattle.spec.specs.Schema.{goodEntry, badSchema, schemaOf};
 ghost use Rattle.schema.specs.Search.{seek, findIn};
 ghost use Rattle.schema.specs.Tables.{counted, nextKey, innerIn, noted, soundOf, keysWith, infoWith, keyAt, entryFor, unknown, typed, tableSays};

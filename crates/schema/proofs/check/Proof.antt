@@ -15,10 +15,14 @@ abbrev μ-loop : tie.MeasureT-loop
 μ-loop types numbers i₀ e₀ last₀ i e last = length numbers - i
 
 returns : tie.Need-returns Inv-loop μ-loop
-returns c = sym (counts-wrong (c .before .before .before .args .types) (c .before .before .before .args .numbers .now) (sym (c .before .counts-ok .ensures) ∙ not-true (c .before .counts-ok .result) (c .if1 .taken)))
+returns c =
+    let a = c .before .before .before .args in
+    sym (counts-wrong (a .types) (a .numbers .now) (sym (c .before .counts-ok .ensures) ∙ not-true (c .before .counts-ok .result) (c .if1 .taken)))
 
 loop-holds : tie.Need-loop-holds Inv-loop μ-loop
-loop-holds c = here-first (c .before .before .before .args .types) (c .before .before .before .args .numbers .now) (sym (c .before .counts-ok .ensures) ∙ not-false (c .before .counts-ok .result) (c .if1 .left))
+loop-holds c =
+    let a = c .before .before .before .args in
+    here-first (a .types) (a .numbers .now) (sym (c .before .counts-ok .ensures) ∙ not-false (c .before .counts-ok .result) (c .if1 .left))
 
 five-at-requires : tie.Need-five-at-requires Inv-loop μ-loop
 five-at-requires c κs = here-five (c .before .loop .inv) (c .loop-test .taken)

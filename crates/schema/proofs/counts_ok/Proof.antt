@@ -8,15 +8,19 @@ returns : tie.Need-returns
 returns c = simp (lt-leb 1 (c .before .args .types) (omega arith))
 
 returns-2 : tie.Need-returns-2
-returns-2 c = simp (le-leb 1 (c .before .before .args .types) (omega arith), lt-leb (c .before .before .args .types) 32 (omega arith))
+returns-2 c =
+    let a = c .before .before .args in
+    simp (le-leb 1 (a .types) (omega arith), lt-leb (a .types) 32 (omega arith))
 
 returns-3 : tie.Need-returns-3
 returns-3 c =
-    simp (le-leb 1 (c .before .before .before .args .types) (omega arith), le-leb (c .before .before .before .args .types) 32 (omega arith), lt-leb (c .before .before .before .args .count) 1280 (omega arith))
+    let a = c .before .before .before .args in
+    simp (le-leb 1 (a .types) (omega arith), le-leb (a .types) 32 (omega arith), lt-leb (a .count) 1280 (omega arith))
 
 returns-4 : tie.Need-returns-4
 returns-4 c =
-    simp (le-leb 1 (c .before .before .before .args .types) (omega arith), le-leb (c .before .before .before .args .types) 32 (omega arith), le-leb (c .before .before .before .args .count) 1280 (omega arith))
+    let a = c .before .before .before .args in
+    simp (le-leb 1 (a .types) (omega arith), le-leb (a .types) 32 (omega arith), le-leb (a .count) 1280 (omega arith))
 
 pub counts-ok-spec : {M : Type 1} → statement M
 counts-ok-spec = tie.close (tie.spec returns returns-2 returns-3 returns-4)

@@ -11,14 +11,16 @@ use Rattle.schema.proofs.entry_for.Tie as tie
 
 returns : tie.Need-returns
 returns c =
+    let a = c .before .before .before .before .before .before .args in
     let g = c .before .before .index .ensures .0 in
-    g ∙ sym (entry-guessed (c .before .before .before .before .before .before .args .keys .now) (c .before .before .before .before .before .before .args .info .now) (c .before .before .before .before .before .before .args .ty) (c .before .before .before .before .before .before .args .tag) (c .before .before .before .before .before .if1 .taken, c .before .before .before .before .if2 .taken, ap (λ (i : ℕ). getD (c .before .before .before .before .before .before .args .keys .now) i 0) (sym g) ∙ c .if3 .taken))
+    g ∙ sym (entry-guessed (a .keys .now) (a .info .now) (a .ty) (a .tag) (c .before .before .before .before .before .if1 .taken, c .before .before .before .before .if2 .taken, ap (λ (i : ℕ). getD (a .keys .now) i 0) (sym g) ∙ c .if3 .taken))
 
 returns-2 : tie.Need-returns-2
 returns-2 c =
+    let a = c .before .before .args in
     c .search .ensures
-    ∙ sym (entry-searched (c .before .before .args .keys .now) (c .before .before .args .info .now) (c .before .before .args .ty) (c .before .before .args .tag) (λ r.
-    ⊎-elim (λ w. w .5 .left (ap (λ (i : ℕ). getD (c .before .before .args .keys .now) i 0) (w .3 .ensures .0) ∙ r .2)) (λ w. ⊎-elim (λ v. omega (arith, v .1 .left)) (λ v. omega (arith, v .left)) w) (c .before .if1 .came)))
+    ∙ sym (entry-searched (a .keys .now) (a .info .now) (a .ty) (a .tag) (λ r.
+    ⊎-elim (λ w. w .5 .left (ap (λ (i : ℕ). getD (a .keys .now) i 0) (w .3 .ensures .0) ∙ r .2)) (λ w. ⊎-elim (λ v. omega (arith, v .1 .left)) (λ v. omega (arith, v .left)) w) (c .before .if1 .came)))
 
 pub entry-for-spec : {M : Type 1} → statement M
 entry-for-spec =

@@ -22,39 +22,58 @@ abbrev μ-loop : tie.MeasureT-loop
 loop-holds : tie.Need-loop-holds Inv-loop μ-loop
 unfolding findIn
 loop-holds c =
-    let n : ℕ = length (c .args .numbers .now) / 5 in
+    let a = c .args in
+    let n : ℕ = length (a .numbers .now) / 5 in
     let z : n ≡ n - 0 = omega arith in
-    (omega arith, omega arith, ap (λ (k : ℕ). within n (seek k (ownerNumber (c .args .numbers .now)) n (c .args .owner * 2 ^ 32 + c .args .number) 0 n)) z)
+    (omega arith, omega arith, ap (λ (k : ℕ). within n (seek k (ownerNumber (a .numbers .now)) n (a .owner * 2 ^ 32 + a .number) 0 n)) z)
 
 cast-here : tie.Need-cast-here Inv-loop μ-loop
-cast-here c = omega (arith, c .shared-slice-known2 .given ((c .before .before .before .loop .lo + c .before .before .before .loop .hi) / 2 * 5))
+cast-here c =
+    let l = c .before .before .before .loop in
+    omega (arith, c .shared-slice-known2 .given ((l .lo + l .hi) / 2 * 5))
 
 mul-here : tie.Need-mul-here Inv-loop μ-loop
-mul-here c = omega (arith, c .shared-slice-known2 .given ((c .before .before .before .loop .lo + c .before .before .before .loop .hi) / 2 * 5))
+mul-here c =
+    let l = c .before .before .before .loop in
+    omega (arith, c .shared-slice-known2 .given ((l .lo + l .hi) / 2 * 5))
 
 cast-here-2 : tie.Need-cast-here-2 Inv-loop μ-loop
-cast-here-2 c = omega (arith, c .shared-slice-known2 .given ((c .before .before .before .loop .lo + c .before .before .before .loop .hi) / 2 * 5 + 1))
+cast-here-2 c =
+    let l = c .before .before .before .loop in
+    omega (arith, c .shared-slice-known2 .given ((l .lo + l .hi) / 2 * 5 + 1))
 
 add-here : tie.Need-add-here Inv-loop μ-loop
-add-here c = omega (arith, c .shared-slice-known2 .given ((c .before .before .before .loop .lo + c .before .before .before .loop .hi) / 2 * 5), c .shared-slice-known2 .given ((c .before .before .before .loop .lo + c .before .before .before .loop .hi) / 2 * 5 + 1))
+add-here c =
+    let l = c .before .before .before .loop in
+    omega (arith, c .shared-slice-known2 .given ((l .lo + l .hi) / 2 * 5), c .shared-slice-known2 .given ((l .lo + l .hi) / 2 * 5 + 1))
 
 returns : tie.Need-returns Inv-loop μ-loop
 returns c =
-    let n : ℕ = length (c .before .before .before .before .before .args .numbers .now) / 5 in
-    let mid : ℕ = (c .before .before .before .before .loop .lo + c .before .before .before .before .loop .hi) / 2 in
-    sym (c .before .before .before .before .loop .inv .2 ∙ ap (within n) (halves-here (ownerNumber (c .before .before .before .before .before .args .numbers .now)) (length (c .before .before .before .before .before .args .numbers .now) / 5) (c .before .before .before .before .before .args .owner * 2 ^ 32 + c .before .before .before .before .before .args .number) (c .before .before .before .before .loop .lo) (c .before .before .before .before .loop .hi) (c .before .before .before .loop-test .taken) (c .if1 .taken))
+    let a = c .before .before .before .before .before .args in
+    let l = c .before .before .before .before .loop in
+    let n : ℕ = length (a .numbers .now) / 5 in
+    let mid : ℕ = (l .lo + l .hi) / 2 in
+    sym (l .inv .2 ∙ ap (within n) (halves-here (ownerNumber (a .numbers .now)) (length (a .numbers .now) / 5) (a .owner * 2 ^ 32 + a .number) (l .lo) (l .hi) (c .before .before .before .loop-test .taken) (c .if1 .taken))
     ∙ ap (λ (b : Bool). if b then some mid else none) (lt-ltb mid n (omega arith)))
 
 loop-again : tie.Need-loop-again Inv-loop μ-loop
-loop-again c = (omega arith, omega arith, c .before .before .before .before .before .loop .inv .2 ∙ ap (within (length (c .before .before .before .before .before .before .args .numbers .now) / 5)) (halves-above (ownerNumber (c .before .before .before .before .before .before .args .numbers .now)) (length (c .before .before .before .before .before .before .args .numbers .now) / 5) (c .before .before .before .before .before .before .args .owner * 2 ^ 32 + c .before .before .before .before .before .before .args .number) (c .before .before .before .before .before .loop .lo) (c .before .before .before .before .before .loop .hi) (c .before .before .before .before .loop-test .taken) (c .if2 .taken)))
+loop-again c =
+    let a = c .before .before .before .before .before .before .args in
+    let l = c .before .before .before .before .before .loop in
+    (omega arith, omega arith, l .inv .2 ∙ ap (within (length (a .numbers .now) / 5)) (halves-above (ownerNumber (a .numbers .now)) (length (a .numbers .now) / 5) (a .owner * 2 ^ 32 + a .number) (l .lo) (l .hi) (c .before .before .before .before .loop-test .taken) (c .if2 .taken)))
 
 loop-again-2 : tie.Need-loop-again-2 Inv-loop μ-loop
-loop-again-2 c = (omega arith, omega arith, c .before .before .before .before .before .loop .inv .2 ∙ ap (within (length (c .before .before .before .before .before .before .args .numbers .now) / 5)) (halves-below (ownerNumber (c .before .before .before .before .before .before .args .numbers .now)) (length (c .before .before .before .before .before .before .args .numbers .now) / 5) (c .before .before .before .before .before .before .args .owner * 2 ^ 32 + c .before .before .before .before .before .before .args .number) (c .before .before .before .before .before .loop .lo) (c .before .before .before .before .before .loop .hi) (c .before .before .before .before .loop-test .taken) (omega arith)))
+loop-again-2 c =
+    let a = c .before .before .before .before .before .before .args in
+    let l = c .before .before .before .before .before .loop in
+    (omega arith, omega arith, l .inv .2 ∙ ap (within (length (a .numbers .now) / 5)) (halves-below (ownerNumber (a .numbers .now)) (length (a .numbers .now) / 5) (a .owner * 2 ^ 32 + a .number) (l .lo) (l .hi) (c .before .before .before .before .loop-test .taken) (omega arith)))
 
 returns-2 : tie.Need-returns-2 Inv-loop μ-loop
 returns-2 c =
-    let n : ℕ = length (c .before .before .args .numbers .now) / 5 in
-    sym (c .before .loop .inv .2 ∙ ap (within n) (halves-end (ownerNumber (c .before .before .args .numbers .now)) (length (c .before .before .args .numbers .now) / 5) (c .before .before .args .owner * 2 ^ 32 + c .before .before .args .number) (c .before .loop .lo) (c .before .loop .hi) (c .loop-test .left)) ∙ ap (λ (b : Bool). if b then some n else none) (le-ltb n n (omega arith)))
+    let a = c .before .before .args in
+    let l = c .before .loop in
+    let n : ℕ = length (a .numbers .now) / 5 in
+    sym (l .inv .2 ∙ ap (within n) (halves-end (ownerNumber (a .numbers .now)) (length (a .numbers .now) / 5) (a .owner * 2 ^ 32 + a .number) (l .lo) (l .hi) (c .loop-test .left)) ∙ ap (λ (b : Bool). if b then some n else none) (le-ltb n n (omega arith)))
 
 pub find-spec : {M : Type 1} → statement M
 find-spec =

@@ -30,14 +30,14 @@ returns-2 : tie.Need-returns-2
 returns-2 c =
     let a = c .before .before .before .before .before .args in
     let good : goodEntry (a .types) (entry (a .f)) ≡ true = sym (c .before .before .before .before .entry-ok .ensures) ∙ not-false (c .before .before .before .before .entry-ok .result) (c .before .before .before .if1 .left) in
-    let key : rank (entry (a .f)) ≡ a .f .owner * 2 ^ 32 + a .f .number * 8 = ap rank (is-entry (a .types) (a .f) (good-five (a .types) (a .f) good .0)) in
+    let key : rank (entry (a .f)) ≡ a .f .owner * 2 ^ 32 + a .f .number * 8 = ap rank (is-entry (a .f) (good-five (a .types) (a .f) good .0)) in
     sym (key-refused (a .types) (a .last) (entry (a .f)) (ap₂ (_&&_) good (le-ltb (a .last) (rank (entry (a .f))) (omega arith))))
 
 returns-3 : tie.Need-returns-3
 returns-3 c =
     let a = c .before .before .before .before .before .args in
     let good : goodEntry (a .types) (entry (a .f)) ≡ true = sym (c .before .before .before .before .entry-ok .ensures) ∙ not-false (c .before .before .before .before .entry-ok .result) (c .before .before .before .if1 .left) in
-    let key : rank (entry (a .f)) ≡ a .f .owner * 2 ^ 32 + a .f .number * 8 = ap rank (is-entry (a .types) (a .f) (good-five (a .types) (a .f) good .0)) in
+    let key : rank (entry (a .f)) ≡ a .f .owner * 2 ^ 32 + a .f .number * 8 = ap rank (is-entry (a .f) (good-five (a .types) (a .f) good .0)) in
     sym (key-passed (a .types) (a .last) (entry (a .f)) (ap₂ (_&&_) good (lt-ltb (a .last) (rank (entry (a .f))) (omega arith))) ∙ key)
 
 pub next-key-spec : {M : Type 1} → statement M

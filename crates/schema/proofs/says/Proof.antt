@@ -6,10 +6,14 @@ use Rattle.schema.proofs.says.Statement.{statement}
 use Rattle.schema.proofs.says.Tie as tie
 
 returns : tie.Need-returns
-returns c = c .typed .ensures ∙ sym (says-typed (c .before .before .before .args .keys .now) (c .before .before .before .args .info .now) (c .before .before .before .args .ty) (c .before .before .before .args .tag) (c .before .before .entry-for .ensures) (c .before .if1 .taken))
+returns c =
+    let a = c .before .before .before .args in
+    c .typed .ensures ∙ sym (says-typed (a .keys .now) (a .info .now) (a .ty) (a .tag) (c .before .before .entry-for .ensures) (c .before .if1 .taken))
 
 returns-2 : tie.Need-returns-2
-returns-2 c = c .unknown .ensures ∙ sym (says-unknown (c .before .before .before .args .keys .now) (c .before .before .before .args .info .now) (c .before .before .before .args .ty) (c .before .before .before .args .tag) (c .before .before .entry-for .ensures) (c .before .if1 .left))
+returns-2 c =
+    let a = c .before .before .before .args in
+    c .unknown .ensures ∙ sym (says-unknown (a .keys .now) (a .info .now) (a .ty) (a .tag) (c .before .before .entry-for .ensures) (c .before .if1 .left))
 
 pub says-spec : {M : Type 1} → statement M
 says-spec =

@@ -19,16 +19,28 @@ loop-holds : tie.Need-loop-holds Inv-loop μ-loop
 loop-holds c = (omega arith, omega arith, refl)
 
 returns : tie.Need-returns Inv-loop μ-loop
-returns c = sym (c .before .before .before .loop .inv .2 ∙ halves-here (keyAt (c .before .before .before .before .args .keys .now)) 256 (c .before .before .before .before .args .key) (c .before .before .before .loop .lo) (c .before .before .before .loop .hi) (c .before .before .loop-test .taken) (c .if1 .taken))
+returns c =
+    let a = c .before .before .before .before .args in
+    let l = c .before .before .before .loop in
+    sym (l .inv .2 ∙ halves-here (keyAt (a .keys .now)) 256 (a .key) (l .lo) (l .hi) (c .before .before .loop-test .taken) (c .if1 .taken))
 
 loop-again : tie.Need-loop-again Inv-loop μ-loop
-loop-again c = (omega arith, omega arith, c .before .before .before .before .loop .inv .2 ∙ halves-above (keyAt (c .before .before .before .before .before .args .keys .now)) 256 (c .before .before .before .before .before .args .key) (c .before .before .before .before .loop .lo) (c .before .before .before .before .loop .hi) (c .before .before .before .loop-test .taken) (c .if2 .taken))
+loop-again c =
+    let a = c .before .before .before .before .before .args in
+    let l = c .before .before .before .before .loop in
+    (omega arith, omega arith, l .inv .2 ∙ halves-above (keyAt (a .keys .now)) 256 (a .key) (l .lo) (l .hi) (c .before .before .before .loop-test .taken) (c .if2 .taken))
 
 loop-again-2 : tie.Need-loop-again-2 Inv-loop μ-loop
-loop-again-2 c = (omega arith, omega arith, c .before .before .before .before .loop .inv .2 ∙ halves-below (keyAt (c .before .before .before .before .before .args .keys .now)) 256 (c .before .before .before .before .before .args .key) (c .before .before .before .before .loop .lo) (c .before .before .before .before .loop .hi) (c .before .before .before .loop-test .taken) (omega arith))
+loop-again-2 c =
+    let a = c .before .before .before .before .before .args in
+    let l = c .before .before .before .before .loop in
+    (omega arith, omega arith, l .inv .2 ∙ halves-below (keyAt (a .keys .now)) 256 (a .key) (l .lo) (l .hi) (c .before .before .before .loop-test .taken) (omega arith))
 
 returns-2 : tie.Need-returns-2 Inv-loop μ-loop
-returns-2 c = sym (c .before .loop .inv .2 ∙ halves-end (keyAt (c .before .before .args .keys .now)) 256 (c .before .before .args .key) (c .before .loop .lo) (c .before .loop .hi) (c .loop-test .left))
+returns-2 c =
+    let a = c .before .before .args in
+    let l = c .before .loop in
+    sym (l .inv .2 ∙ halves-end (keyAt (a .keys .now)) 256 (a .key) (l .lo) (l .hi) (c .loop-test .left))
 
 pub search-spec : {M : Type 1} → statement M
 search-spec =

@@ -19,10 +19,14 @@ abbrev μ-loop : tie.MeasureT-loop
 μ-loop types numbers keys₀ info₀ wires i₀ e₀ last₀ keys info i e last = length numbers - i
 
 returns : tie.Need-returns Inv-loop μ-loop
-returns c = made-none (c .before .before .before .args .types) (c .before .before .before .args .numbers .now) (c .before .before .before .args .keys .now) (c .before .before .before .args .info .now) (sym (c .before .counts-ok .ensures) ∙ not-true (c .before .counts-ok .result) (c .if1 .taken))
+returns c =
+    let a = c .before .before .before .args in
+    made-none (a .types) (a .numbers .now) (a .keys .now) (a .info .now) (sym (c .before .counts-ok .ensures) ∙ not-true (c .before .counts-ok .result) (c .if1 .taken))
 
 loop-holds : tie.Need-loop-holds Inv-loop μ-loop
-loop-holds c = made-first (c .before .before .before .before .args .types) (c .before .before .before .before .args .numbers .now) (c .before .before .before .before .args .keys .now) (c .before .before .before .before .args .info .now) (sym (c .before .before .counts-ok .ensures) ∙ not-false (c .before .before .counts-ok .result) (c .before .if1 .left))
+loop-holds c =
+    let a = c .before .before .before .before .args in
+    made-first (a .types) (a .numbers .now) (a .keys .now) (a .info .now) (sym (c .before .before .counts-ok .ensures) ∙ not-false (c .before .before .counts-ok .result) (c .before .if1 .left))
 
 five-at-requires : tie.Need-five-at-requires Inv-loop μ-loop
 five-at-requires c κs = here-five (c .before .loop .inv .here) (c .loop-test .taken)

@@ -17,21 +17,27 @@ saying k i = record { kind = k; inner = i }
 
 returns : tie.Need-returns
 returns c =
-    let kind : ℕ = getD (c .before .before .before .before .before .args .info .now) (512 + c .before .before .before .before .before .args .i) 0 in
-    let inner : ℕ = getD (c .before .before .before .before .before .args .info .now) (768 + c .before .before .before .before .before .args .i) 0 in
-    sym (typed-same (c .before .before .before .before .before .args .keys .now) (c .before .before .before .before .before .args .info .now) (c .before .before .before .before .before .args .i) (c .before .before .before .before .before .args .key) (c .before .before .before .before .before .args .tag) (c .before .if1 .taken) ∙ ap (λ (b : Bool). saying kind (if b then inner else 0)) (eq-eqb kind 11 (c .if2 .taken)))
+    let a = c .before .before .before .before .before .args in
+    let kind : ℕ = getD (a .info .now) (512 + a .i) 0 in
+    let inner : ℕ = getD (a .info .now) (768 + a .i) 0 in
+    sym (typed-same (a .keys .now) (a .info .now) (a .i) (a .key) (a .tag) (c .before .if1 .taken) ∙ ap (λ (b : Bool). saying kind (if b then inner else 0)) (eq-eqb kind 11 (c .if2 .taken)))
 
 returns-2 : tie.Need-returns-2
 returns-2 c =
-    let kind : ℕ = getD (c .before .before .before .before .before .args .info .now) (512 + c .before .before .before .before .before .args .i) 0 in
-    let inner : ℕ = getD (c .before .before .before .before .before .args .info .now) (768 + c .before .before .before .before .before .args .i) 0 in
-    sym (typed-same (c .before .before .before .before .before .args .keys .now) (c .before .before .before .before .before .args .info .now) (c .before .before .before .before .before .args .i) (c .before .before .before .before .before .args .key) (c .before .before .before .before .before .args .tag) (c .before .if1 .taken) ∙ ap (λ (b : Bool). saying kind (if b then inner else 0)) (ne-eqb kind 11 (c .if2 .left)))
+    let a = c .before .before .before .before .before .args in
+    let kind : ℕ = getD (a .info .now) (512 + a .i) 0 in
+    let inner : ℕ = getD (a .info .now) (768 + a .i) 0 in
+    sym (typed-same (a .keys .now) (a .info .now) (a .i) (a .key) (a .tag) (c .before .if1 .taken) ∙ ap (λ (b : Bool). saying kind (if b then inner else 0)) (ne-eqb kind 11 (c .if2 .left)))
 
 returns-3 : tie.Need-returns-3
-returns-3 c = sym (typed-packed (c .before .before .before .before .before .before .args .keys .now) (c .before .before .before .before .before .before .args .info .now) (c .before .before .before .before .before .before .args .i) (c .before .before .before .before .before .before .args .key) (c .before .before .before .before .before .before .args .tag) (c .before .before .if1 .left) (c .before .if3 .taken) (c .if4 .taken))
+returns-3 c =
+    let a = c .before .before .before .before .before .before .args in
+    sym (typed-packed (a .keys .now) (a .info .now) (a .i) (a .key) (a .tag) (c .before .before .if1 .left) (c .before .if3 .taken) (c .if4 .taken))
 
 returns-4 : tie.Need-returns-4
-returns-4 c = c .unknown .ensures ∙ sym (typed-else (c .before .before .before .before .before .before .args .keys .now) (c .before .before .before .before .before .before .args .info .now) (c .before .before .before .before .before .before .args .i) (c .before .before .before .before .before .before .args .key) (c .before .before .before .before .before .before .args .tag) (c .before .before .if1 .left) (λ n. ⊎-elim (λ w. w .1 .left (n .1)) (λ w. w .left (n .0)) (c .before .if3 .came)))
+returns-4 c =
+    let a = c .before .before .before .before .before .before .args in
+    c .unknown .ensures ∙ sym (typed-else (a .keys .now) (a .info .now) (a .i) (a .key) (a .tag) (c .before .before .if1 .left) (λ n. ⊎-elim (λ w. w .1 .left (n .1)) (λ w. w .left (n .0)) (c .before .if3 .came)))
 
 pub typed-spec : {M : Type 1} → statement M
 typed-spec =
