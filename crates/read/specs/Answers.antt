@@ -18,7 +18,7 @@ use Rattle.read.specs.declared.scalar.Short.the-variants as short
 use Rattle.read.specs.declared.scalar.Meant.{Meant}
 use Rattle.read.specs.declared.scalar.Meant.the-variants as meant
 use Rattle.read.specs.declared.message.Kind.{Kind}
-use Rattle.read.specs.declared.message.Kind.the-variants as kind
+use Rattle.read.specs.declared.message.Kind.the-variants as known
 use Rattle.read.specs.declared.classify.Row.{Row}
 use Rattle.read.specs.declared.classify.Field.{Field}
 use Rattle.read.specs.declared.classify.Field.the-variants as field
@@ -123,8 +123,8 @@ quickTag info i c at =
 
 -- the kind that is known of a tag
 pub data Tells (say : ℕ → Says) (c : ℕ) : Kind → Type 0 where
-  tells : {kind : ℕ} → 8 ≤ c → c < 128 → c % 8 ≡ 0 → say c .kind ≡ kind → Tells say c (kind.Of kind)
-  tells-not : Tells say c kind.Other
+  tells : {kind : ℕ} → 8 ≤ c → c < 128 → c % 8 ≡ 0 → say c .kind ≡ kind → Tells say c (known.Of kind)
+  tells-not : Tells say c known.Other
 
 unfoldable pub fromBody : (number kind inner next : ℕ) → Body → Field
 fromBody m kind inner next (body.Is v a e) = field.Of (record { number = m; kind = kind; inner = inner; value = v; start = a; end = e })
@@ -139,12 +139,15 @@ fromTag depth s (tagged.Bad k) = field.Bad k 0
 unfoldable pub asked : spec.Look → (depth type at : ℕ) → List ℕ → Field
 asked look depth type at s = fromTag depth s (tagAt (look type) at (tag (drop at s)))
 
--- the definition's field of one that is asked for at the place `at` of s
+-- the definition's field of a record that is asked for, and of what is asked for at the place `at` of s
+abbrev pub asField : (number kind inner value start end : ℕ) → spec.Field
+asField m kind inner v a e =
+    if eqb kind 11 then spec.Message m inner a e else
+    if eqb kind 20 then spec.Packed m inner a e else
+    spec.Value m kind v a e
+
 abbrev pub rowField : ℕ → Row → spec.Field
-rowField at r =
-    if eqb (r .kind) 11 then spec.Message (r .number) (r .inner) (r .start - at) (r .end - at) else
-    if eqb (r .kind) 20 then spec.Packed (r .number) (r .inner) (r .start - at) (r .end - at) else
-    spec.Value (r .number) (r .kind) (r .value) (r .start - at) (r .end - at)
+rowField at r = asField (r .number) (r .kind) (r .inner) (r .value) (r .start - at) (r .end - at)
 
 unfoldable pub resolved : (depth at : ℕ) → List ℕ → Field → spec.Field
 resolved depth at s (field.Of r) = rowField at r

@@ -27,7 +27,7 @@ pub struct Answer {
 }
 
 // The room's places count numbers; a caller counts records.
-fn answer(step: Step) -> Answer {
+fn told(step: Step) -> Answer {
     match step {
         Step::Go(to) => Answer {
             number: 0,
@@ -56,7 +56,7 @@ pub fn read_prepared(keys: &[u64; 256], info: &[u8; 1024], s: &[u8], room: &mut 
             place: 0,
         };
     }
-    answer(message(keys, info, s, 0, 0, 0, room, 0))
+    told(message(keys, info, s, 0, 0, 0, room, 0))
 }
 
 // Reads the message `s` under a schema of five numbers an entry.

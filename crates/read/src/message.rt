@@ -15,7 +15,7 @@ use crate::room::Step;
 use crate::room::put;
 use crate::scalar::Meant;
 use crate::scalar::Short;
-use crate::scalar::meant;
+use crate::scalar::meaning_of;
 use crate::scalar::short_at;
 use skip::field::Past;
 use skip::unknown_or_group::skip_unknown_group;
@@ -70,7 +70,7 @@ fn short_ints(
         let Short::Of { value, size } = short_at(s, at + 1) else {
             return Spot { at, to };
         };
-        let Meant::Is(v) = meant(kind, value) else {
+        let Meant::Is(v) = meaning_of(kind, value) else {
             return Spot { at, to };
         };
         if room.len() - to < 6 {
@@ -161,7 +161,7 @@ fn store(
 }
 
 // The fields of the message s, which stands at `off`, behind the first `from` numbers of the room.
-pub fn message(
+pub(crate) fn message(
     keys: &[u64; 256],
     info: &[u8; 1024],
     s: &[u8],

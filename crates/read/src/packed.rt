@@ -6,12 +6,27 @@ ghost use mathlib.Core.Bool.{true};
 ghost use Rattle.spec.specs.Kind.{shape, wire, isScalar};
 ghost use Rattle.spec.specs.Reading.{contents};
 ghost use Rattle.read.specs.Emit.{left, emit, Further};
-use crate::room::{put, Spot, Step};
-use crate::scalar::{int_at, meant, scalar_at, short_at, Meant, Short};
+use crate::room::Spot;
+use crate::room::Step;
+use crate::room::put;
+use crate::scalar::Meant;
+use crate::scalar::Short;
+use crate::scalar::int_at;
+use crate::scalar::meaning_of;
+use crate::scalar::scalar_at;
+use crate::scalar::short_at;
 use wire::found::Found;
 
 // Reads on while elements are short and there is room. Whatever it leaves, `packed_ints` does.
-fn short_elements(p: &[u8], off: usize, depth: u32, number: u64, kind: u64, room: &mut [u64], from: Spot) -> Spot
+fn short_elements(
+    p: &[u8],
+    off: usize,
+    depth: u32,
+    number: u64,
+    kind: u64,
+    room: &mut [u64],
+    from: Spot,
+) -> Spot
     requires { ⌜ (from .at ≤ length (now p)) × (off + length (now p) < 2 ^ 64) × (from .to ≤ length (now room)) ⌝ }
     ensures { λ r. ⌜ ((tag : ℕ) → Further (length (now (p .entry))) (λ at. contents (shape kind) depth number kind tag (off + at) (drop at (now (p .entry))))
         (now (room .entry)) (from .at) (from .to) (now (room .exit)) (r .at) (r .to)) ⌝ }
@@ -22,7 +37,7 @@ fn short_elements(p: &[u8], off: usize, depth: u32, number: u64, kind: u64, room
         let Short::Of { value, size } = short_at(p, at) else {
             return Spot { at, to };
         };
-        let Meant::Is(v) = meant(kind, value) else {
+        let Meant::Is(v) = meaning_of(kind, value) else {
             return Spot { at, to };
         };
         if room.len() - to < 6 {
@@ -37,7 +52,16 @@ fn short_elements(p: &[u8], off: usize, depth: u32, number: u64, kind: u64, room
 
 // The elements in the content p, which stands at `off`, behind the first `from` numbers of the room; `tag` is the place of the field's tag.
 
-fn packed_ints(p: &[u8], off: usize, tag: usize, depth: u32, number: u64, kind: u64, room: &mut [u64], from: usize) -> Step
+fn packed_ints(
+    p: &[u8],
+    off: usize,
+    tag: usize,
+    depth: u32,
+    number: u64,
+    kind: u64,
+    room: &mut [u64],
+    from: usize,
+) -> Step
     requires { ⌜ (wire kind ≡ 0) × (off + length (now p) < 2 ^ 64) × (from ≤ length (now room)) ⌝ }
     ensures { λ r. ⌜ left r (now (room .exit)) ≡ emit (now (room .entry)) from (contents (shape kind) depth number kind tag off (now (p .entry))) ⌝ }
 {
@@ -74,7 +98,16 @@ fn packed_ints(p: &[u8], off: usize, tag: usize, depth: u32, number: u64, kind: 
     Step::Go(to)
 }
 
-fn packed_fixed(p: &[u8], off: usize, tag: usize, depth: u32, number: u64, kind: u64, room: &mut [u64], from: usize) -> Step
+fn packed_fixed(
+    p: &[u8],
+    off: usize,
+    tag: usize,
+    depth: u32,
+    number: u64,
+    kind: u64,
+    room: &mut [u64],
+    from: usize,
+) -> Step
     requires { ⌜ (off + length (now p) < 2 ^ 64) × (from ≤ length (now room)) × (isScalar (shape kind) ≡ true) ⌝ }
     ensures { λ r. ⌜ left r (now (room .exit)) ≡ emit (now (room .entry)) from (contents (shape kind) depth number kind tag off (now (p .entry))) ⌝ }
 {
@@ -106,13 +139,40 @@ fn packed_fixed(p: &[u8], off: usize, tag: usize, depth: u32, number: u64, kind:
 }
 
 // A kind that is not one number has no elements.
-pub fn packed(p: &[u8], off: usize, tag: usize, depth: u32, number: u64, kind: u64, room: &mut [u64], from: usize) -> Step
+pub(crate) fn packed(
+    p: &[u8],
+    off: usize,
+    tag: usize,
+    depth: u32,
+    number: u64,
+    kind: u64,
+    room: &mut [u64],
+    from: usize,
+) -> Step
     requires { ⌜ (off + length (now p) < 2 ^ 64) × (from ≤ length (now room)) ⌝ }
     ensures { λ r. ⌜ left r (now (room .exit)) ≡ emit (now (room .entry)) from (contents (shape kind) depth number kind tag off (now (p .entry))) ⌝ }
 {
     match kind {
-        1 | 2 | 6 | 7 | 15 | 16 | 22 | 24 => packed_fixed(p, off, tag, depth, number, kind, room, from),
-        3 | 4 | 5 | 8 | 13 | 14 | 17 | 18 | 21 => packed_ints(p, off, tag, depth, number, kind, room, from),
+        1 | 2 | 6 | 7 | 15 | 16 | 22 | 24 => packed_fixed(
+            p,
+            off,
+            tag,
+            depth,
+            number,
+            kind,
+            room,
+            from,
+        ),
+        3 | 4 | 5 | 8 | 13 | 14 | 17 | 18 | 21 => packed_ints(
+            p,
+            off,
+            tag,
+            depth,
+            number,
+            kind,
+            room,
+            from,
+        ),
         _ => Step::Go(from),
     }
 }

@@ -22,7 +22,7 @@ pub struct Spot {
 }
 
 // Stores a record from `to` on, where it has room; the place behind it.
-pub fn put(
+pub(crate) fn put(
     room: &mut [u64],
     to: usize,
     depth: u32,

@@ -23,7 +23,7 @@ pub enum Short {
     Longer,
 }
 
-pub fn short_at(s: &[u8], at: usize) -> Short
+pub(crate) fn short_at(s: &[u8], at: usize) -> Short
     requires { ⌜ at < length (now s) ⌝ }
     ensures { λ r. ⌜ Shortly (drop at (now (s .entry))) r ⌝ }
 {
@@ -61,7 +61,7 @@ pub enum Meant {
 }
 
 // The first test is for the most frequent kinds.
-pub fn meant(kind: u64, v: u64) -> Meant
+pub(crate) fn meaning_of(kind: u64, v: u64) -> Meant
     ensures { λ r. ⌜ r ≡ meantBy (shape kind) v ⌝ }
 {
     if kind < 6 {
@@ -97,7 +97,7 @@ fn is_narrow(kind: u64) -> bool
 }
 
 // A value of a kind whose values are varints.
-pub fn int_at(s: &[u8], at: usize, kind: u64) -> Found
+pub(crate) fn int_at(s: &[u8], at: usize, kind: u64) -> Found
     requires { ⌜ wire kind ≡ 0 ⌝ }
     ensures { λ r. ⌜ told at r ≡ scalarOf (shape kind) (drop at (now (s .entry))) ⌝ }
 {
@@ -111,7 +111,7 @@ pub fn int_at(s: &[u8], at: usize, kind: u64) -> Found
             if !in_range(kind, value) {
                 return Found::Refused(5);
             }
-            match meant(kind, value) {
+            match meaning_of(kind, value) {
                 Meant::Is(v) => Found::Value { value: v, next },
                 Meant::Other => Found::Refused(3),
             }
@@ -137,7 +137,7 @@ fn sfixed32_at(s: &[u8], at: usize) -> Found
 // ---- any of them
 
 // A value of a kind that is one number, and else refusal 3.
-pub fn scalar_at(s: &[u8], at: usize, kind: u64) -> Found
+pub(crate) fn scalar_at(s: &[u8], at: usize, kind: u64) -> Found
     ensures { λ r. ⌜ told at r ≡ scalarOf (shape kind) (drop at (now (s .entry))) ⌝ }
 {
     match kind {

@@ -1,0 +1,107 @@
+-- Laws of what a field asks: that it is the definition's field, and what a reader may rely on. Assumes nothing.
+use Prim.Native.Nat.{ℕ, zero, suc, _+_, _-_, _/_, _≤_, _<_}
+use native.Mathlib.Omega.{arith}
+use mathlib.Core.Path.{_≡_, refl, sym, ap, ap₂, _∙_}
+use mathlib.Core.Bool.{Bool, true, false}
+use mathlib.Core.List.{List}
+use lib.ListN.{length, drop, length-drop}
+use lib.Seq.{drop-drop}
+use lib.Dec.{leb, eqb}
+use borrow.Author.Tests.{eq-eqb, ne-eqb, eqb-true, leb-false}
+use Rattle.spec.specs.Base.{if_then_else_, part, Read, Took, No}
+use Rattle.spec.specs.Varint.{varint32, varint64, tag}
+use Rattle.spec.specs.Utf8.{utf8}
+use Rattle.spec.specs.Kind.{Shape, one, other, string, bytes, message, packed, startGroup, endGroup, nothing, shape, scalar}
+use Rattle.spec.specs.Skip.{content, outerGroup}
+use Rattle.spec.specs.Reading as spec
+use Rattle.spec.proofs.Laws.{chosen}
+use Rattle.spec.proofs.ReadingLaws.{In, Sound, is-value, is-message, is-packed, field-sound}
+use Rattle.read.specs.Answers.{spanAt, valued, ranged, texted, bodied, tagAt, fromBody, fromTag, asked, asField, rowField, resolved, Held}
+use Rattle.read.specs.declared.classify.Row.{Row}
+use Rattle.read.specs.declared.classify.Field.{Field}
+use Rattle.read.specs.declared.classify.Field.the-variants as field
+use Rattle.read.specs.declared.classify.Body.{Body}
+use Rattle.read.specs.declared.classify.Body.the-variants as body
+use Rattle.read.proofs.KindTests.{headOf, headTest, head-kind}
+
+-- ---- it is the definition's field
+
+-- which it is, by the one number of its kind
+module _ (m kind inner v a e : ℕ) where
+  as-value : 0 ≡ headTest kind → asField m kind inner v a e ≡ spec.Value m kind v a e
+  as-value h =
+      rw (
+        ne-eqb kind 11 (λ q. let z : 0 ≡ 11 = h ∙ ap headTest q in omega arith),
+        ne-eqb kind 20 (λ q. let z : 0 ≡ 20 = h ∙ ap headTest q in omega arith),
+      )
+
+  as-message : kind ≡ 11 → asField m kind inner v a e ≡ spec.Message m inner a e
+  as-message h = rw h
+
+  as-packed : kind ≡ 20 → asField m kind inner v a e ≡ spec.Packed m inner a e
+  as-packed h = rw h
+
+-- the kind of a head
+head-one : (k n : ℕ) → suc n ≡ headTest k → k ≡ suc n
+head-one k n h = by (eqb k 11) (eqb k 20) refl refl
+  where
+    by : (p q : Bool) → eqb k 11 ≡ p → eqb k 20 ≡ q → k ≡ suc n
+    by true q e f = eqb-true k 11 e ∙ sym (h ∙ rw e refl)
+    by false true e f = eqb-true k 20 f ∙ sym (h ∙ rw (e, f) refl)
+    by false false e f = let z : suc n ≡ 0 = h ∙ rw (e, f) refl in absurd (omega arith)
+
+module _ (depth at n m kind inner : ℕ) (s : List ℕ) where
+  abbrev there : Body → spec.Field
+  there b = resolved depth at s (fromBody m kind inner (at + n) b)
+
+  abbrev behind : List ℕ
+  behind = drop (at + n) s
+
+  there-is : (v a e : ℕ) → there (body.Is v (at + n + a) (at + n + e)) ≡ asField m kind inner v (n + a) (n + e)
+  unfolding resolved fromBody
+  there-is v a e = ap₂ (asField m kind inner v) (omega arith) (omega arith)
+
+  there-valued : 0 ≡ headTest kind → (r : Read) → there (valued (at + n) r) ≡ spec.given r (λ v l. spec.Value m kind v n (n + l))
+  unfolding resolved fromBody valued spec.given
+  there-valued h (Took v l) = ap₂ (asField m kind inner v) (omega arith) (omega arith) ∙ as-value m kind inner v n (n + l) h
+  there-valued h (No k) = refl
+
+  there-ranged : (f : ℕ → ℕ → spec.Field) → ((a e : ℕ) → asField m kind inner 0 (n + a) (n + e) ≡ f a e) → (r : Read) → there (ranged (at + n) r) ≡ spec.given r f
+  unfolding resolved fromBody ranged spec.given
+  there-ranged f h (Took a z) = there-is 0 a z ∙ h a z
+  there-ranged f h (No k) = refl
+
+  there-either : (b : Bool) (x y : Body) {x′ y′ : spec.Field} → there x ≡ x′ → there y ≡ y′ → there (if b then x else y) ≡ (if b then x′ else y′)
+  there-either true x y e f = e
+  there-either false x y e f = f
+
+  there-texted : 0 ≡ headTest kind → (r : Read)
+      → there (texted (at + n) behind r) ≡ spec.given r (λ a z. if utf8 (part a z behind) then spec.Value m kind 0 (n + a) (n + z) else spec.Fault 6 0)
+  unfolding resolved fromBody texted spec.given
+  there-texted h (Took a z) = there-either (utf8 (part a z behind)) (body.Is 0 (at + n + a) (at + n + z)) (body.Bad 6) (there-is 0 a z ∙ as-value m kind inner 0 (n + a) (n + z) h) refl
+  there-texted h (No k) = refl
+
+  there-bodied : (x : Shape) → headOf x ≡ headTest kind → there (bodied x depth (at + n) behind) ≡ spec.shaped x depth inner m kind n behind
+  unfolding resolved fromBody bodied spec.shaped headOf
+  there-bodied (one c) h = there-valued h (scalar c behind)
+  there-bodied (other string) h = there-texted h (content varint32 behind)
+  there-bodied (other bytes) h = there-ranged _ (λ a e. as-value m kind inner 0 (n + a) (n + e) h) (content varint32 behind)
+  there-bodied (other message) h =
+      there-either (leb 100 depth) (body.Bad 7) (ranged (at + n) (content varint64 behind)) refl (there-ranged _ (λ a e. as-message m kind inner 0 (n + a) (n + e) (head-one kind 10 h)) (content varint64 behind))
+  there-bodied (other packed) h = there-ranged _ (λ a e. as-packed m kind inner 0 (n + a) (n + e) (head-one kind 19 h)) (content varint64 behind)
+  there-bodied (other startGroup) h = ap (λ (k : ℕ). spec.given (outerGroup depth behind) λ v l. spec.Dropped m (k + l)) (omega arith)
+  there-bodied (other endGroup) h = refl
+  there-bodied (other nothing) h = refl
+
+module _ (look : spec.Look) (depth type at : ℕ) (s : List ℕ) where
+  resolved-tag : (r : Read)
+      → resolved depth at s (fromTag depth s (tagAt (look type) at r))
+      ≡ spec.given r (λ t n. spec.shaped (shape (look type t .kind)) depth (look type t .inner) (t / 8) (look type t .kind) n (drop n (drop at s)))
+  unfolding resolved fromTag tagAt spec.given
+  resolved-tag (Took t n) =
+      rw drop-drop (there-bodied depth at n (t / 8) (look type t .kind) (look type t .inner) s (shape (look type t .kind)) (head-kind (look type t .kind)))
+  resolved-tag (No k) = refl
+
+  pub asked-resolved : resolved depth at s (asked look depth type at s) ≡ spec.field look depth type (drop at s)
+  unfolding asked spec.field
+  asked-resolved = resolved-tag (tag (drop at s))
