@@ -1,3 +1,4 @@
 pub mod AskedLaws
 pub mod EmitLaws
 pub mod KindTests
+pub mod Turn
