@@ -2,7 +2,7 @@
 -- for so is the field of the definition is a law (proofs/AskedLaws).
 use Prim.Native.Nat.{ℕ, suc, _+_, _-_, _/_, _%_, _≤_, _<_, min}
 use mathlib.Core.Path.{_≡_}
-use mathlib.Core.Bool.{Bool, true, false, _||_}
+use mathlib.Core.Bool.{Bool, true, false, not, _||_}
 use mathlib.Core.List.{List}
 use lib.ListN.{length, drop, getD}
 use lib.Dec.{leb, ltb, eqb}
@@ -12,6 +12,7 @@ use Rattle.spec.specs.Utf8.{utf8}
 use Rattle.spec.specs.Kind.{Scalar, int32, uint32, uint64, bool, sint32, sint64, fixed32, sfixed32, fixed64, Shape, one, other, string, bytes, message, packed, startGroup, endGroup, nothing, shape, scalar, signed32}
 use Rattle.spec.specs.Schema.{Says}
 use Rattle.spec.specs.Skip.{content, outerGroup}
+use Rattle.wire.specs.Reached.{varintOf}
 use Rattle.spec.specs.Reading as spec
 use Rattle.read.specs.declared.scalar.Short.{Short}
 use Rattle.read.specs.declared.scalar.Short.the-variants as short
@@ -57,6 +58,30 @@ unfoldable pub meantBy : Shape → ℕ → Meant
 meantBy (one c) v = meantAs c v
 meantBy (other x) v = meant.Other
 
+-- whether a shape's values are varints
+abbrev pub isMeant : Meant → Bool
+isMeant (meant.Is v) = true
+isMeant meant.Other = false
+
+abbrev pub isInt : Shape → Bool
+isInt x = isMeant (meantBy x 0)
+
+-- how many bytes the others have
+unfoldable pub sizeOne : Scalar → ℕ
+sizeOne int32 = 0
+sizeOne uint32 = 0
+sizeOne uint64 = 0
+sizeOne bool = 0
+sizeOne sint32 = 0
+sizeOne sint64 = 0
+sizeOne fixed32 = 4
+sizeOne sfixed32 = 4
+sizeOne fixed64 = 8
+
+unfoldable pub sizeOf : Shape → ℕ
+sizeOf (one c) = sizeOne c
+sizeOf (other x) = 0
+
 -- the kinds of a signed number of 32 bits, and those whose varint has 32 bits
 abbrev pub isSigned : ℕ → Bool
 isSigned kind = eqb kind 5 || eqb kind 14
@@ -66,6 +91,15 @@ isNarrow kind = eqb kind 13 || eqb kind 17
 
 abbrev pub inRange : ℕ → ℕ → Bool
 inRange kind v = if isSigned kind then signed32 v else true
+
+-- a varint as a value of a kind
+abbrev pub tookMeant : ℕ → Meant → Read
+tookMeant n (meant.Is v) = Took v n
+tookMeant n meant.Other = No 3
+
+unfoldable pub intOf : ℕ → Read → Read
+intOf kind (Took v n) = if inRange kind v then tookMeant n (meantBy (shape kind) v) else No 5
+intOf kind (No k) = No k
 
 -- ---- contents
 
@@ -77,7 +111,7 @@ abbrev pub hasLength : ℕ → Bool
 hasLength kind = eqb kind 9 || eqb kind 11 || eqb kind 12 || eqb kind 20 || eqb kind 23
 
 abbrev pub lengthOf : ℕ → List ℕ → Read
-lengthOf kind s = if isHead kind then varint64 s else varint32 s
+lengthOf kind s = varintOf (not (isHead kind)) s
 
 -- a content that was found behind the place `at`
 unfoldable pub spanAt : ℕ → Read → Span

@@ -12,11 +12,11 @@ ghost use Rattle.schema.specs.Tables.{tableSays};
 ghost use Rattle.wire.specs.Answers.{told};
 ghost use Rattle.read.specs.Answers.{tagAt, quickTag, isHead, lengthOf, spanAt, hasLength, bodied, fromBody, asked, resolved};
 use crate::scalar::scalar_at;
+use crate::scalar::varint_at;
 use schema::says;
 use wire::found::Found;
 use wire::utf8::is_utf8;
 use wire::varint::decode::decode_varint32;
-use wire::varint::decode::decode_varint64;
 
 // A field that gives a record: what the record says, and what is in it, which is the type of a message's fields or the kind of a packed field's
 // elements, else 0.
@@ -144,12 +144,7 @@ fn long_span(s: &[u8], at: usize, kind: u64) -> Span
     requires { ⌜ at ≤ length (now s) ⌝ }
     ensures { λ r. ⌜ r ≡ spanAt at (content (lengthOf kind) (drop at (now (s .entry)))) ⌝ }
 {
-    let n = if is_head(kind) {
-        decode_varint64(s, at)
-    } else {
-        decode_varint32(s, at)
-    };
-    match n {
+    match varint_at(s, at, !is_head(kind)) {
         Found::Value { value, next } => {
             if ((s.len() - next) as u64) < value {
                 return Span::Bad(1);
@@ -185,7 +180,19 @@ fn span_at(s: &[u8], at: usize, kind: u64) -> Span
 fn has_length(kind: u64) -> bool
     ensures { λ r. ⌜ r ≡ hasLength kind ⌝ }
 {
-    kind == 9 || kind == 11 || kind == 12 || kind == 20 || kind == 23
+    if kind == 9 {
+        return true;
+    }
+    if kind == 11 {
+        return true;
+    }
+    if kind == 12 {
+        return true;
+    }
+    if kind == 20 {
+        return true;
+    }
+    kind == 23
 }
 
 // A field with a length.

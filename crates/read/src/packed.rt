@@ -3,15 +3,18 @@ ghost use mathlib.Core.Path.{_≡_};
 ghost use Prim.Native.Nat.{ℕ, _+_, _^_, _≤_, _<_};
 ghost use lib.ListN.{length, drop};
 ghost use mathlib.Core.Bool.{true};
-ghost use Rattle.spec.specs.Kind.{shape, wire, isScalar};
+ghost use Rattle.spec.specs.Kind.{shape, isScalar};
 ghost use Rattle.spec.specs.Reading.{contents};
+ghost use Rattle.read.specs.Answers.{isInt};
 ghost use Rattle.read.specs.Emit.{left, emit, Further};
 use crate::room::Spot;
 use crate::room::Step;
 use crate::room::put;
 use crate::scalar::Meant;
 use crate::scalar::Short;
+use crate::scalar::fixed_size;
 use crate::scalar::int_at;
+use crate::scalar::is_int;
 use crate::scalar::meaning_of;
 use crate::scalar::scalar_at;
 use crate::scalar::short_at;
@@ -62,7 +65,7 @@ fn packed_ints(
     room: &mut [u64],
     from: usize,
 ) -> Step
-    requires { ⌜ (wire kind ≡ 0) × (off + length (now p) < 2 ^ 64) × (from ≤ length (now room)) ⌝ }
+    requires { ⌜ (isInt (shape kind) ≡ true) × (off + length (now p) < 2 ^ 64) × (from ≤ length (now room)) ⌝ }
     ensures { λ r. ⌜ left r (now (room .exit)) ≡ emit (now (room .entry)) from (contents (shape kind) depth number kind tag off (now (p .entry))) ⌝ }
 {
     let mut at: usize = 0;
@@ -152,27 +155,11 @@ pub(crate) fn packed(
     requires { ⌜ (off + length (now p) < 2 ^ 64) × (from ≤ length (now room)) ⌝ }
     ensures { λ r. ⌜ left r (now (room .exit)) ≡ emit (now (room .entry)) from (contents (shape kind) depth number kind tag off (now (p .entry))) ⌝ }
 {
-    match kind {
-        1 | 2 | 6 | 7 | 15 | 16 | 22 | 24 => packed_fixed(
-            p,
-            off,
-            tag,
-            depth,
-            number,
-            kind,
-            room,
-            from,
-        ),
-        3 | 4 | 5 | 8 | 13 | 14 | 17 | 18 | 21 => packed_ints(
-            p,
-            off,
-            tag,
-            depth,
-            number,
-            kind,
-            room,
-            from,
-        ),
-        _ => Step::Go(from),
+    if is_int(kind) {
+        return packed_ints(p, off, tag, depth, number, kind, room, from);
     }
+    if 0 < fixed_size(kind) {
+        return packed_fixed(p, off, tag, depth, number, kind, room, from);
+    }
+    Step::Go(from)
 }

@@ -3,10 +3,11 @@ ghost use mathlib.Core.Path.{_≡_};
 ghost use Prim.Native.Nat.{_+_, _≤_, _<_};
 ghost use lib.ListN.{length, drop};
 ghost use Rattle.spec.specs.Varint.{fixed};
-ghost use Rattle.spec.specs.Base.{meaning};
-ghost use Rattle.spec.specs.Kind.{shape, wire, extend};
+ghost use Rattle.spec.specs.Base.{if_then_else_, No, meaning};
+ghost use Rattle.spec.specs.Kind.{shape, extend};
 ghost use Rattle.wire.specs.Answers.{told};
-ghost use Rattle.read.specs.Answers.{scalarOf, meantBy, inRange, isNarrow, Shortly};
+ghost use Rattle.wire.specs.Reached.{varintOf};
+ghost use Rattle.read.specs.Answers.{scalarOf, meantBy, isInt, isSigned, isNarrow, inRange, intOf, sizeOf, Shortly};
 use wire::fixed::decode_fixed32;
 use wire::fixed::decode_fixed64;
 use wire::fixed::extend32;
@@ -78,16 +79,33 @@ pub(crate) fn meaning_of(kind: u64, v: u64) -> Meant
     }
 }
 
+// Whether a kind's values are varints.
+pub(crate) fn is_int(kind: u64) -> bool
+    ensures { λ r. ⌜ r ≡ isInt (shape kind) ⌝ }
+{
+    match meaning_of(kind, 0) {
+        Meant::Is(_) => true,
+        Meant::Other => false,
+    }
+}
+
+fn is_signed(kind: u64) -> bool
+    ensures { λ r. ⌜ r ≡ isSigned kind ⌝ }
+{
+    kind == 5 || kind == 14
+}
+
 // Whether a varint of a kind may have this value: int32 and enum have 32 signed bits.
 fn in_range(kind: u64, v: u64) -> bool
     ensures { λ r. ⌜ r ≡ inRange kind v ⌝ }
 {
-    if kind == 5 || kind == 14 {
-        if 0x7fff_ffff < v {
-            return 0xffff_ffff_8000_0000 <= v;
-        }
+    if !is_signed(kind) {
+        return true;
     }
-    true
+    if v < 0x8000_0000 {
+        return true;
+    }
+    0xffff_ffff_8000_0000 <= v
 }
 
 fn is_narrow(kind: u64) -> bool
@@ -96,17 +114,20 @@ fn is_narrow(kind: u64) -> bool
     kind == 13 || kind == 17
 }
 
+pub(crate) fn varint_at(s: &[u8], at: usize, narrow: bool) -> Found
+    ensures { λ r. ⌜ told at r ≡ varintOf narrow (drop at (now (s .entry))) ⌝ }
+{
+    if narrow {
+        return decode_varint32(s, at);
+    }
+    decode_varint64(s, at)
+}
+
 // A value of a kind whose values are varints.
 pub(crate) fn int_at(s: &[u8], at: usize, kind: u64) -> Found
-    requires { ⌜ wire kind ≡ 0 ⌝ }
-    ensures { λ r. ⌜ told at r ≡ scalarOf (shape kind) (drop at (now (s .entry))) ⌝ }
+    ensures { λ r. ⌜ told at r ≡ intOf kind (varintOf (isNarrow kind) (drop at (now (s .entry)))) ⌝ }
 {
-    let found = if is_narrow(kind) {
-        decode_varint32(s, at)
-    } else {
-        decode_varint64(s, at)
-    };
-    match found {
+    match varint_at(s, at, is_narrow(kind)) {
         Found::Value { value, next } => {
             if !in_range(kind, value) {
                 return Found::Refused(5);
@@ -136,6 +157,26 @@ fn sfixed32_at(s: &[u8], at: usize) -> Found
 
 // ---- any of them
 
+// How many bytes a value of a kind takes that is no varint; 0 where it is one, or is no number.
+pub(crate) fn fixed_size(kind: u64) -> usize
+    ensures { λ r. ⌜ r ≡ sizeOf (shape kind) ⌝ }
+{
+    match kind {
+        1 | 6 | 16 | 22 => 8,
+        2 | 7 | 15 | 24 => 4,
+        _ => 0,
+    }
+}
+
+fn int_or_none(s: &[u8], at: usize, kind: u64) -> Found
+    ensures { λ r. ⌜ told at r ≡ (if isInt (shape kind) then scalarOf (shape kind) (drop at (now (s .entry))) else No 3) ⌝ }
+{
+    if !is_int(kind) {
+        return Found::Refused(3);
+    }
+    int_at(s, at, kind)
+}
+
 // A value of a kind that is one number, and else refusal 3.
 pub(crate) fn scalar_at(s: &[u8], at: usize, kind: u64) -> Found
     ensures { λ r. ⌜ told at r ≡ scalarOf (shape kind) (drop at (now (s .entry))) ⌝ }
@@ -144,7 +185,6 @@ pub(crate) fn scalar_at(s: &[u8], at: usize, kind: u64) -> Found
         1 | 6 | 16 | 22 => decode_fixed64(s, at),
         2 | 7 | 24 => decode_fixed32(s, at),
         15 => sfixed32_at(s, at),
-        3 | 4 | 5 | 8 | 13 | 14 | 17 | 18 | 21 => int_at(s, at, kind),
-        _ => Found::Refused(3),
+        _ => int_or_none(s, at, kind),
     }
 }
