@@ -3,7 +3,7 @@
 use Prim.Native.Nat.{ℕ, zero, suc, _+_, _-_, _≤_, _<_, min}
 use native.Mathlib.Omega.{arith}
 use native.Mathlib.Nat.{add-zero}
-use mathlib.Core.Path.{_≡_, refl, sym, ap, _∙_}
+use mathlib.Core.Path.{_≡_, refl, sym, ap, _∙_, subst}
 use mathlib.Core.Bool.{Bool, true, false, false≢true}
 use mathlib.Core.List.{List, [], _∷_}
 use lib.ListN.{length, drop, length-drop, drop-of-length-le}
@@ -19,10 +19,12 @@ use Rattle.spec.proofs.ReadingLaws.{elements-cons}
 use Rattle.wire.specs.declared.found.Found.{Found}
 use Rattle.wire.specs.declared.found.Found.the-variants as found
 use Rattle.wire.specs.Answers.{told}
-use Rattle.read.specs.Answers.{scalarOf, Shortly, is-short, meantAs, meantBy}
+use Rattle.read.specs.Answers.{scalarOf, Shortly, is-short, meantAs, meantBy, isInt, sizeOne, sizeOf}
 use Rattle.read.specs.Emit.{Left, left, placed, emit, Further}
 use Rattle.read.specs.declared.room.Step.the-variants.{Go, Stop}
+use Rattle.read.specs.declared.scalar.Short.{Short}
 use Rattle.read.specs.declared.scalar.Short.the-variants as short
+use Rattle.read.specs.declared.scalar.Meant.{Meant}
 use Rattle.read.specs.declared.scalar.Meant.the-variants as meant
 use Rattle.read.proofs.EmitLaws.{emit-room, emit-full, placed-length}
 
@@ -68,13 +70,17 @@ pub record Here (f : ℕ → List ℕ → Reading) (s : List ℕ) (off : ℕ) (r
 pub here : (f : ℕ → List ℕ → Reading) (s : List ℕ) (off : ℕ) (room : List ℕ) (at b : ℕ) → at ≤ length s → b ≤ length room → Here f s off room at b room at b
 here f s off room at b h j = record { further = start (λ i. f (off + i) (drop i s)) room at b h j }
 
+pub here-by : {f : ℕ → List ℕ → Reading} {s : List ℕ} {off : ℕ} {room₀ : List ℕ} {from b : ℕ} {room : List ℕ} {at to : ℕ} {room′ : List ℕ} {at′ to′ : ℕ}
+    → Here f s off room₀ from b room at to → Further (length s) (λ i. f (off + i) (drop i s)) room at to room′ at′ to′ → Here f s off room₀ from b room′ at′ to′
+here-by h g = record { further = on-by (h .further) g }
+
 -- ---- the elements of a packed field
 
-took-in : {least most : ℕ} {r : Read} {v n : ℕ} → Takes least most r → r ≡ Took v n → (least ≤ n) × (n ≤ most)
+pub took-in : {least most : ℕ} {r : Read} {v n : ℕ} → Takes least most r → r ≡ Took v n → (least ≤ n) × (n ≤ most)
 took-in {n = n} (took {n = k} h j) e = let same : k ≡ n = cc in (omega arith, omega arith)
 took-in none e = let z : _≡_ {A = ℕ} 0 1 = cc in absurd (omega arith)
 
-takes-of : (x : Shape) (s : List ℕ) → Takes 1 (length s) (scalarOf x s)
+pub takes-of : (x : Shape) (s : List ℕ) → Takes 1 (length s) (scalarOf x s)
 unfolding scalarOf
 takes-of (one c) s = takes-scalar c s
 takes-of (other x) s = none
@@ -97,6 +103,34 @@ module _ (d m kind t : ℕ) where
   contents-bad (one c) at [] h i e = absurd (omega arith)
   contents-bad (one c) at (b ∷ s) h i e = elements-cons c d m kind t at b s ∙ rw e
   contents-bad (other x) at s h i e = absurd (false≢true i)
+
+-- the kinds of elements: an integer and a number of fixed size are one number, and what is neither has no elements
+pub int-scalar : (x : Shape) → isInt x ≡ true → isScalar x ≡ true
+unfolding isScalar meantBy
+int-scalar (one c) h = refl
+int-scalar (other x) h = absurd (false≢true h)
+
+pub sized-scalar : (x : Shape) → 0 < sizeOf x → isScalar x ≡ true
+unfolding isScalar sizeOf
+sized-scalar (one c) h = refl
+sized-scalar (other x) h = absurd (omega arith)
+
+no-element : (c : Scalar) → isInt (one c) ≡ false → sizeOne c ≤ 0 → ⊥
+unfolding meantBy meantAs sizeOne
+no-element int32 i h = absurd (false≢true (sym i))
+no-element uint32 i h = absurd (false≢true (sym i))
+no-element uint64 i h = absurd (false≢true (sym i))
+no-element bool i h = absurd (false≢true (sym i))
+no-element sint32 i h = absurd (false≢true (sym i))
+no-element sint64 i h = absurd (false≢true (sym i))
+no-element fixed32 i h = absurd (omega arith)
+no-element sfixed32 i h = absurd (omega arith)
+no-element fixed64 i h = absurd (omega arith)
+
+pub no-elements : (x : Shape) (d m kind t at : ℕ) (s : List ℕ) (room : List ℕ) (to : ℕ) → isInt x ≡ false → sizeOf x ≤ 0 → left (Go to) room ≡ emit room to (contents x d m kind t at s)
+unfolding contents emit sizeOf
+no-elements (one c) d m kind t at s room to i h = absurd (no-element c i h)
+no-elements (other x) d m kind t at s room to i h = refl
 
 -- a short varint is the value that it means
 short-one : (c : Scalar) (s : List ℕ) (v n w : ℕ) → Shortly s (short.Of v n) → meantAs c v ≡ meant.Is w → scalar c s ≡ Took w n
@@ -187,9 +221,9 @@ module _ (depth number kind tag : ℕ) {p : List ℕ} {off : ℕ} {room₀ : Lis
 -- a loop over short ones, each the value that its varint means
 module _ (depth number kind tag : ℕ) {p : List ℕ} {off : ℕ} {room₀ : List ℕ} {from b : ℕ} {room : List ℕ} {at to : ℕ}
     (h : Here (contents (shape kind) depth number kind tag) p off room₀ from b room at to) (lt : at < length p)
-    {v n w : ℕ} (e : Shortly (drop at p) (short.Of v n)) (means : meant.Is w ≡ meantBy (shape kind) v) where
+    {r : Short} (e : Shortly (drop at p) r) {v n : ℕ} (is : r ≡ short.Of v n) {m : Meant} (means : m ≡ meantBy (shape kind) v) {w : ℕ} (that : m ≡ meant.Is w) where
   this : scalarOf (shape kind) (drop at p) ≡ Took w n
-  this = short-scalar (shape kind) (drop at p) e (sym means)
+  this = short-scalar (shape kind) (drop at p) (subst (Shortly (drop at p)) is e) (sym means ∙ that)
 
   pub short-within : (1 ≤ n) × (at + n ≤ length p)
   short-within = element-size p off depth number kind tag lt {v = w} {n = n} this
