@@ -20,9 +20,10 @@ use Rattle.read.specs.Answers.{spanAt, valued, ranged, texted, bodied, t
 use Rattle.read.specs.declared.classify.Row.{Row}
 use Rattle.read.specs.declared.classify.Field.{Field}
 use Rattle.read.specs.declared.classify.Field.the-variants as field
+use Rattle.read.specs.declared.classify.Tag.the-variants as tagged
 use Rattle.read.specs.declared.classify.Body.{Body}
 use Rattle.read.specs.declared.classify.Body.the-variants as body
-use Rattle.read.proofs.KindTests.{headOf, headTest, head-kind}
+use Rattle.read.proofs.KindTests.{headOf, headTest, head-kind, head-one}
 
 -- ---- it is the definition's field
 
@@ -40,15 +41,6 @@ module _ (m kind inner v a e : ℕ) where
 
   as-packed : kind ≡ 20 → asField m kind inner v a e ≡ spec.Packed m inner a e
   as-packed h = rw h
-
--- the kind of a head
-head-one : (k n : ℕ) → suc n ≡ headTest k → k ≡ suc n
-head-one k n h = by (eqb k 11) (eqb k 20) refl refl
-  where
-    by : (p q : Bool) → eqb k 11 ≡ p → eqb k 20 ≡ q → k ≡ suc n
-    by true q e f = eqb-true k 11 e ∙ sym (h ∙ rw e refl)
-    by false true e f = eqb-true k 20 f ∙ sym (h ∙ rw (e, f) refl)
-    by false false e f = let z : suc n ≡ 0 = h ∙ rw (e, f) refl in absurd (omega arith)
 
 module _ (depth at n m kind inner : ℕ) (s : List ℕ) where
   abbrev there : Body → spec.Field
@@ -105,3 +97,20 @@ module _ (look : spec.Look) (depth type at : ℕ) (s : List ℕ) where
   pub asked-resolved : resolved depth at s (asked look depth type at s) ≡ spec.field look depth type (drop at s)
   unfolding asked spec.field
   asked-resolved = resolved-tag (tag (drop at s))
+
+  -- the answer, step by step
+
+  abbrev Answered : Field → Type 0
+  Answered r = (resolved depth at s r ≡ spec.field look depth type (drop at s)) × (r ≡ asked look depth type at s)
+
+  answered : (r : Field) → r ≡ asked look depth type at s → Answered r
+  answered r e = (rw e asked-resolved, e)
+
+  pub field-answer : (r : Field) {m kind inner next : ℕ} {b : Body} → tagged.Of m kind inner next ≡ tagAt (look type) at (tag (drop at s))
+      → b ≡ bodied (shape kind) depth next (drop next s) → r ≡ fromBody m kind inner next b → Answered r
+  unfolding asked fromTag
+  field-answer r {m} {kind} {inner} {next} t e f = answered r (f ∙ ap (fromBody m kind inner next) e ∙ ap (fromTag depth s) t)
+
+  pub fault-answer : {k : ℕ} → tagged.Bad k ≡ tagAt (look type) at (tag (drop at s)) → Answered (field.Bad k 0)
+  unfolding asked fromTag
+  fault-answer {k} t = answered (field.Bad k 0) (ap (fromTag depth s) t)

@@ -1,3 +1,4 @@
 pub mod AskedLaws
+pub mod ClassifyLaws
 pub mod EmitLaws
 pub mod KindTests
