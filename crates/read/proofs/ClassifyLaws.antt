@@ -98,15 +98,16 @@ tag-inside say at s {m} {kind} {inner} {next} e = go (tag (drop at s)) (takes-ta
     go (No k) none q = let z : _≡_ {A = ℕ} 0 1 = cc in absurd (omega arith)
 
 -- a tag of one byte whose entry is the guess
-module _ (keys info : List ℕ) (ty at : ℕ) (s : List ℕ) (inside : at < length s) where
-  abbrev byte : ℕ
-  byte = getD s at 0
+abbrev pub byte : ℕ → List ℕ → ℕ
+byte at s = getD s at 0
 
-  pub guessed-tag : Right keys info ty byte → guessed info ty byte < 256 → 8 ≤ byte → byte % 8 < 6
-      → quickTag info (guessed info ty byte) byte at ≡ tagAt (tableSays keys info ty) at (tag (drop at s))
+module _ (keys info : List ℕ) (ty at : ℕ) (s : List ℕ) (inside : at < length s) where
+  pub guessed-tag : Right keys info ty (byte at s) → guessed info ty (byte at s) < 256 → 8 ≤ byte at s → byte at s % 8 < 6
+      → quickTag info (guessed info ty (byte at s)) (byte at s) at ≡ tagAt (tableSays keys info ty) at (tag (drop at s))
   guessed-tag r l a b =
-      let whole : tag (drop at s) ≡ Took byte 1 = tag-good (drop at s) (one-byte 3 15 at s inside (r .0)) (good-tag byte (omega arith) (omega arith)) in
-      ap (λ (x : Says). tagged.Of (byte / 8) (x .kind) (x .inner) (at + 1)) (sym (says-guessed keys info ty byte r l))
+      let c : ℕ = byte at s in
+      let whole : tag (drop at s) ≡ Took c 1 = tag-good (drop at s) (one-byte 3 15 at s inside (r .0)) (good-tag c (omega arith) (omega arith)) in
+      ap (λ (x : Says). tagged.Of (c / 8) (x .kind) (x .inner) (at + 1)) (sym (says-guessed keys info ty c r l))
       ∙ tag-took (tableSays keys info ty) at s whole
 
 -- ---- lengths and contents

@@ -4,10 +4,11 @@ use native.Mathlib.Decide.{decLt}
 use native.Mathlib.Omega.{arith}
 use mathlib.Core.Path.{_≡_, refl, sym, ap, _∙_}
 use mathlib.Core.Bool.{Bool, true, false, _||_, false≢true}
-use mathlib.Core.List.{List, []}
+use mathlib.Core.Logic.{_⊎_, inl, inr}
+use mathlib.Core.List.{List}
 use lib.ListN.{List·getD-eq-default}
 use lib.Dec.{T, leb, ltb, eqb}
-use borrow.Author.Tests.{le-ltb, lt-leb, ne-eqb, eqb-true}
+use borrow.Author.Tests.{lt-ltb, le-ltb, le-leb, lt-leb, ne-eqb, eqb-true}
 use Rattle.spec.specs.Base.{if_then_else_, Read, Took, No, meaning, require}
 use Rattle.spec.specs.Varint.{varint32, varint64, unzigzag}
 use Rattle.spec.specs.Kind.{Scalar, int32, uint32, uint64, bool, sint32, sint64, fixed32, sfixed32, fixed64, Shape, one, other, string, bytes, message, packed, startGroup, endGroup, nothing, shape, shapes, scalar, signed32}
@@ -143,8 +144,39 @@ meaning-kind k =
     ))
     k
 
-pub meant-kind : (k v : ℕ) → meantBy (shape k) v ≡ meantIn (meaningTest k) v
+meant-kind : (k v : ℕ) → meantBy (shape k) v ≡ meantIn (meaningTest k) v
 meant-kind k v = meant-shape (shape k) v ∙ ap (λ (n : ℕ). meantIn n v) (meaning-kind k)
+
+-- each answer of the tests
+
+pub meant-first : (k v : ℕ) → 3 ≤ k → k < 6 → Is v ≡ meantBy (shape k) v
+meant-first k v h l = sym (meant-kind k v ∙ rw (lt-ltb k 6 l, lt-ltb 2 k h))
+
+pub meant-zero : (k v : ℕ) → k < 3 → Other ≡ meantBy (shape k) v
+meant-zero k v h = sym (meant-kind k v ∙ rw (lt-ltb k 6 (omega arith), le-ltb 2 k (omega arith)))
+
+module _ (k v : ℕ) (above : 6 ≤ k) (no-bool : k ≡ 8 → ⊥) (known : k ≡ 21 → ⊥) where
+  pub meant-low : k < 13 → Other ≡ meantBy (shape k) v
+  meant-low h = sym (meant-kind k v ∙ rw (le-ltb k 6 above, ne-eqb k 8 no-bool, ne-eqb k 21 known, lt-ltb k 13 h))
+
+  pub meant-13-14 : 13 ≤ k → k ≤ 14 → Is v ≡ meantBy (shape k) v
+  meant-13-14 h l = sym (meant-kind k v ∙ rw (le-ltb k 6 above, ne-eqb k 8 no-bool, ne-eqb k 21 known, le-ltb k 13 h, le-leb k 14 l))
+
+  pub meant-15-16 : 14 < k → k < 17 → Other ≡ meantBy (shape k) v
+  meant-15-16 h l =
+      sym (meant-kind k v ∙ rw (le-ltb k 6 above, ne-eqb k 8 no-bool, ne-eqb k 21 known, le-ltb k 13 (omega arith), lt-leb k 14 h, lt-ltb k 17 l))
+
+  pub meant-17-18 : 17 ≤ k → k ≤ 18 → Is (unzigzag v) ≡ meantBy (shape k) v
+  meant-17-18 h l =
+      sym
+      (meant-kind k v
+      ∙ rw (le-ltb k 6 above, ne-eqb k 8 no-bool, ne-eqb k 21 known, le-ltb k 13 (omega arith), lt-leb k 14 (omega arith), le-ltb k 17 h, le-leb k 18 l))
+
+  pub meant-high : 18 < k → Other ≡ meantBy (shape k) v
+  meant-high h =
+      sym
+      (meant-kind k v
+      ∙ rw (le-ltb k 6 above, ne-eqb k 8 no-bool, ne-eqb k 21 known, le-ltb k 13 (omega arith), lt-leb k 14 (omega arith), le-ltb k 17 (omega arith), lt-leb k 18 h))
 
 -- ---- how many bytes a value has that is no varint
 
@@ -153,7 +185,7 @@ sizeTest k =
     if eqb k 1 || eqb k 6 || eqb k 16 || eqb k 22 then 8 else
     if eqb k 2 || eqb k 7 || eqb k 15 || eqb k 24 then 4 else 0
 
-pub size-kind : (k : ℕ) → sizeOf (shape k) ≡ sizeTest k
+size-kind : (k : ℕ) → sizeOf (shape k) ≡ sizeTest k
 unfolding shape shapes sizeOf sizeOne
 size-kind k =
     by-table sizeOf sizeTest tt
@@ -169,6 +201,20 @@ size-kind k =
       ne-eqb n 24 (λ e. omega arith),
     ))
     k
+
+pub size-none : (k : ℕ) → ((k ≡ 1) ⊎ (k ≡ 6) ⊎ (k ≡ 16) ⊎ (k ≡ 22) → ⊥) → (k ≡ 2 → ⊥) → (k ≡ 7 → ⊥) → (k ≡ 15 → ⊥) → (k ≡ 24 → ⊥) → sizeOf (shape k) ≡ 0
+size-none k n a b c d =
+    size-kind k
+    ∙ rw (
+      ne-eqb k 1 (λ e. n (inl e)),
+      ne-eqb k 6 (λ e. n (inr (inl e))),
+      ne-eqb k 16 (λ e. n (inr (inr (inl e)))),
+      ne-eqb k 22 (λ e. n (inr (inr (inr e)))),
+      ne-eqb k 2 a,
+      ne-eqb k 7 b,
+      ne-eqb k 15 c,
+      ne-eqb k 24 d,
+    )
 
 -- a shape with no size is an integer's, or no number's
 pub no-size : (x : Shape) (s : List ℕ) → sizeOf x ≡ 0 → scalarOf x s ≡ (if isInt x then scalarOf x s else No 3)

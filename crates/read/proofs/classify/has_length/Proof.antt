@@ -16,7 +16,14 @@ returns-4 : tie.Need-returns-4
 returns-4 c = rw (c .if4 .taken)
 
 returns-5 : tie.Need-returns-5
-returns-5 c = rw (ne-eqb (c .before .before .before .before .args .kind) 9 (c .before .before .before .if1 .left), ne-eqb (c .before .before .before .before .args .kind) 11 (c .before .before .if2 .left), ne-eqb (c .before .before .before .before .args .kind) 12 (c .before .if3 .left), ne-eqb (c .before .before .before .before .args .kind) 20 (c .if4 .left))
+returns-5 c =
+    let k = c .before .before .before .before .args .kind in
+    rw (
+      ne-eqb k 9 (c .before .before .before .if1 .left),
+      ne-eqb k 11 (c .before .before .if2 .left),
+      ne-eqb k 12 (c .before .if3 .left),
+      ne-eqb k 20 (c .if4 .left),
+    )
 
 pub has-length-spec : {M : Type 1} → statement M
 has-length-spec = tie.close (tie.spec returns returns-2 returns-3 returns-4 returns-5)

@@ -13,13 +13,22 @@ kept true = refl
 kept false = refl
 
 returns : tie.Need-returns
-returns c = let n = not-true (c .before .is-signed .result) (c .if1 .taken) in rw (← c .before .is-signed .ensures, n)
+returns c =
+    let i = c .before .is-signed in
+    rw (← i .ensures, not-true (i .result) (c .if1 .taken))
 
 returns-2 : tie.Need-returns-2
-returns-2 c = let n = not-false (c .before .before .is-signed .result) (c .before .if1 .left) in rw (← c .before .before .is-signed .ensures, n, lt-ltb (c .before .before .before .args .v) 2147483648 (c .if2 .taken))
+returns-2 c =
+    let i = c .before .before .is-signed in
+    rw (← i .ensures, not-false (i .result) (c .before .if1 .left), lt-ltb (c .before .before .before .args .v) 2147483648 (c .if2 .taken))
 
 returns-3 : tie.Need-returns-3
-returns-3 c = let n = not-false (c .before .before .is-signed .result) (c .before .if1 .left) in let v = c .before .before .before .args .v in rw (← c .before .before .is-signed .ensures, n, le-ltb v 2147483648 (c .if2 .left), le-leb v 18446744073709551615 (omega (arith, c .before .before .before .fits .v .fits))) (kept (leb 18446744071562067968 v))
+returns-3 c =
+    let i = c .before .before .is-signed in
+    let v = c .before .before .before .args .v in
+    let fits = c .before .before .before .fits .v .fits in
+    rw (← i .ensures, not-false (i .result) (c .before .if1 .left), le-ltb v 2147483648 (c .if2 .left), le-leb v 18446744073709551615 (omega (arith, fits)))
+    (kept (leb 18446744071562067968 v))
 
 pub in-range-spec : {M : Type 1} → statement M
 in-range-spec = tie.close (tie.spec (λ c κs. search needs) returns returns-2 returns-3)

@@ -1,20 +1,19 @@
 -- `read::scalar::meaning_of` meets its contract: its tests are those of the table. Assumes nothing.
 use native.Mathlib.Omega.{arith}
-use mathlib.Core.Path.{sym, ap, _∙_}
-use borrow.Author.Tests.{lt-ltb, le-ltb, le-leb, lt-leb, ne-eqb}
+use mathlib.Core.Path.{ap, _∙_}
+use borrow.Author.Needs.{needs}
 use Rattle.spec.specs.Kind.{shape, shapes}
 use Rattle.read.specs.Answers.{meantBy, meantAs}
-use Rattle.read.proofs.KindTests.{meant-kind}
 use Rattle.read.specs.declared.scalar.Meant.the-variants.{Is}
-use borrow.Author.Needs.{needs}
+use Rattle.read.proofs.KindTests.{meant-first, meant-zero, meant-low, meant-13-14, meant-15-16, meant-17-18, meant-high}
 use Rattle.read.proofs.scalar.meaning_of.Statement.{statement}
 use Rattle.read.proofs.scalar.meaning_of.Tie as tie
 
 returns : tie.Need-returns
-returns c = sym (meant-kind (c .before .before .args .kind) (c .before .before .args .v) ∙ rw (lt-ltb (c .before .before .args .kind) 6 (c .before .if1 .taken), lt-ltb 2 (c .before .before .args .kind) (c .if2 .taken)))
+returns c = let a = c .before .before .args in meant-first (a .kind) (a .v) (omega arith) (omega arith)
 
 returns-2 : tie.Need-returns-2
-returns-2 c = sym (meant-kind (c .before .before .args .kind) (c .before .before .args .v) ∙ rw (lt-ltb (c .before .before .args .kind) 6 (c .before .if1 .taken), le-ltb 2 (c .before .before .args .kind) (c .if2 .left)))
+returns-2 c = let a = c .before .before .args in meant-zero (a .kind) (a .v) (omega arith)
 
 returns-3 : tie.Need-returns-3
 unfolding shape shapes meantBy meantAs
@@ -25,23 +24,38 @@ unfolding shape shapes meantBy meantAs
 returns-4 c = rw (c .before .match .keys1) (ap Is (omega (arith, c .if3 .left)))
 
 returns-5 : tie.Need-returns-5
-returns-5 c = ap Is (c .unzigzag .ensures) ∙ sym (meant-kind (c .before .before .before .before .before .before .before .args .kind) (c .before .before .before .before .before .before .before .args .v) ∙ rw (le-ltb (c .before .before .before .before .before .before .before .args .kind) 6 (c .before .before .before .before .before .before .if1 .left), ne-eqb (c .before .before .before .before .before .before .before .args .kind) 8 (c .before .before .before .before .before .match .rest .0 .1), ne-eqb (c .before .before .before .before .before .before .before .args .kind) 21 (c .before .before .before .before .before .match .rest .1), le-ltb (c .before .before .before .before .before .before .before .args .kind) 13 (omega arith), lt-leb (c .before .before .before .before .before .before .before .args .kind) 14 (omega arith), le-ltb (c .before .before .before .before .before .before .before .args .kind) 17 (omega arith), le-leb (c .before .before .before .before .before .before .before .args .kind) 18 (omega arith)))
+returns-5 c =
+    let m = c .before .before .before .before .before in
+    let a = m .before .before .args in
+    ap Is (c .unzigzag .ensures) ∙ meant-17-18 (a .kind) (a .v) (omega arith) (m .match .rest .0 .1) (m .match .rest .1) (omega arith) (omega arith)
 
 returns-6 : tie.Need-returns-6
-returns-6 c = sym (meant-kind (c .before .before .before .args .kind) (c .before .before .before .args .v) ∙ rw (le-ltb (c .before .before .before .args .kind) 6 (c .before .before .if1 .left), ne-eqb (c .before .before .before .args .kind) 8 (c .before .match .rest .0 .1), ne-eqb (c .before .before .before .args .kind) 21 (c .before .match .rest .1), lt-ltb (c .before .before .before .args .kind) 13 (omega arith)))
+returns-6 c =
+    let m = c .before in
+    let a = m .before .before .args in
+    meant-low (a .kind) (a .v) (omega arith) (m .match .rest .0 .1) (m .match .rest .1) (omega arith)
 
 returns-7 : tie.Need-returns-7
-returns-7 c = sym (meant-kind (c .before .before .before .before .before .args .kind) (c .before .before .before .before .before .args .v) ∙ rw (le-ltb (c .before .before .before .before .before .args .kind) 6 (c .before .before .before .before .if1 .left), ne-eqb (c .before .before .before .before .before .args .kind) 8 (c .before .before .before .match .rest .0 .1), ne-eqb (c .before .before .before .before .before .args .kind) 21 (c .before .before .before .match .rest .1), le-ltb (c .before .before .before .before .before .args .kind) 13 (omega arith), lt-leb (c .before .before .before .before .before .args .kind) 14 (omega arith), lt-ltb (c .before .before .before .before .before .args .kind) 17 (omega arith)))
+returns-7 c =
+    let m = c .before .before .before in
+    let a = m .before .before .args in
+    meant-15-16 (a .kind) (a .v) (omega arith) (m .match .rest .0 .1) (m .match .rest .1) (omega arith) (omega arith)
 
 returns-8 : tie.Need-returns-8
-returns-8 c = sym (meant-kind (c .before .before .before .before .before .before .args .kind) (c .before .before .before .before .before .before .args .v) ∙ rw (le-ltb (c .before .before .before .before .before .before .args .kind) 6 (c .before .before .before .before .before .if1 .left), ne-eqb (c .before .before .before .before .before .before .args .kind) 8 (c .before .before .before .before .match .rest .0 .1), ne-eqb (c .before .before .before .before .before .before .args .kind) 21 (c .before .before .before .before .match .rest .1), le-ltb (c .before .before .before .before .before .before .args .kind) 13 (omega arith), lt-leb (c .before .before .before .before .before .before .args .kind) 14 (omega arith), le-ltb (c .before .before .before .before .before .before .args .kind) 17 (omega arith), lt-leb (c .before .before .before .before .before .before .args .kind) 18 (omega arith)))
+returns-8 c =
+    let m = c .before .before .before .before in
+    let a = m .before .before .args in
+    meant-high (a .kind) (a .v) (omega arith) (m .match .rest .0 .1) (m .match .rest .1) (omega arith)
 
 returns-9 : tie.Need-returns-9
 unfolding shape shapes meantBy meantAs
 returns-9 c = rw (c .match .keys2)
 
 returns-10 : tie.Need-returns-10
-returns-10 c = sym (meant-kind (c .before .before .before .before .args .kind) (c .before .before .before .before .args .v) ∙ rw (le-ltb (c .before .before .before .before .args .kind) 6 (c .before .before .before .if1 .left), ne-eqb (c .before .before .before .before .args .kind) 8 (c .before .before .match .rest .0 .1), ne-eqb (c .before .before .before .before .args .kind) 21 (c .before .before .match .rest .1), le-ltb (c .before .before .before .before .args .kind) 13 (omega arith), le-leb (c .before .before .before .before .args .kind) 14 (omega arith)))
+returns-10 c =
+    let m = c .before .before in
+    let a = m .before .before .args in
+    meant-13-14 (a .kind) (a .v) (omega arith) (m .match .rest .0 .1) (m .match .rest .1) (omega arith) (omega arith)
 
 pub meaning-of-spec : {M : Type 1} → statement M
 meaning-of-spec =
