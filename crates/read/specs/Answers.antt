@@ -89,17 +89,17 @@ isSigned kind = eqb kind 5 || eqb kind 14
 abbrev pub isNarrow : ℕ → Bool
 isNarrow kind = eqb kind 13 || eqb kind 17
 
-abbrev pub inRange : ℕ → ℕ → Bool
-inRange kind v = if isSigned kind then signed32 v else true
+abbrev pub inRange : Bool → ℕ → Bool
+inRange signed v = if signed then signed32 v else true
 
--- a varint as a value of a kind
+-- a varint as a value of a shape
 abbrev pub tookMeant : ℕ → Meant → Read
 tookMeant n (meant.Is v) = Took v n
 tookMeant n meant.Other = No 3
 
-unfoldable pub intOf : ℕ → Read → Read
-intOf kind (Took v n) = if inRange kind v then tookMeant n (meantBy (shape kind) v) else No 5
-intOf kind (No k) = No k
+unfoldable pub intBy : Shape → Bool → Read → Read
+intBy x signed (Took v n) = if inRange signed v then tookMeant n (meantBy x v) else No 5
+intBy x signed (No k) = No k
 
 -- ---- contents
 

@@ -11,8 +11,11 @@ ghost use Rattle.spec.specs.Reading.{field};
 ghost use Rattle.schema.specs.Tables.{tableSays};
 ghost use Rattle.wire.specs.Answers.{told};
 ghost use Rattle.read.specs.Answers.{tagAt, quickTag, isHead, lengthOf, spanAt, hasLength, bodied, fromBody, asked, resolved};
+use crate::scalar::index;
 use crate::scalar::scalar_at;
 use crate::scalar::varint_at;
+use crate::scalar::wide;
+use crate::scalar::wide32;
 use schema::says;
 use wire::found::Found;
 use wire::utf8::is_utf8;
@@ -99,9 +102,9 @@ fn quick_tag(info: &[u8; 1024], i: usize, c: u64, at: usize) -> Tag
     ensures { λ r. ⌜ r ≡ quickTag (now (info .entry)) i c at ⌝ }
 {
     let number = c / 8;
-    let kind = info[512 + i] as u64;
+    let kind = wide(info[512 + i]);
     let next = at + 1;
-    let inner = if kind == 11 { info[768 + i] as u32 } else { 0 };
+    let inner = if kind == 11 { wide32(info[768 + i]) } else { 0 };
     Tag::Of {
         number,
         kind,
@@ -118,7 +121,7 @@ fn tag_at(keys: &[u64; 256], info: &[u8; 1024], s: &[u8], at: usize, ty: u32) ->
         if ty < 32 {
             let c = s[at] as u64;
             if c < 128 {
-                let i = info[ty as usize * 16 + c as usize / 8] as usize;
+                let i = index(info[ty as usize * 16 + c as usize / 8]);
                 if keys[i] == ty as u64 * 4294967296 + c {
                     if 8 <= c {
                         if c % 8 < 6 {

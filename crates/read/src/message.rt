@@ -15,8 +15,10 @@ use crate::room::Step;
 use crate::room::put;
 use crate::scalar::Meant;
 use crate::scalar::Short;
+use crate::scalar::index;
 use crate::scalar::meaning_of;
 use crate::scalar::short_at;
+use crate::scalar::wide;
 use skip::field::Past;
 use skip::unknown_or_group::skip_unknown_group;
 
@@ -34,9 +36,9 @@ fn int_kind(keys: &[u64; 256], info: &[u8; 1024], c: u8, ty: u32) -> Kind
         if c < 128 {
             let number = c / 8;
             if 0 < number {
-                let i = info[ty as usize * 16 + number as usize] as usize;
+                let i = index(info[ty as usize * 16 + number as usize]);
                 if keys[i] == ty as u64 * 0x1_0000_0000 + c as u64 {
-                    return Kind::Of(info[512 + i] as u64);
+                    return Kind::Of(wide(info[512 + i]));
                 }
             }
         }

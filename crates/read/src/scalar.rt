@@ -7,7 +7,7 @@ ghost use Rattle.spec.specs.Base.{if_then_else_, No, meaning};
 ghost use Rattle.spec.specs.Kind.{shape, extend};
 ghost use Rattle.wire.specs.Answers.{told};
 ghost use Rattle.wire.specs.Reached.{varintOf};
-ghost use Rattle.read.specs.Answers.{scalarOf, meantBy, isInt, isSigned, isNarrow, inRange, intOf, sizeOf, Shortly};
+ghost use Rattle.read.specs.Answers.{scalarOf, meantBy, isInt, isSigned, isNarrow, inRange, intBy, sizeOf, Shortly};
 use wire::fixed::decode_fixed32;
 use wire::fixed::decode_fixed64;
 use wire::fixed::extend32;
@@ -15,6 +15,26 @@ use wire::found::Found;
 use wire::varint::decode::decode_varint32;
 use wire::varint::decode::decode_varint64;
 use wire::zigzag::unzigzag;
+
+// ---- a byte as a number, and as a place among 256
+
+pub(crate) fn wide(byte: u8) -> u64
+    ensures { λ r. ⌜ (r ≡ byte) × (r < 256) ⌝ }
+{
+    byte as u64
+}
+
+pub(crate) fn wide32(byte: u8) -> u32
+    ensures { λ r. ⌜ (r ≡ byte) × (r < 256) ⌝ }
+{
+    byte as u32
+}
+
+pub(crate) fn index(byte: u8) -> usize
+    ensures { λ r. ⌜ (r ≡ byte) × (r < 256) ⌝ }
+{
+    byte as usize
+}
 
 // ---- varints
 
@@ -97,7 +117,7 @@ fn is_signed(kind: u64) -> bool
 
 // Whether a varint of a kind may have this value: int32 and enum have 32 signed bits.
 fn in_range(kind: u64, v: u64) -> bool
-    ensures { λ r. ⌜ r ≡ inRange kind v ⌝ }
+    ensures { λ r. ⌜ r ≡ inRange (isSigned kind) v ⌝ }
 {
     if !is_signed(kind) {
         return true;
@@ -125,7 +145,7 @@ pub(crate) fn varint_at(s: &[u8], at: usize, narrow: bool) -> Found
 
 // A value of a kind whose values are varints.
 pub(crate) fn int_at(s: &[u8], at: usize, kind: u64) -> Found
-    ensures { λ r. ⌜ told at r ≡ intOf kind (varintOf (isNarrow kind) (drop at (now (s .entry)))) ⌝ }
+    ensures { λ r. ⌜ told at r ≡ intBy (shape kind) (isSigned kind) (varintOf (isNarrow kind) (drop at (now (s .entry)))) ⌝ }
 {
     match varint_at(s, at, is_narrow(kind)) {
         Found::Value { value, next } => {
