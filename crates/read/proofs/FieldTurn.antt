@@ -28,7 +28,7 @@ use Rattle.read.specs.Emit.{Left, left, placed, emit, Further}
 use Rattle.read.specs.declared.room.Step.{Step}
 use Rattle.read.specs.declared.room.Step.the-variants.{Go, Stop}
 use Rattle.read.specs.declared.message.Kind.{Kind}
-use Rattle.read.specs.declared.message.Kind.the-variants as kind
+use Rattle.read.specs.declared.message.Kind.the-variants as known
 use Rattle.read.specs.declared.scalar.Short.{Short}
 use Rattle.read.specs.declared.scalar.Short.the-variants as short
 use Rattle.read.specs.declared.scalar.Meant.{Meant}
@@ -38,6 +38,7 @@ use Rattle.read.specs.declared.classify.Field.{Field}
 use Rattle.read.specs.declared.classify.Field.the-variants as field
 use Rattle.read.specs.declared.classify.Body.{Body}
 use Rattle.read.specs.declared.classify.Body.the-variants as body
+use Rattle.read.proofs.AskedLaws.{asked-group}
 use Rattle.read.proofs.EmitLaws.{call-stop, call-go, emit-room, emit-full, placed-length}
 use Rattle.read.proofs.Turn.{Here, ends, stops, stored, took-in, takes-of, short-scalar}
 
@@ -133,18 +134,7 @@ pub moved : {f : ℕ → List ℕ → Reading} {s : List ℕ} {off : ℕ} {room�
     → Here f s off room₀ from b room at to → room′ ≡ room → at′ ≡ at → to′ ≡ to → Here f s off room₀ from b room′ at′ to′
 moved h e₁ e₂ e₃ = rw (e₁, e₂, e₃) h
 
--- ---- where the fields of a group stand, and where a refusal does
-
-body-next : (m kind inner next : ℕ) (b : Body) {j k : ℕ} → fromBody m kind inner next b ≡ field.Group j k → next ≡ k
-unfolding fromBody
-body-next m kind inner next (body.Is v a e) h = let z : _≡_ {A = ℕ} 0 1 = cc in absurd (omega arith)
-body-next m kind inner next body.Group h = cc
-body-next m kind inner next (body.Bad k) h = let z : _≡_ {A = ℕ} 0 1 = cc in absurd (omega arith)
-
-tag-next : (say : ℕ → Says) (depth at most : ℕ) (s : List ℕ) {j k : ℕ} (r : Read) → Takes 1 most r → fromTag depth s (tagAt say at r) ≡ field.Group j k → at < k
-unfolding fromTag tagAt
-tag-next say depth at most s {j} {k} (Took t n) (took h i) e = let q : at + n ≡ k = body-next (t / 8) (say t .kind) (say t .inner) (at + n) _ e in omega arith
-tag-next say depth at most s (No i) none e = let z : _≡_ {A = ℕ} 0 1 = cc in absurd (omega arith)
+-- ---- the place of a refusal is its tag's
 
 body-place : (m kind inner next : ℕ) (b : Body) {k p : ℕ} → fromBody m kind inner next b ≡ field.Bad k p → p ≡ 0
 unfolding fromBody
@@ -263,8 +253,7 @@ module _ (look : Look) (depth ty : ℕ) {s : List ℕ} {off : ℕ} {room₀ : Li
         took-group = sym skipped ∙ ap (skip.past next) z
 
         next-in : at < next
-        unfolding asked
-        next-in = tag-next (look ty) depth at _ s (tag (drop at s)) (takes-tag (drop at s)) (sym asks ∙ is)
+        next-in = asked-group look depth ty at s (sym asks ∙ is) .0
 
         pub group-within : (at < end) × (end ≤ length s)
         group-within =
