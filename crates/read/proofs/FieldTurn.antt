@@ -23,7 +23,7 @@ use Rattle.skip.specs.declared.field.Past.{Past}
 use Rattle.skip.specs.declared.field.Past.the-variants as past
 use Rattle.skip.specs.Passed as skip
 use Rattle.skip.proofs.SkipAnswers.{takes-outer}
-use Rattle.read.specs.Answers.{scalarOf, Shortly, meantBy, Tells, tells, tagAt, fromBody, fromTag, asked, rowField, resolved, Held}
+use Rattle.read.specs.Answers.{scalarOf, Shortly, meantBy, Tells, tells, tells-not, tagAt, fromBody, fromTag, asked, rowField, resolved, Held}
 use Rattle.read.specs.Emit.{Left, left, placed, emit, Further}
 use Rattle.read.specs.declared.room.Step.{Step}
 use Rattle.read.specs.declared.room.Step.the-variants.{Go, Stop}
@@ -275,3 +275,50 @@ module _ (look : Look) (depth ty : ℕ) {s : List ℕ} {off : ℕ} {room₀ : Li
                     kept = h .further .kept
                   }
             }
+
+-- ---- a short integer behind a tag of one byte
+
+tag-one : (c : ℕ) (l : List ℕ) → 8 ≤ c → c < 128 → c % 8 ≡ 0 → tag (c ∷ l) ≡ Took c 1
+unfolding tag varint require
+tag-one c l h j z = rw (lt-ltb c 128 j, z, le-leb 1 (c / 8) (omega arith))
+
+shaped-one : (x : Shape) (depth inner m kind n : ℕ) (l : List ℕ) {w z : ℕ} → scalarOf x l ≡ Took w z → spec.shaped x depth inner m kind n l ≡ spec.Value m kind w n (n + z)
+unfolding spec.shaped scalarOf spec.given
+shaped-one (one c) depth inner m kind n l e = rw e
+shaped-one (other x) depth inner m kind n l e = let z : _≡_ {A = ℕ} 0 1 = cc in absurd (omega arith)
+
+told-kind : {say : ℕ → Says} {c : ℕ} {r : Kind} (k : ℕ) → Tells say c r → r ≡ known.Of k → (8 ≤ c) × (c < 128) × (c % 8 ≡ 0) × (say c .kind ≡ k)
+told-kind k (tells {kind} h j z e) is = let same : kind ≡ k = cc in (h, j, z, e ∙ same)
+told-kind k tells-not is = let z : _≡_ {A = ℕ} 0 1 = cc in absurd (omega arith)
+
+module _ (look : Look) (depth ty : ℕ) {s : List ℕ} {off : ℕ} {room₀ : List ℕ} {from b : ℕ} {room : List ℕ} {at to : ℕ}
+    (h : Here (read look depth ty) s off room₀ from b room at to) (lt : at + 1 < length s)
+    {r : Kind} (t : Tells (look ty) (getD s at 0) r) {k : ℕ} (is-kind : r ≡ known.Of k)
+    {a : Short} (e : Shortly (drop (at + 1) s) a) {v n : ℕ} (is : a ≡ short.Of v n) {m : Meant} (means : m ≡ meantBy (shape k) v) {w : ℕ} (that : m ≡ meant.Is w) where
+  abbrev c : ℕ
+  c = getD s at 0
+
+  int-here : scalarOf (shape k) (drop (at + 1) s) ≡ Took w n
+  int-here = short-scalar (shape k) (drop (at + 1) s) (subst (Shortly (drop (at + 1) s)) is e) (sym means ∙ that)
+
+  pub int-within : (1 ≤ n) × (at + 1 + n ≤ length s) × (c < 128)
+  int-within = let i = took-in (takes-of (shape k) (drop (at + 1) s)) int-here in (i .0, omega (arith, i .1, length-drop (at + 1) s), told-kind k t is-kind .1)
+
+  int-field : spec.Value (c / 8) k w 1 (1 + n) ≡ spec.field look depth ty (drop at s)
+  unfolding spec.field spec.given
+  int-field =
+      let q = told-kind k t is-kind in
+      let front : drop at s ≡ c ∷ drop (suc at) s = drop-cons s at 0 (omega arith) in
+      let tagged : tag (drop at s) ≡ Took c 1 = ap tag front ∙ tag-one c (drop (suc at) s) (q .0) (q .1) (q .2) in
+      sym (rw (tagged, drop-drop, q .3) (shaped-one (shape k) depth (look ty c .inner) (c / 8) k 1 (drop (at + 1) s) int-here))
+
+  pub int-stored : {room′ : List ℕ} {to′ : ℕ} → to + stride ≤ length room
+      → room′ ≡ placed room to (row depth (c / 8) k w (off + at + 1) (off + at + 1 + n) 0) → to′ ≡ to + stride
+      → Here (read look depth ty) s off room₀ from b room′ (at + (1 + n)) to′
+  int-stored l put next =
+      let end : off + at + 1 + n ≡ off + at + (1 + n) = omega arith in
+      record {
+        further =
+            stored (h .further) (value look depth ty s off at (omega arith) (c / 8) k w 1 (1 + n) int-field) (omega arith) (omega (arith, int-within .1)) l
+            (put ∙ ap (λ (x : ℕ). placed room to (row depth (c / 8) k w (off + at + 1) x 0)) end) next
+      }
