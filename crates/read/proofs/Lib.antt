@@ -1,4 +1,5 @@
 pub mod AskedLaws
+pub mod CallLaws
 pub mod ClassifyLaws
 pub mod EmitLaws
 pub mod FieldTurn

@@ -14,6 +14,10 @@ use Rattle.spec.specs.Schema.{Says}
 use Rattle.spec.specs.Skip.{content, outerGroup}
 use Rattle.wire.specs.Reached.{varintOf}
 use Rattle.spec.specs.Reading as spec
+use Rattle.spec.specs.Record.{stride}
+use Rattle.read.specs.declared.Answer.{Answer}
+use Rattle.read.specs.declared.room.Step.{Step}
+use Rattle.read.specs.declared.room.Step.the-variants as step
 use Rattle.read.specs.declared.scalar.Short.{Short}
 use Rattle.read.specs.declared.scalar.Short.the-variants as short
 use Rattle.read.specs.declared.scalar.Meant.{Meant}
@@ -201,3 +205,8 @@ pub record Held (depth at most : ℕ) (r : Row) : Type 0 where
 
 unfoldable pub readingBy : spec.Look → ℕ → List ℕ → spec.Reading
 readingBy look room s = if ltb limit (length s) then spec.Refused 11 0 else spec.within room (spec.read look 0 0 0 s)
+
+-- the answer of a reader that began at the start of the room, whose places count numbers; a caller counts records
+unfoldable pub answered : Step → Answer
+answered (step.Go to) = record { number = 0; count = to / stride; place = 0 }
+answered (step.Stop k to p) = record { number = k; count = to / stride; place = p }

@@ -6,7 +6,7 @@ ghost use Rattle.spec.specs.Record.{stride};
 ghost use Rattle.spec.specs.Schema.{schemaOf};
 ghost use Rattle.spec.specs.Reading.{reading, number, place, listed, roomAfter};
 ghost use Rattle.schema.specs.Tables.{tableSays};
-ghost use Rattle.read.specs.Answers.{readingBy};
+ghost use Rattle.read.specs.Answers.{readingBy, answered};
 
 pub mod classify;
 mod message;
@@ -27,7 +27,9 @@ pub struct Answer {
 }
 
 // The room's places count numbers; a caller counts records.
-fn told(step: Step) -> Answer {
+fn told(step: Step) -> Answer
+    ensures { λ r. ⌜ r ≡ answered step ⌝ }
+{
     match step {
         Step::Go(to) => Answer {
             number: 0,
