@@ -1,6 +1,7 @@
 pub mod AskedLaws
 pub mod CallLaws
 pub mod ClassifyLaws
+pub mod CongLaws
 pub mod EmitLaws
 pub mod FieldTurn
 pub mod KindTests
