@@ -1,0 +1,213 @@
+-- Laws of what a field asks: that it is the definition's field, and what a reader may rely on. Assumes nothing.
+use Prim.Native.Nat.{ℕ, zero, suc, _+_, _-_, _/_, _≤_, _<_}
+use native.Mathlib.Omega.{arith}
+use mathlib.Core.Path.{_≡_, refl, sym, ap, ap₂, _∙_}
+use mathlib.Core.Bool.{Bool, true, false}
+use mathlib.Core.List.{List}
+use lib.ListN.{length, drop, length-drop}
+use lib.Seq.{drop-drop}
+use lib.Dec.{leb, eqb}
+use borrow.Author.Tests.{eq-eqb, ne-eqb, eqb-true, leb-false}
+use Rattle.spec.specs.Base.{if_then_else_, part, Read, Took, No}
+use Rattle.spec.specs.Varint.{varint32, varint64, tag}
+use Rattle.spec.specs.Utf8.{utf8}
+use Rattle.spec.specs.Kind.{Shape, one, other, string, bytes, message, packed, startGroup, endGroup, nothing, shape, scalar}
+use Rattle.spec.specs.Skip.{content, outerGroup}
+use Rattle.spec.specs.Reading as spec
+use Rattle.spec.proofs.Laws.{chosen, either-way, Takes, took, none, takes-tag}
+use Rattle.spec.proofs.ReadingLaws.{In, Sound, is-value, is-message, is-packed, field-sound}
+use Rattle.read.specs.Answers.{spanAt, valued, ranged, texted, bodied, tagAt, fromBody, fromTag, asked, asField, rowField, resolved, Held}
+use Rattle.read.specs.declared.classify.Row.{Row}
+use Rattle.read.specs.declared.classify.Field.{Field}
+use Rattle.read.specs.declared.classify.Field.the-variants as field
+use Rattle.read.specs.declared.classify.Tag.the-variants as tagged
+use Rattle.read.specs.declared.classify.Body.{Body}
+use Rattle.read.specs.declared.classify.Body.the-variants as body
+use Rattle.read.proofs.KindTests.{headOf, headTest, head-kind, head-one}
+
+-- ---- it is the definition's field
+
+-- which it is, by the one number of its kind
+module _ (m kind inner v a e : ℕ) where
+  as-value : 0 ≡ headTest kind → asField m kind inner v a e ≡ spec.Value m kind v a e
+  as-value h =
+      rw (
+        ne-eqb kind 11 (λ q. let z : 0 ≡ 11 = h ∙ ap headTest q in omega arith),
+        ne-eqb kind 20 (λ q. let z : 0 ≡ 20 = h ∙ ap headTest q in omega arith),
+      )
+
+  as-message : kind ≡ 11 → asField m kind inner v a e ≡ spec.Message m inner a e
+  as-message h = rw h
+
+  as-packed : kind ≡ 20 → asField m kind inner v a e ≡ spec.Packed m inner a e
+  as-packed h = rw h
+
+module _ (depth at n m kind inner : ℕ) (s : List ℕ) where
+  abbrev there : Body → spec.Field
+  there b = resolved depth at s (fromBody m kind inner (at + n) b)
+
+  abbrev behind : List ℕ
+  behind = drop (at + n) s
+
+  there-is : (v a e : ℕ) → there (body.Is v (at + n + a) (at + n + e)) ≡ asField m kind inner v (n + a) (n + e)
+  unfolding resolved fromBody
+  there-is v a e = ap₂ (asField m kind inner v) (omega arith) (omega arith)
+
+  there-valued : 0 ≡ headTest kind → (r : Read) → there (valued (at + n) r) ≡ spec.given r (λ v l. spec.Value m kind v n (n + l))
+  unfolding resolved fromBody valued spec.given
+  there-valued h (Took v l) = ap₂ (asField m kind inner v) (omega arith) (omega arith) ∙ as-value m kind inner v n (n + l) h
+  there-valued h (No k) = refl
+
+  there-ranged : (f : ℕ → ℕ → spec.Field) → ((a e : ℕ) → asField m kind inner 0 (n + a) (n + e) ≡ f a e) → (r : Read) → there (ranged (at + n) r) ≡ spec.given r f
+  unfolding resolved fromBody ranged spec.given
+  there-ranged f h (Took a z) = there-is 0 a z ∙ h a z
+  there-ranged f h (No k) = refl
+
+  there-either : (b : Bool) (x y : Body) {x′ y′ : spec.Field} → there x ≡ x′ → there y ≡ y′ → there (if b then x else y) ≡ (if b then x′ else y′)
+  there-either true x y e f = e
+  there-either false x y e f = f
+
+  there-texted : 0 ≡ headTest kind → (r : Read)
+      → there (texted (at + n) behind r) ≡ spec.given r (λ a z. if utf8 (part a z behind) then spec.Value m kind 0 (n + a) (n + z) else spec.Fault 6 0)
+  unfolding resolved fromBody texted spec.given
+  there-texted h (Took a z) = there-either (utf8 (part a z behind)) (body.Is 0 (at + n + a) (at + n + z)) (body.Bad 6) (there-is 0 a z ∙ as-value m kind inner 0 (n + a) (n + z) h) refl
+  there-texted h (No k) = refl
+
+  there-bodied : (x : Shape) → headOf x ≡ headTest kind → there (bodied x depth (at + n) behind) ≡ spec.shaped x depth inner m kind n behind
+  unfolding resolved fromBody bodied spec.shaped headOf
+  there-bodied (one c) h = there-valued h (scalar c behind)
+  there-bodied (other string) h = there-texted h (content varint32 behind)
+  there-bodied (other bytes) h = there-ranged _ (λ a e. as-value m kind inner 0 (n + a) (n + e) h) (content varint32 behind)
+  there-bodied (other message) h =
+      there-either (leb 100 depth) (body.Bad 7) (ranged (at + n) (content varint64 behind)) refl (there-ranged _ (λ a e. as-message m kind inner 0 (n + a) (n + e) (head-one kind 10 h)) (content varint64 behind))
+  there-bodied (other packed) h = there-ranged _ (λ a e. as-packed m kind inner 0 (n + a) (n + e) (head-one kind 19 h)) (content varint64 behind)
+  there-bodied (other startGroup) h = ap (λ (k : ℕ). spec.given (outerGroup depth behind) λ v l. spec.Dropped m (k + l)) (omega arith)
+  there-bodied (other endGroup) h = refl
+  there-bodied (other nothing) h = refl
+
+module _ (look : spec.Look) (depth type at : ℕ) (s : List ℕ) where
+  resolved-tag : (r : Read)
+      → resolved depth at s (fromTag depth s (tagAt (look type) at r))
+      ≡ spec.given r (λ t n. spec.shaped (shape (look type t .kind)) depth (look type t .inner) (t / 8) (look type t .kind) n (drop n (drop at s)))
+  unfolding resolved fromTag tagAt spec.given
+  resolved-tag (Took t n) =
+      rw drop-drop (there-bodied depth at n (t / 8) (look type t .kind) (look type t .inner) s (shape (look type t .kind)) (head-kind (look type t .kind)))
+  resolved-tag (No k) = refl
+
+  pub asked-resolved : resolved depth at s (asked look depth type at s) ≡ spec.field look depth type (drop at s)
+  unfolding asked spec.field
+  asked-resolved = resolved-tag (tag (drop at s))
+
+  -- the answer, step by step
+
+  abbrev Answered : Field → Type 0
+  Answered r = (resolved depth at s r ≡ spec.field look depth type (drop at s)) × (r ≡ asked look depth type at s)
+
+  answered : (r : Field) → r ≡ asked look depth type at s → Answered r
+  answered r e = (rw e asked-resolved, e)
+
+  pub field-answer : (r : Field) {m kind inner next : ℕ} {b : Body} → tagged.Of m kind inner next ≡ tagAt (look type) at (tag (drop at s))
+      → b ≡ bodied (shape kind) depth next (drop next s) → r ≡ fromBody m kind inner next b → Answered r
+  unfolding asked fromTag
+  field-answer r {m} {kind} {inner} {next} t e f = answered r (f ∙ ap (fromBody m kind inner next) e ∙ ap (fromTag depth s) t)
+
+  pub fault-answer : {k : ℕ} → tagged.Bad k ≡ tagAt (look type) at (tag (drop at s)) → Answered (field.Bad k 0)
+  unfolding asked fromTag
+  fault-answer {k} t = answered (field.Bad k 0) (ap (fromTag depth s) t)
+
+-- ---- what a reader may rely on
+
+-- a head has no value, and a message's stands above the greatest depth
+data Kept (depth : ℕ) : Field → Type 0 where
+  of-row : {r : Row} → (r .kind ≡ 11 → depth < 100) → (r .kind ≡ 11 → r .value ≡ 0) → (r .kind ≡ 20 → r .value ≡ 0) → Kept depth (field.Of r)
+  of-group : {m n : ℕ} → Kept depth (field.Group m n)
+  of-bad : {k p : ℕ} → Kept depth (field.Bad k p)
+
+not-head : (kind n : ℕ) → n ≡ headTest kind → (k : ℕ) → headTest k ≡ k → (n ≡ k → ⊥) → kind ≡ k → ⊥
+not-head kind n h k i d e = d (h ∙ ap headTest e ∙ i)
+
+module _ (depth m kind inner next at : ℕ) where
+  abbrev from : Body → Field
+  from b = fromBody m kind inner next b
+
+  kept-valued : 0 ≡ headTest kind → (r : Read) → Kept depth (from (valued at r))
+  unfolding fromBody valued
+  kept-valued h (Took v n) =
+      of-row (λ e. absurd (not-head kind 0 h 11 refl (λ z. omega arith) e)) (λ e. absurd (not-head kind 0 h 11 refl (λ z. omega arith) e))
+      (λ e. absurd (not-head kind 0 h 20 refl (λ z. omega arith) e))
+  kept-valued h (No k) = of-bad
+
+  kept-ranged : (kind ≡ 11 → depth < 100) → (r : Read) → Kept depth (from (ranged at r))
+  unfolding fromBody ranged
+  kept-ranged d (Took a z) = of-row d (λ e. refl) (λ e. refl)
+  kept-ranged d (No k) = of-bad
+
+  kept-texted : (kind ≡ 11 → depth < 100) → (s : List ℕ) (r : Read) → Kept depth (from (texted at s r))
+  unfolding fromBody texted
+  kept-texted d s (Took a z) = either-way (λ b. Kept depth (from b)) (utf8 (part a z s)) (of-row d (λ e. refl) (λ e. refl)) of-bad
+  kept-texted d s (No k) = of-bad
+
+  kept-bodied : (s : List ℕ) (x : Shape) → headOf x ≡ headTest kind → Kept depth (from (bodied x depth at s))
+  unfolding fromBody bodied headOf
+  kept-bodied s (one c) h = kept-valued h (scalar c s)
+  kept-bodied s (other string) h = kept-texted (λ e. absurd (not-head kind 0 h 11 refl (λ z. omega arith) e)) s (content varint32 s)
+  kept-bodied s (other bytes) h = kept-ranged (λ e. absurd (not-head kind 0 h 11 refl (λ z. omega arith) e)) (content varint32 s)
+  kept-bodied s (other message) h =
+      chosen (λ b. Kept depth (from b)) (leb 100 depth) (λ e. of-bad) (λ e. kept-ranged (λ _. leb-false 100 depth e) (content varint64 s))
+  kept-bodied s (other packed) h = kept-ranged (λ e. absurd (not-head kind 20 h 11 refl (λ z. omega arith) e)) (content varint64 s)
+  kept-bodied s (other startGroup) h = of-group
+  kept-bodied s (other endGroup) h = of-bad
+  kept-bodied s (other nothing) h = of-bad
+
+-- where the definition's field lies, its record's range lies too
+row-in : (p q : Bool) {most : ℕ} (m kind inner v a e : ℕ) → Sound most (if p then spec.Message m inner a e else if q then spec.Packed m inner a e else spec.Value m kind v a e) → In a e most
+row-in true q m kind inner v a e (is-message h) = h
+row-in false true m kind inner v a e (is-packed h) = h
+row-in false false m kind inner v a e (is-value h) = h
+
+module _ (look : spec.Look) (depth type at : ℕ) (s : List ℕ) where
+  kept-tag : (r : Read) → Kept depth (fromTag depth s (tagAt (look type) at r))
+  unfolding fromTag tagAt
+  kept-tag (Took t n) = kept-bodied depth (t / 8) (look type t .kind) (look type t .inner) (at + n) (at + n) (drop (at + n) s) (shape (look type t .kind)) (head-kind (look type t .kind))
+  kept-tag (No k) = of-bad
+
+  asked-kept : Kept depth (asked look depth type at s)
+  unfolding asked
+  asked-kept = kept-tag (tag (drop at s))
+
+  asked-in : (r : Row) → asked look depth type at s ≡ field.Of r → In (r .start - at) (r .end - at) (length (drop at s))
+  unfolding resolved
+  asked-in r e =
+      let same : spec.field look depth type (drop at s) ≡ rowField at r = sym (asked-resolved look depth type at s) ∙ ap (resolved depth at s) e in
+      row-in (eqb (r .kind) 11) (eqb (r .kind) 20) (r .number) (r .kind) (r .inner) (r .value) (r .start - at) (r .end - at) (rw same at (field-sound look depth type (drop at s)))
+
+  pub asked-held : (r : Row) → asked look depth type at s ≡ field.Of r → Held depth at (length s) r
+  asked-held r e = go (rw e at asked-kept)
+    where
+      go : Kept depth (field.Of r) → Held depth at (length s) r
+      go (of-row d z y) =
+          let i = asked-in r e in
+          record {
+            behind = omega (arith, i);
+            ordered = omega (arith, i);
+            inside = omega (arith, i, length-drop at s);
+            shallow = d;
+            message-zero = z;
+            packed-zero = y;
+          }
+
+  -- a group's fields stand in the slice
+  pub asked-group : {m next : ℕ} → asked look depth type at s ≡ field.Group m next → (at < next) × (next ≤ length s)
+  unfolding asked fromTag tagAt fromBody
+  asked-group {m} {next} e = go (tag (drop at s)) (takes-tag (drop at s)) e
+    where
+      from-body : (m′ kind inner n : ℕ) (b : Body) → fromBody m′ kind inner n b ≡ field.Group m next → n ≡ next
+      from-body m′ kind inner n (body.Is v a z) q = let z : _≡_ {A = ℕ} 0 1 = cc in absurd (omega arith)
+      from-body m′ kind inner n body.Group q = cc
+      from-body m′ kind inner n (body.Bad k) q = let z : _≡_ {A = ℕ} 0 1 = cc in absurd (omega arith)
+
+      go : (r : Read) → Takes 1 (length (drop at s)) r → fromTag depth s (tagAt (look type) at r) ≡ field.Group m next → (at < next) × (next ≤ length s)
+      go (Took t n) (took h j) q =
+          let z : at + n ≡ next = from-body (t / 8) (look type t .kind) (look type t .inner) (at + n) (bodied (shape (look type t .kind)) depth (at + n) (drop (at + n) s)) q in
+          (omega arith, omega (arith, length-drop at s))
+      go (No k) none q = let z : _≡_ {A = ℕ} 0 1 = cc in absurd (omega arith)

@@ -1,0 +1,106 @@
+-- Laws of the two calls: what a reading from the start of the room answers, and what is refused before it. Assumes nothing.
+use Prim.Native.Nat.{ℕ, _+_, _-_, _*_, _/_, _^_, _≤_, _<_}
+use native.Mathlib.Omega.{arith}
+use mathlib.Core.Path.{_≡_, refl, sym, ap, _∙_, subst}
+use mathlib.Core.Bool.{true, false, _&&_}
+use mathlib.Core.Option.{Option, none, some}
+use mathlib.Core.List.{List, []}
+use lib.ListN.{length, replicate}
+use lib.Dec.{leb}
+use borrow.Author.Tests.{lt-ltb, le-ltb, leb-true}
+use Rattle.spec.specs.Base.{if_then_else_, between, limit, filled}
+use Rattle.spec.specs.Record.{stride, stored}
+use Rattle.spec.specs.Reading.{Look, Reading, Done, Refused, within, number, place, listed, roomAfter, read, reading, refusedOr}
+use Rattle.spec.specs.Schema.{Schema, badSchema, says}
+use Rattle.spec.specs.declared.Entry.{Entry}
+use Rattle.spec.proofs.Laws.{by-test, both}
+use Rattle.schema.specs.Tables.{soundOf, keysWith, infoWith, tableSays}
+use Rattle.schema.proofs.TableLaws.{sound-valid, made-says, said-message}
+use Rattle.read.specs.Answers.{readingBy, answered}
+use Rattle.read.specs.Emit.{Left, left, emit}
+use Rattle.read.specs.declared.Answer.{Answer}
+use Rattle.read.specs.declared.room.Step.{Step}
+use Rattle.read.specs.declared.room.Step.the-variants.{Go, Stop}
+use Rattle.read.proofs.CongLaws.{read-cong}
+use Rattle.read.proofs.EmitLaws.{ended, emit-all, ended-go, ended-stop}
+
+-- the answer and the room that a reading leaves
+abbrev pub Answers : Reading → Answer → (room room′ : List ℕ) → Type 0
+Answers q a room room′ = (a .number ≡ number q) × (a .place ≡ place q) × (a .count ≡ length (listed q)) × (room′ ≡ roomAfter q room)
+
+pub answers-refused : (q : Reading) (k p : ℕ) (room : List ℕ) → q ≡ Refused k p → Answers q (record { number = k; count = 0; place = p }) room room
+unfolding number place listed stored
+answers-refused q k p room e = rw e (refl, refl, refl, refl)
+
+answers-step : (a : Step) (q : Reading) → a ≡ ended 0 q → (answered a .number ≡ number q) × (answered a .place ≡ place q) × (answered a .count ≡ length (listed q))
+unfolding answered
+answers-step (Go c) q e = let h = ended-go 0 q (sym e) in (sym (h .0), sym (h .1), omega (arith, h .2))
+answers-step (Stop k c p) q e = let h = ended-stop 0 q (sym e) in (sym (h .0), sym (h .1), omega (arith, h .2))
+
+left-step : {a a′ : Step} {r r′ : List ℕ} → left a r ≡ left a′ r′ → a ≡ a′
+left-step e = cc
+
+left-room : {a a′ : Step} {r r′ : List ℕ} → left a r ≡ left a′ r′ → r ≡ r′
+left-room e = cc
+
+pub answers-read : (q : Reading) (room : List ℕ) {a : Step} {room′ : List ℕ} → left a room′ ≡ emit room 0 q → Answers (within (length room / stride) q) (answered a) room room′
+answers-read q room {a} e =
+    let all = e ∙ emit-all room q in
+    let h = answers-step a (within (length room / stride) q) (left-step all) in
+    (h .0, h .1, h .2, left-room all)
+
+module _ (look : Look) (n : ℕ) (s : List ℕ) where
+  pub too-long : limit < length s → readingBy look n s ≡ Refused 11 0
+  unfolding readingBy
+  too-long h = rw (lt-ltb limit (length s) h)
+
+  pub not-too-long : length s ≤ limit → readingBy look n s ≡ within n (read look 0 0 0 s)
+  unfolding readingBy
+  not-too-long h = rw (le-ltb limit (length s) h)
+
+-- under tables
+pub answers-prepared : (look : Look) (s room : List ℕ) {a : Step} {room′ : List ℕ} {r : Answer} → length s ≤ limit → left a room′ ≡ emit room 0 (read look 0 0 0 s)
+    → r ≡ answered a → Answers (readingBy look (length room / stride) s) r room room′
+answers-prepared look s room h e is = rw (is, not-too-long look (length room / stride) s h) (answers-read (read look 0 0 0 s) room e)
+
+-- ---- under a schema
+
+module _ (sch : Schema) (n : ℕ) (s : List ℕ) where
+  pub reading-long : limit < length s → reading sch n s ≡ Refused 11 0
+  unfolding reading
+  reading-long h = rw (lt-ltb limit (length s) h)
+
+  module _ (h : length s ≤ limit) where
+    pub reading-bad : {i : ℕ} → badSchema sch ≡ some i → reading sch n s ≡ Refused 9 i
+    unfolding reading refusedOr
+    reading-bad e = rw (le-ltb limit (length s) h, e)
+
+    reading-valid : badSchema sch ≡ none → reading sch n s ≡ within n (read (says sch) 0 0 0 s)
+    unfolding reading refusedOr
+    reading-valid e = rw (le-ltb limit (length s) h, e)
+
+-- a valid schema has a type at least, and 32 at most
+valid-types : (sch : Schema) → badSchema sch ≡ none → (1 ≤ sch .types) × (sch .types ≤ 32)
+unfolding badSchema
+valid-types sch e =
+    by-test (between 1 32 (sch .types) && leb (length (sch .entries)) 256)
+    (λ p.
+    let q = both (leb 1 (sch .types)) (leb (sch .types) 32) (both (between 1 32 (sch .types)) (leb (length (sch .entries)) 256) p .0) in
+    (leb-true 1 (sch .types) (q .0), leb-true (sch .types) 32 (q .1)))
+    (λ p. let bad : _≡_ {A = Option ℕ} (some 0) none = rw p at e in let z : _≡_ {A = ℕ} 0 1 = cc in absurd (omega arith))
+
+-- its tables, made of arrays as a reader clears them, read what it says
+pub reads-tables : (sch : Schema) (n : ℕ) (s : List ℕ) (keys info info₀ : List ℕ) → badSchema sch ≡ none → keys ≡ keysWith 0 (soundOf sch) (replicate 256 (2 ^ 64 - 1))
+    → info ≡ infoWith 0 (soundOf sch) info₀ → 1024 ≤ length info₀ → length s ≤ limit → readingBy (tableSays keys info) n s ≡ reading sch n s
+reads-tables sch n s keys info info₀ valid k i wide h =
+    let few = valid-types sch valid in
+    let es = sound-valid sch valid in
+    let keys-are : keys ≡ keysWith 0 (sch .entries) (replicate 256 (2 ^ 64 - 1)) = k ∙ ap (λ (x : List Entry). keysWith 0 x (replicate 256 (2 ^ 64 - 1))) es in
+    let info-is : info ≡ infoWith 0 (sch .entries) info₀ = i ∙ ap (λ (x : List Entry). infoWith 0 x info₀) es in
+    not-too-long (tableSays keys info) n s h
+    ∙ ap (within n) (rw (keys-are, info-is)
+    (sym (read-cong (sch .types) (says sch) (tableSays (keysWith 0 (sch .entries) (replicate 256 (2 ^ 64 - 1))) (infoWith 0 (sch .entries) info₀))
+    (λ type t a b c d. sym (made-says sch valid info₀ wide type t (omega (arith, a, few .1)) b c d))
+    (λ type t d. said-message sch valid type t d)
+    0 0 0 s (omega (arith, few .0)))))
+    ∙ sym (reading-valid sch n s h valid)

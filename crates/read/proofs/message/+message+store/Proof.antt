@@ -1,0 +1,393 @@
+-- The cycle of calls {message, store}: the loop over the fields of a message calls `store` for each record, which calls `message` for the content
+-- of a message, one level deeper. Assumes nothing.
+use Prim.Native.Nat.{ℕ, _+_, _-_, _*_, _<_, _≤_}
+use native.Mathlib.Omega.{arith}
+use mathlib.Core.Path.{_≡_, sym, _∙_}
+use borrow.Author.Needs.{needs}
+use lib.ListN.{length}
+use Rattle.spec.specs.Reading.{read}
+use Rattle.schema.specs.Tables.{tableSays}
+use mathlib.Core.Logic.{inl, inr}
+use Rattle.read.specs.Answers.{Held}
+use Rattle.read.proofs.AskedLaws.{asked-held}
+use Rattle.read.proofs.Turn.{Here, here, here-by}
+use Rattle.read.proofs.FieldTurn.{row-message, row-packed, row-none, row-value, row-full, put-then, put-only, moved, bad-place, fields-end, field-bad, row-stops, row-goes, group-bad, group-within, group-past}
+use borrow.Fn.Kinds.{In}
+use borrow.Fn.PlainCycle.{Measures, is, falls, and}
+use Rattle.read.proofs.message.message.Reads as message
+use Rattle.read.proofs.message.message.Kinds as message-kinds
+use Rattle.read.proofs.message.+message+store.Lts-message as message-lts
+use Rattle.read.proofs.message.store.Reads as store
+use Rattle.read.proofs.message.store.Kinds as store-kinds
+use Rattle.read.proofs.message.+message+store.Lts-store as store-lts
+use Rattle.read.proofs.classify.field_at.Reads as field-at-reads
+use Rattle.read.proofs.message.short_ints.Reads as short-ints-reads
+use Rattle.read.proofs.packed.packed.Reads as packed-reads
+use Rattle.read.proofs.room.put.Reads as put-reads
+use Rattle.skip.proofs.unknown_or_group.skip_unknown_group.Reads as skip-unknown-group-reads
+use Rattle.read.proofs.message.+message+store.{statement}
+use Rattle.read.proofs.message.+message+store.Tie.{close}
+
+abbrev μ-message : Measures 4 message-kinds.ps ℕ
+μ-message κs a = 2 * (101 - a .1 .1 .1 .1 .1 .0) + 1
+
+abbrev μ-store : Measures 4 store-kinds.ps ℕ
+μ-store κs a = 2 * (101 - a .1 .1 .1 .1 .1 .0)
+
+abbrev message-at : ℕ → In 4 message-kinds.ps
+message-at t = and 4 message-kinds.ps (is 4 message-kinds.ps μ-message t) message.Pre
+
+abbrev message-below : ℕ → In 4 message-kinds.ps
+message-below t = and 4 message-kinds.ps (falls 4 message-kinds.ps _<_ μ-message t) message.Pre
+
+abbrev store-at : ℕ → In 4 store-kinds.ps
+store-at t = and 4 store-kinds.ps (is 4 store-kinds.ps μ-store t) store.Pre
+
+abbrev store-below : ℕ → In 4 store-kinds.ps
+store-below t = and 4 store-kinds.ps (falls 4 store-kinds.ps _<_ μ-store t) store.Pre
+
+abbrev message-claims : ℕ → message-lts.Claims
+message-claims t = (short-ints-reads.Asked, short-ints-reads.Learnt, field-at-reads.Asked, field-at-reads.Learnt, store-below t, store.Post, skip-unknown-group-reads.Asked, skip-unknown-group-reads.Learnt)
+
+abbrev message-Inv-loop : message-lts.InvT-loop
+message-Inv-loop keys info s off ty depth room₀ from at₀ to₀ room at to = Here (read (tableSays keys info) depth ty) s off room₀ 0 from room at to
+
+abbrev message-μ-loop : message-lts.MeasureT-loop
+message-μ-loop keys info s off ty depth room₀ from at₀ to₀ room at to = length s - at
+
+-- where the field stands that is asked for next: behind the short ones, if those were looked for
+joined : (t : ℕ) (c : message-lts.Joined1 (message-claims t) (message-at t) message.Post message-Inv-loop message-μ-loop) →
+    let a = c .before .before .before .before .before .args in
+    Here (read (tableSays (a .keys .now) (a .info .now)) (a .depth) (a .ty)) (a .s .now) (a .off) (a .room .now) 0 (a .from) (c .if1 .room) (c .if1 .at) (c .if1 .to)
+    × (c .before .before .loop .at ≤ c .if1 .at) × (c .if1 .at < length (a .s .now))
+joined t c =
+    elim (c .if1 .came) [
+      | inl x ↦ (moved (here-by (c .before .before .loop .inv) (x .2 .ensures)) (x .6) (x .7) (x .8), omega (arith, x .2 .ensures .on, x .7), omega (arith, x .2 .ensures .inside, x .7, x .5 .left))
+      | inr y ↦ (moved (c .before .before .loop .inv) (y .1) (y .2) (y .3), omega (arith, y .2), omega (arith, y .2, c .before .loop-test .taken))
+    ]
+
+-- what may be relied on of its record
+held : (t : ℕ) (c : message-lts.After-f (message-claims t) (message-at t) message.Post message-Inv-loop message-μ-loop) →
+    let j = c .before .before .before in
+    Held (j .before .before .before .before .before .args .depth) (j .if1 .at) (length (j .before .before .before .before .before .args .s .now)) (c .f .given .0 .0)
+held t c = asked-held _ _ _ _ _ _ (sym (c .before .before .field-at .ensures .1) ∙ c .f .given .1)
+
+message-loop-holds : (t : ℕ) → message-lts.Need-loop-holds (message-claims t) (message-at t) message.Post message-Inv-loop message-μ-loop
+message-loop-holds t c = here _ _ _ _ _ _ (omega arith) (omega arith)
+
+message-short-ints-requires : (t : ℕ) → message-lts.Need-short-ints-requires (message-claims t) (message-at t) message.Post message-Inv-loop message-μ-loop
+message-short-ints-requires t c κs = omega (arith, c .before .if1 .taken, c .before .before .loop-test .taken, c .before .before .before .loop .inv .further .fits)
+
+message-same-length : (t : ℕ) → message-lts.Need-same-length (message-claims t) (message-at t) message.Post message-Inv-loop message-μ-loop
+message-same-length t c = let x = c .before .before .before in search (needs, here-by (x .before .before .before .before .loop .inv) (x .short-ints .ensures) .further .kept)
+
+message-returns : (t : ℕ) → message-lts.Need-returns (message-claims t) (message-at t) message.Post message-Inv-loop message-μ-loop
+message-returns t c = let x = c .before .before .before in fields-end _ _ _ (here-by (x .before .before .before .before .loop .inv) (x .short-ints .ensures)) (omega (arith, c .if2 .taken))
+
+message-field-at-requires : (t : ℕ) → message-lts.Need-field-at-requires (message-claims t) (message-at t) message.Post message-Inv-loop message-μ-loop
+message-field-at-requires t c κs = search needs
+
+message-enum-known-f : (t : ℕ) → message-lts.Need-enum-known-f (message-claims t) (message-at t) message.Post message-Inv-loop message-μ-loop
+message-enum-known-f t c = search needs
+
+message-store-requires : (t : ℕ) → message-lts.Need-store-requires (message-claims t) (message-at t) message.Post message-Inv-loop message-μ-loop
+message-store-requires t c κs = let f = c .before .before in (omega arith, (omega arith, omega arith, omega (arith, joined t (f .before .before .before) .0 .further .fits), held t f))
+
+message-enum-known-n : (t : ℕ) → message-lts.Need-enum-known-n (message-claims t) (message-at t) message.Post message-Inv-loop message-μ-loop
+message-enum-known-n t c = search needs
+
+message-loop-less : (t : ℕ) → message-lts.Need-loop-less (message-claims t) (message-at t) message.Post message-Inv-loop message-μ-loop
+message-loop-less t c = 
+    let n = c .before in
+    let w = n .before .before .before in
+    let f = w .before .before .before .before in
+    let a = f .before .before in
+    let j = joined t (a .before) in
+    omega (arith, j .1, j .2, held t f .behind, held t f .ordered, held t f .inside)
+
+message-loop-again : (t : ℕ) → message-lts.Need-loop-again (message-claims t) (message-at t) message.Post message-Inv-loop message-μ-loop
+message-loop-again t c = 
+    let n = c .before in
+    let w = n .before .before .before in
+    let f = w .before .before .before .before in
+    let a = f .before .before in
+    let j = joined t (a .before) in
+    row-goes _ _ _ (j .0) (j .2) (a .field-at .ensures .0) (f .f .given .1) (held t f) (w .before .store .ensures) (n .n .given .1) (w .room2 .given)
+
+message-enum-known-number : (t : ℕ) → message-lts.Need-enum-known-number (message-claims t) (message-at t) message.Post message-Inv-loop message-μ-loop
+message-enum-known-number t c = search needs
+
+message-same-length-2 : (t : ℕ) → message-lts.Need-same-length-2 (message-claims t) (message-at t) message.Post message-Inv-loop message-μ-loop
+message-same-length-2 t c = 
+    let n = c .before in
+    let w = n .before .before .before in
+    let f = w .before .before .before .before in
+    let a = f .before .before in
+    let j = joined t (a .before) in
+    search (needs, w .room2 .given ∙ j .0 .further .kept)
+
+message-returns-2 : (t : ℕ) → message-lts.Need-returns-2 (message-claims t) (message-at t) message.Post message-Inv-loop message-μ-loop
+message-returns-2 t c = 
+    let n = c .before in
+    let w = n .before .before .before in
+    let f = w .before .before .before .before in
+    let a = f .before .before in
+    let j = joined t (a .before) in
+    row-stops _ _ _ (j .0) (j .2) (a .field-at .ensures .0) (f .f .given .1) (held t f) (w .before .store .ensures) (n .number .given .1)
+
+message-enum-known-next : (t : ℕ) → message-lts.Need-enum-known-next (message-claims t) (message-at t) message.Post message-Inv-loop message-μ-loop
+message-enum-known-next t c = search needs
+
+message-skip-unknown-group-requires : (t : ℕ) → message-lts.Need-skip-unknown-group-requires (message-claims t) (message-at t) message.Post message-Inv-loop message-μ-loop
+message-skip-unknown-group-requires t c κs = search needs
+
+message-enum-known-e : (t : ℕ) → message-lts.Need-enum-known-e (message-claims t) (message-at t) message.Post message-Inv-loop message-μ-loop
+message-enum-known-e t c = search needs
+
+message-loop-less-2 : (t : ℕ) → message-lts.Need-loop-less-2 (message-claims t) (message-at t) message.Post message-Inv-loop message-μ-loop
+message-loop-less-2 t c = 
+    let e = c .before in
+    let k = e .before .before in
+    let n = k .before .before in
+    let a = n .before .before in
+    let j = joined t (a .before) in
+    omega (arith, j .1, group-within _ _ _ (j .0) (j .2) (a .field-at .ensures .0) (n .next .given .1) (k .skip-unknown-group .ensures) (a .field-at .ensures .1) (e .e .given .1))
+
+message-loop-again-2 : (t : ℕ) → message-lts.Need-loop-again-2 (message-claims t) (message-at t) message.Post message-Inv-loop message-μ-loop
+message-loop-again-2 t c = 
+    let e = c .before in
+    let k = e .before .before in
+    let n = k .before .before in
+    let a = n .before .before in
+    let j = joined t (a .before) in
+    group-past _ _ _ (j .0) (j .2) (a .field-at .ensures .0) (n .next .given .1) (k .skip-unknown-group .ensures) (a .field-at .ensures .1) (e .e .given .1)
+
+message-enum-known-k : (t : ℕ) → message-lts.Need-enum-known-k (message-claims t) (message-at t) message.Post message-Inv-loop message-μ-loop
+message-enum-known-k t c = search needs
+
+message-add-t34 : (t : ℕ) → message-lts.Need-add-t34 (message-claims t) (message-at t) message.Post message-Inv-loop message-μ-loop
+message-add-t34 t c = 
+    let e = c .before .before in
+    let k = e .before .before in
+    let n = k .before .before in
+    let a = n .before .before in
+    let j = joined t (a .before) in
+    omega (arith, j .2, a .before .before .before .before .before .before .pre .1 .1)
+
+message-same-length-3 : (t : ℕ) → message-lts.Need-same-length-3 (message-claims t) (message-at t) message.Post message-Inv-loop message-μ-loop
+message-same-length-3 t c = 
+    let e = c .before .before in
+    let k = e .before .before in
+    let n = k .before .before in
+    let a = n .before .before in
+    let j = joined t (a .before) in
+    search (needs, j .0 .further .kept)
+
+message-returns-3 : (t : ℕ) → message-lts.Need-returns-3 (message-claims t) (message-at t) message.Post message-Inv-loop message-μ-loop
+message-returns-3 t c = 
+    let e = c .before .before in
+    let k = e .before .before in
+    let n = k .before .before in
+    let a = n .before .before in
+    let j = joined t (a .before) in
+    group-bad _ _ _ (j .0) (j .2) (a .field-at .ensures .0) (n .next .given .1) (k .skip-unknown-group .ensures) (e .k .given .1)
+
+message-enum-known-number-2 : (t : ℕ) → message-lts.Need-enum-known-number-2 (message-claims t) (message-at t) message.Post message-Inv-loop message-μ-loop
+message-enum-known-number-2 t c = search needs
+
+message-add-t35 : (t : ℕ) → message-lts.Need-add-t35 (message-claims t) (message-at t) message.Post message-Inv-loop message-μ-loop
+message-add-t35 t c = 
+    let n = c .before .before in
+    let a = n .before .before in
+    let j = joined t (a .before) in
+    omega (arith, j .2)
+
+message-add-t36 : (t : ℕ) → message-lts.Need-add-t36 (message-claims t) (message-at t) message.Post message-Inv-loop message-μ-loop
+message-add-t36 t c = 
+    let n = c .before .before in
+    let a = n .before .before in
+    let j = joined t (a .before) in
+    omega (arith, j .2, bad-place _ _ _ _ _ (a .field-at .ensures .1) (n .number2 .given .1))
+
+message-same-length-4 : (t : ℕ) → message-lts.Need-same-length-4 (message-claims t) (message-at t) message.Post message-Inv-loop message-μ-loop
+message-same-length-4 t c = 
+    let n = c .before .before in
+    let a = n .before .before in
+    let j = joined t (a .before) in
+    search (needs, j .0 .further .kept)
+
+message-returns-4 : (t : ℕ) → message-lts.Need-returns-4 (message-claims t) (message-at t) message.Post message-Inv-loop message-μ-loop
+message-returns-4 t c = 
+    let n = c .before .before in
+    let a = n .before .before in
+    let j = joined t (a .before) in
+    field-bad _ _ _ (j .0) (j .2) (a .field-at .ensures .0) (n .number2 .given .1)
+
+message-same-length-5 : (t : ℕ) → message-lts.Need-same-length-5 (message-claims t) (message-at t) message.Post message-Inv-loop message-μ-loop
+message-same-length-5 t c = search needs
+
+message-returns-5 : (t : ℕ) → message-lts.Need-returns-5 (message-claims t) (message-at t) message.Post message-Inv-loop message-μ-loop
+message-returns-5 t c = fields-end _ _ _ (c .before .loop .inv) (c .loop-test .left)
+
+abbrev store-claims : ℕ → store-lts.Claims
+store-claims t = (put-reads.Asked, put-reads.Learnt, message-below t, message.Post, packed-reads.Asked, packed-reads.Learnt)
+
+store-returns : (t : ℕ) → store-lts.Need-returns (store-claims t) (store-at t) store.Post
+store-returns t c = let b = c .before .before .before .before in row-none _ (b .pre .1 .3) _ _ (c .before .if1 .taken) (c .if2 .taken) _ _
+
+store-sub-if3 : (t : ℕ) → store-lts.Need-sub-if3 (store-claims t) (store-at t) store.Post
+store-sub-if3 t c = omega arith
+
+store-add-t18 : (t : ℕ) → store-lts.Need-add-t18 (store-claims t) (store-at t) store.Post
+store-add-t18 t c = omega (arith, c .before .before .before .before .pre .1 .3 .behind, c .before .before .before .before .pre .1 .3 .ordered, c .before .before .before .before .pre .1 .3 .inside)
+
+store-returns-2 : (t : ℕ) → store-lts.Need-returns-2 (store-claims t) (store-at t) store.Post
+store-returns-2 t c = 
+    row-full _ (c .before .before .before .before .pre .1 .3) _ _ (λ k e. elim (c .before .if1 .came) [ inl x ↦ x .1 .left e | inr y ↦ y .left k ]) _ _ (omega arith) (c .if3 .taken)
+
+store-add-put : (t : ℕ) → store-lts.Need-add-put (store-claims t) (store-at t) store.Post
+store-add-put t c = omega (arith, c .before .before .before .before .before .pre .1 .3 .behind, c .before .before .before .before .before .pre .1 .3 .ordered, c .before .before .before .before .before .pre .1 .3 .inside)
+
+store-add-put-2 : (t : ℕ) → store-lts.Need-add-put-2 (store-claims t) (store-at t) store.Post
+store-add-put-2 t c = omega (arith, c .before .before .before .before .before .pre .1 .3 .behind, c .before .before .before .before .before .pre .1 .3 .ordered, c .before .before .before .before .before .pre .1 .3 .inside)
+
+store-put-requires : (t : ℕ) → store-lts.Need-put-requires (store-claims t) (store-at t) store.Post
+store-put-requires t c κs = omega (arith, c .before .if3 .left)
+
+store-sub-message : (t : ℕ) → store-lts.Need-sub-message (store-claims t) (store-at t) store.Post
+store-sub-message t c = omega (arith, c .before .before .before .before .before .before .before .before .before .pre .1 .3 .behind, c .before .before .before .before .before .before .before .before .before .pre .1 .3 .ordered, c .before .before .before .before .before .before .before .before .before .pre .1 .3 .inside)
+
+store-part-message-start : (t : ℕ) → store-lts.Need-part-message-start (store-claims t) (store-at t) store.Post
+store-part-message-start t c = omega (arith, c .before .before .before .before .before .before .before .before .before .pre .1 .3 .behind, c .before .before .before .before .before .before .before .before .before .pre .1 .3 .ordered, c .before .before .before .before .before .before .before .before .before .pre .1 .3 .inside)
+
+store-part-message-end : (t : ℕ) → store-lts.Need-part-message-end (store-claims t) (store-at t) store.Post
+store-part-message-end t c = omega (arith, c .before .before .before .before .before .before .before .before .before .pre .1 .3 .behind, c .before .before .before .before .before .before .before .before .before .pre .1 .3 .ordered, c .before .before .before .before .before .before .before .before .before .pre .1 .3 .inside)
+
+store-add-message : (t : ℕ) → store-lts.Need-add-message (store-claims t) (store-at t) store.Post
+store-add-message t c = omega (arith, c .before .before .before .before .before .before .before .before .before .before .pre .1 .3 .behind, c .before .before .before .before .before .before .before .before .before .before .pre .1 .3 .ordered, c .before .before .before .before .before .before .before .before .before .before .pre .1 .3 .inside)
+
+store-add-message-2 : (t : ℕ) → store-lts.Need-add-message-2 (store-claims t) (store-at t) store.Post
+store-add-message-2 t c = omega (arith, c .before .before .before .before .before .before .before .before .before .before .pre .1 .3 .shallow (c .before .if4 .taken))
+
+store-message-requires : (t : ℕ) → store-lts.Need-message-requires (store-claims t) (store-at t) store.Post
+store-message-requires t c κs = 
+    let q = c .before .before .before .before in
+    omega (arith, c .before .before .before .before .before .before .before .before .before .before .before .pre .1 .3 .behind, c .before .before .before .before .before .before .before .before .before .before .before .pre .1 .3 .ordered, c .before .before .before .before .before .before .before .before .before .before .before .pre .1 .3 .inside, c .before .before .before .before .before .before .before .before .before .before .before .pre .1 .3 .shallow (c .before .before .if4 .taken), c .before .message-arg .given .2, q .room .given, q .before .put .ensures .1, q .before .before .before .if3 .left, c .before .before .before .before .before .before .before .before .before .before .before .pre)
+
+store-same-length : (t : ℕ) → store-lts.Need-same-length (store-claims t) (store-at t) store.Post
+store-same-length t c = search (needs, c .before .room2 .given ∙ c .before .before .before .before .before .before .before .room .given)
+
+store-returns-3 : (t : ℕ) → store-lts.Need-returns-3 (store-claims t) (store-at t) store.Post
+store-returns-3 t c = 
+    let p = c .before .before .before .before .before .before .before .before in
+    put-then _ _ (row-message _ (c .before .before .before .before .before .before .before .before .before .before .before .before .before .before .pre .1 .3) _ _ (c .before .before .before .before .before .if4 .taken)) (omega (arith, p .before .before .if3 .left)) (p .put .ensures .0) (p .put .ensures .1) (c .before .before .message .ensures)
+
+store-sub-packed : (t : ℕ) → store-lts.Need-sub-packed (store-claims t) (store-at t) store.Post
+store-sub-packed t c = omega (arith, c .before .before .before .before .before .before .before .before .before .before .pre .1 .3 .behind, c .before .before .before .before .before .before .before .before .before .before .pre .1 .3 .ordered, c .before .before .before .before .before .before .before .before .before .before .pre .1 .3 .inside)
+
+store-part-packed-start : (t : ℕ) → store-lts.Need-part-packed-start (store-claims t) (store-at t) store.Post
+store-part-packed-start t c = omega (arith, c .before .before .before .before .before .before .before .before .before .before .pre .1 .3 .behind, c .before .before .before .before .before .before .before .before .before .before .pre .1 .3 .ordered, c .before .before .before .before .before .before .before .before .before .before .pre .1 .3 .inside)
+
+store-part-packed-end : (t : ℕ) → store-lts.Need-part-packed-end (store-claims t) (store-at t) store.Post
+store-part-packed-end t c = omega (arith, c .before .before .before .before .before .before .before .before .before .before .pre .1 .3 .behind, c .before .before .before .before .before .before .before .before .before .before .pre .1 .3 .ordered, c .before .before .before .before .before .before .before .before .before .before .pre .1 .3 .inside)
+
+store-add-packed : (t : ℕ) → store-lts.Need-add-packed (store-claims t) (store-at t) store.Post
+store-add-packed t c = omega (arith, c .before .before .before .before .before .before .before .before .before .before .before .pre .1 .3 .behind, c .before .before .before .before .before .before .before .before .before .before .before .pre .1 .3 .ordered, c .before .before .before .before .before .before .before .before .before .before .before .pre .1 .3 .inside)
+
+store-add-packed-2 : (t : ℕ) → store-lts.Need-add-packed-2 (store-claims t) (store-at t) store.Post
+store-add-packed-2 t c = omega (arith, c .before .before .before .before .before .before .before .before .before .before .before .pre .1 .3 .behind, c .before .before .before .before .before .before .before .before .before .before .before .pre .1 .3 .ordered, c .before .before .before .before .before .before .before .before .before .before .before .pre .1 .3 .inside)
+
+store-add-packed-3 : (t : ℕ) → store-lts.Need-add-packed-3 (store-claims t) (store-at t) store.Post
+store-add-packed-3 t c = omega (arith, c .before .before .before .before .before .before .before .before .before .before .before .pre .1 .3 .behind, c .before .before .before .before .before .before .before .before .before .before .before .pre .1 .3 .ordered, c .before .before .before .before .before .before .before .before .before .before .before .pre .1 .3 .inside)
+
+store-cast-packed : (t : ℕ) → store-lts.Need-cast-packed (store-claims t) (store-at t) store.Post
+store-cast-packed t c = search needs
+
+store-packed-requires : (t : ℕ) → store-lts.Need-packed-requires (store-claims t) (store-at t) store.Post
+store-packed-requires t c κs = 
+    let q = c .before .before .before .before .before .before in
+    omega (arith, c .before .before .before .before .before .before .before .before .before .before .before .before .before .pre .1 .3 .behind, c .before .before .before .before .before .before .before .before .before .before .before .before .before .pre .1 .3 .ordered, c .before .before .before .before .before .before .before .before .before .before .before .before .before .pre .1 .3 .inside, c .before .before .packed-arg .given .2, q .room .given, q .before .put .ensures .1, q .before .before .before .if3 .left)
+
+store-same-length-2 : (t : ℕ) → store-lts.Need-same-length-2 (store-claims t) (store-at t) store.Post
+store-same-length-2 t c = search (needs, c .before .room3 .given ∙ c .before .before .before .before .before .before .before .before .before .room .given)
+
+store-returns-4 : (t : ℕ) → store-lts.Need-returns-4 (store-claims t) (store-at t) store.Post
+store-returns-4 t c = 
+    let p = c .before .before .before .before .before .before .before .before .before .before in
+    let j = p .before .before .before in
+    put-then _ _ (row-packed _ (c .before .before .before .before .before .before .before .before .before .before .before .before .before .before .before .before .pre .1 .3) _ _ (c .before .before .before .before .before .before .if5 .taken) (elim (j .if1 .came) [ inl x ↦ x .1 .left | inr y ↦ λ e. y .left (c .before .before .before .before .before .before .if5 .taken) ]))
+    (omega (arith, p .before .before .if3 .left)) (p .put .ensures .0) (p .put .ensures .1) (c .before .before .packed .ensures)
+
+store-same-length-3 : (t : ℕ) → store-lts.Need-same-length-3 (store-claims t) (store-at t) store.Post
+store-same-length-3 t c = search (needs, c .before .before .before .room .given)
+
+store-returns-5 : (t : ℕ) → store-lts.Need-returns-5 (store-claims t) (store-at t) store.Post
+store-returns-5 t c = 
+    let p = c .before .before .before .before in
+    put-only _ _ (row-value _ (c .before .before .before .before .before .before .before .before .before .before .pre .1 .3) _ _ (c .before .if4 .left) (c .if5 .left)) (omega (arith, p .before .before .if3 .left)) (p .put .ensures .0) (p .put .ensures .1)
+
+pub +message+store-spec : {M : Type 1} → statement M
++message+store-spec = close μ-message μ-store (λ t. message-lts.spec (message-claims t)
+    (message-at t)
+    message.Post
+    message-Inv-loop
+    message-μ-loop
+    (message-loop-holds t)
+    (message-short-ints-requires t)
+    (message-same-length t)
+    (message-returns t)
+    (message-field-at-requires t)
+    (message-enum-known-f t)
+    (message-store-requires t)
+    (message-enum-known-n t)
+    (message-loop-less t)
+    (message-loop-again t)
+    (message-enum-known-number t)
+    (message-same-length-2 t)
+    (message-returns-2 t)
+    (message-enum-known-next t)
+    (message-skip-unknown-group-requires t)
+    (message-enum-known-e t)
+    (message-loop-less-2 t)
+    (message-loop-again-2 t)
+    (message-enum-known-k t)
+    (message-add-t34 t)
+    (message-same-length-3 t)
+    (message-returns-3 t)
+    (message-enum-known-number-2 t)
+    (message-add-t35 t)
+    (message-add-t36 t)
+    (message-same-length-4 t)
+    (message-returns-4 t)
+    (message-same-length-5 t)
+    (message-returns-5 t))
+    λ t. store-lts.spec (store-claims t)
+    (store-at t)
+    store.Post
+    (store-returns t)
+    (store-sub-if3 t)
+    (store-add-t18 t)
+    (store-returns-2 t)
+    (store-add-put t)
+    (store-add-put-2 t)
+    (store-put-requires t)
+    (store-sub-message t)
+    (store-part-message-start t)
+    (store-part-message-end t)
+    (store-add-message t)
+    (store-add-message-2 t)
+    (store-message-requires t)
+    (store-same-length t)
+    (store-returns-3 t)
+    (store-sub-packed t)
+    (store-part-packed-start t)
+    (store-part-packed-end t)
+    (store-add-packed t)
+    (store-add-packed-2 t)
+    (store-add-packed-3 t)
+    (store-cast-packed t)
+    (store-packed-requires t)
+    (store-same-length-2 t)
+    (store-returns-4 t)
+    (store-same-length-3 t)
+    (store-returns-5 t)

@@ -1,0 +1,303 @@
+// What the field at a place of a message is, and what it asks of a reader. Nothing is stored here, and no group is skipped: a reader does that in
+// its own way.
+ghost use mathlib.Core.Path.{_≡_};
+ghost use mathlib.Core.Bool.{true, false};
+ghost use Prim.Native.Nat.{_+_, _^_, _≤_, _<_};
+ghost use lib.ListN.{length, drop};
+ghost use Rattle.spec.specs.Varint.{tag};
+ghost use Rattle.spec.specs.Kind.{shape};
+ghost use Rattle.spec.specs.Skip.{content};
+ghost use Rattle.spec.specs.Reading.{field};
+ghost use Rattle.schema.specs.Tables.{tableSays};
+ghost use Rattle.wire.specs.Answers.{told};
+ghost use Rattle.read.specs.Answers.{tagAt, quickTag, isHead, lengthOf, spanAt, hasLength, bodied, fromBody, asked, resolved};
+use crate::scalar::index;
+use crate::scalar::scalar_at;
+use crate::scalar::varint_at;
+use crate::scalar::wide;
+use crate::scalar::wide32;
+use schema::says;
+use wire::found::Found;
+use wire::utf8::is_utf8;
+use wire::varint::decode::decode_varint32;
+
+// A field that gives a record: what the record says, and what is in it, which is the type of a message's fields or the kind of a packed field's
+// elements, else 0.
+pub struct Row {
+    pub number: u64,
+    pub kind: u64,
+    pub inner: u32,
+    pub value: u64,
+    pub start: usize,
+    pub end: usize,
+}
+
+// What a field asks: a record; that a group is skipped, whose fields stand at `next`; or a refusal, at a place that counts from the field's tag.
+pub enum Field {
+    Of(Row),
+    Group { number: u64, next: usize },
+    Bad { number: u32, place: usize },
+}
+
+// What a tag says, and the place behind it.
+enum Tag {
+    Of {
+        number: u64,
+        kind: u64,
+        inner: u32,
+        next: usize,
+    },
+    Bad(u32),
+}
+
+// The content of a field with a length.
+enum Span {
+    Of { start: usize, end: usize },
+    Bad(u32),
+}
+
+// What stands behind a tag: a value and the range of its record, the fields of a group, or a refusal.
+enum Body {
+    Is {
+        value: u64,
+        start: usize,
+        end: usize,
+    },
+    Group,
+    Bad(u32),
+}
+
+// ---- tags
+
+// Any tag.
+fn long_tag(keys: &[u64; 256], info: &[u8; 1024], s: &[u8], at: usize, ty: u32) -> Tag
+    ensures { λ r. ⌜ r ≡ tagAt (tableSays (now (keys .entry)) (now (info .entry)) ty) at (tag (drop at (now (s .entry)))) ⌝ }
+{
+    match decode_varint32(s, at) {
+        Found::Value { value, next } => {
+            if value < 8 {
+                return Tag::Bad(3);
+            }
+            if 5 < value % 8 {
+                return Tag::Bad(3);
+            }
+            let said = says(keys, info, ty, value as u32);
+            let number = value / 8;
+            let kind = said.kind as u64;
+            let inner = said.inner as u32;
+            Tag::Of {
+                number,
+                kind,
+                inner,
+                next,
+            }
+        }
+        Found::Refused(k) => Tag::Bad(k),
+    }
+}
+
+// What entry i says of a tag of one byte whose key it has.
+fn quick_tag(info: &[u8; 1024], i: usize, c: u64, at: usize) -> Tag
+    requires { ⌜ (i < 256) × (at + 1 < 2 ^ 64) ⌝ }
+    ensures { λ r. ⌜ r ≡ quickTag (now (info .entry)) i c at ⌝ }
+{
+    let number = c / 8;
+    let kind = wide(info[512 + i]);
+    let next = at + 1;
+    let inner = if kind == 11 { wide32(info[768 + i]) } else { 0 };
+    Tag::Of {
+        number,
+        kind,
+        inner,
+        next,
+    }
+}
+
+// The tag at a place. One of a single byte whose entry is the guess needs no search: its key says that owner, number and wire type are right.
+fn tag_at(keys: &[u64; 256], info: &[u8; 1024], s: &[u8], at: usize, ty: u32) -> Tag
+    ensures { λ r. ⌜ r ≡ tagAt (tableSays (now (keys .entry)) (now (info .entry)) ty) at (tag (drop at (now (s .entry)))) ⌝ }
+{
+    if at < s.len() {
+        if ty < 32 {
+            let c = s[at] as u64;
+            if c < 128 {
+                let i = index(info[ty as usize * 16 + c as usize / 8]);
+                if keys[i] == ty as u64 * 4294967296 + c {
+                    if 8 <= c {
+                        if c % 8 < 6 {
+                            return quick_tag(info, i, c, at);
+                        }
+                    }
+                }
+            }
+        }
+    }
+    long_tag(keys, info, s, at, ty)
+}
+
+// ---- contents
+
+fn is_head(kind: u64) -> bool
+    ensures { λ r. ⌜ r ≡ isHead kind ⌝ }
+{
+    kind == 11 || kind == 20
+}
+
+fn long_span(s: &[u8], at: usize, kind: u64) -> Span
+    requires { ⌜ at ≤ length (now s) ⌝ }
+    ensures { λ r. ⌜ r ≡ spanAt at (content (lengthOf kind) (drop at (now (s .entry)))) ⌝ }
+{
+    match varint_at(s, at, !is_head(kind)) {
+        Found::Value { value, next } => {
+            if ((s.len() - next) as u64) < value {
+                return Span::Bad(1);
+            }
+            let end = next + value as usize;
+            Span::Of { start: next, end }
+        }
+        Found::Refused(k) => Span::Bad(k),
+    }
+}
+
+// The content of a field with a length, which is a varint64 for messages and packed fields, else a varint32.
+fn span_at(s: &[u8], at: usize, kind: u64) -> Span
+    requires { ⌜ at ≤ length (now s) ⌝ }
+    ensures { λ r. ⌜ r ≡ spanAt at (content (lengthOf kind) (drop at (now (s .entry)))) ⌝ }
+{
+    if at < s.len() {
+        let n = s[at] as usize;
+        if n < 128 {
+            let start = at + 1;
+            if s.len() - start < n {
+                return Span::Bad(1);
+            }
+            let end = start + n;
+            return Span::Of { start, end };
+        }
+    }
+    long_span(s, at, kind)
+}
+
+// ---- what stands behind a tag
+
+fn has_length(kind: u64) -> bool
+    ensures { λ r. ⌜ r ≡ hasLength kind ⌝ }
+{
+    if kind == 9 {
+        return true;
+    }
+    if kind == 11 {
+        return true;
+    }
+    if kind == 12 {
+        return true;
+    }
+    if kind == 20 {
+        return true;
+    }
+    kind == 23
+}
+
+// A field with a length.
+fn delimited(s: &[u8], at: usize, kind: u64) -> Body
+    requires { ⌜ (at ≤ length (now s)) × (hasLength kind ≡ true) ⌝ }
+    ensures { λ r. ⌜ r ≡ bodied (shape kind) 0 at (drop at (now (s .entry))) ⌝ }
+{
+    match span_at(s, at, kind) {
+        Span::Of { start, end } => {
+            if kind == 9 {
+                if !is_utf8(&s[start..end]) {
+                    return Body::Bad(6);
+                }
+            }
+            Body::Is {
+                value: 0,
+                start,
+                end,
+            }
+        }
+        Span::Bad(k) => Body::Bad(k),
+    }
+}
+
+// A field with no length.
+fn plain(s: &[u8], at: usize, kind: u64) -> Body
+    requires { ⌜ (at ≤ length (now s)) × (hasLength kind ≡ false) ⌝ }
+    ensures { λ r. ⌜ r ≡ bodied (shape kind) 0 at (drop at (now (s .entry))) ⌝ }
+{
+    match kind {
+        25 => Body::Group,
+        26 => Body::Bad(4),
+        _ => match scalar_at(s, at, kind) {
+            Found::Value { value, next } => Body::Is {
+                value,
+                start: at,
+                end: next,
+            },
+            Found::Refused(k) => Body::Bad(k),
+        },
+    }
+}
+
+fn body_at(s: &[u8], at: usize, kind: u64, depth: u32) -> Body
+    requires { ⌜ at ≤ length (now s) ⌝ }
+    ensures { λ r. ⌜ r ≡ bodied (shape kind) depth at (drop at (now (s .entry))) ⌝ }
+{
+    if has_length(kind) {
+        if kind == 11 {
+            if 99 < depth {
+                return Body::Bad(7);
+            }
+        }
+        return delimited(s, at, kind);
+    }
+    plain(s, at, kind)
+}
+
+// ---- a field
+
+fn with_body(number: u64, kind: u64, inner: u32, next: usize, body: Body) -> Field
+    ensures { λ r. ⌜ r ≡ fromBody number kind inner next body ⌝ }
+{
+    match body {
+        Body::Is { value, start, end } => Field::Of(Row {
+            number,
+            kind,
+            inner,
+            value,
+            start,
+            end,
+        }),
+        Body::Group => Field::Group { number, next },
+        Body::Bad(k) => Field::Bad {
+            number: k,
+            place: 0,
+        },
+    }
+}
+
+// The field at a place, in a message of this type and depth.
+pub fn field_at(
+    keys: &[u64; 256],
+    info: &[u8; 1024],
+    s: &[u8],
+    at: usize,
+    ty: u32,
+    depth: u32,
+) -> Field
+    ensures { λ r. ⌜ (resolved depth at (now (s .entry)) r ≡ field (tableSays (now (keys .entry)) (now (info .entry))) depth ty (drop at (now (s .entry))))
+        × (r ≡ asked (tableSays (now (keys .entry)) (now (info .entry))) depth ty at (now (s .entry))) ⌝ }
+{
+    match tag_at(keys, info, s, at, ty) {
+        Tag::Of {
+            number,
+            kind,
+            inner,
+            next,
+        } => with_body(number, kind, inner, next, body_at(s, next, kind, depth)),
+        Tag::Bad(k) => Field::Bad {
+            number: k,
+            place: 0,
+        },
+    }
+}

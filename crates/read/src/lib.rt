@@ -1,0 +1,88 @@
+// A message to records in lent room.
+ghost use mathlib.Core.Path.{_≡_};
+ghost use lib.ListN.{length};
+ghost use Prim.Native.Nat.{_/_};
+ghost use Rattle.spec.specs.Record.{stride};
+ghost use Rattle.spec.specs.Schema.{schemaOf};
+ghost use Rattle.spec.specs.Reading.{reading, number, place, listed, roomAfter};
+ghost use Rattle.schema.specs.Tables.{tableSays};
+ghost use Rattle.read.specs.Answers.{readingBy, answered};
+
+pub mod classify;
+mod message;
+mod packed;
+mod room;
+mod scalar;
+
+use crate::message::message;
+use crate::room::Step;
+use schema::Verdict;
+use schema::tables;
+
+// What a reading comes to: the refusal's number, 0 for none; how many records stand in the room; the place of the refusal.
+pub struct Answer {
+    pub number: u32,
+    pub count: usize,
+    pub place: usize,
+}
+
+// The room's places count numbers; a caller counts records.
+fn told(step: Step) -> Answer
+    ensures { λ r. ⌜ r ≡ answered step ⌝ }
+{
+    match step {
+        Step::Go(to) => Answer {
+            number: 0,
+            count: to / 6,
+            place: 0,
+        },
+        Step::Stop { number, to, place } => Answer {
+            number,
+            count: to / 6,
+            place,
+        },
+    }
+}
+
+// Reads the message `s` under the tables of a schema, which a caller with many messages makes once. Any arrays are tables.
+pub fn read_prepared(keys: &[u64; 256], info: &[u8; 1024], s: &[u8], room: &mut [u64]) -> Answer
+    ensures { λ r. ⌜ (r .number ≡ number (readingBy (tableSays (now (keys .entry)) (now (info .entry))) (length (now (room .entry)) / stride) (now (s .entry))))
+        × (r .place ≡ place (readingBy (tableSays (now (keys .entry)) (now (info .entry))) (length (now (room .entry)) / stride) (now (s .entry))))
+        × (r .count ≡ length (listed (readingBy (tableSays (now (keys .entry)) (now (info .entry))) (length (now (room .entry)) / stride) (now (s .entry)))))
+        × (now (room .exit) ≡ roomAfter (readingBy (tableSays (now (keys .entry)) (now (info .entry))) (length (now (room .entry)) / stride) (now (s .entry))) (now (room .entry))) ⌝ }
+{
+    if 0x7fff_ffff < s.len() {
+        return Answer {
+            number: 11,
+            count: 0,
+            place: 0,
+        };
+    }
+    told(message(keys, info, s, 0, 0, 0, room, 0))
+}
+
+// Reads the message `s` under a schema of five numbers an entry.
+pub fn read(types: u32, numbers: &[u32], s: &[u8], room: &mut [u64]) -> Answer
+    ensures { λ r. ⌜ (r .number ≡ number (reading (schemaOf types (now (numbers .entry))) (length (now (room .entry)) / stride) (now (s .entry))))
+        × (r .place ≡ place (reading (schemaOf types (now (numbers .entry))) (length (now (room .entry)) / stride) (now (s .entry))))
+        × (r .count ≡ length (listed (reading (schemaOf types (now (numbers .entry))) (length (now (room .entry)) / stride) (now (s .entry)))))
+        × (now (room .exit) ≡ roomAfter (reading (schemaOf types (now (numbers .entry))) (length (now (room .entry)) / stride) (now (s .entry))) (now (room .entry))) ⌝ }
+{
+    if 0x7fff_ffff < s.len() {
+        return Answer {
+            number: 11,
+            count: 0,
+            place: 0,
+        };
+    }
+    let mut keys: [u64; 256] = [0xffff_ffff_ffff_ffff; 256];
+    let mut info: [u8; 1024] = [0; 1024];
+    match tables(types, numbers, &mut keys, &mut info) {
+        Verdict::Bad(i) => Answer {
+            number: 9,
+            count: 0,
+            place: i,
+        },
+        Verdict::Valid => read_prepared(&keys, &info, s, room),
+    }
+}

@@ -1,0 +1,234 @@
+// The fields of a message to records.
+ghost use mathlib.Core.Path.{_≡_};
+ghost use Prim.Native.Nat.{ℕ, _+_, _^_, _≤_, _<_};
+ghost use lib.ListN.{length, drop};
+ghost use Rattle.spec.specs.Reading.{records, read};
+ghost use Rattle.schema.specs.Tables.{tableSays};
+ghost use Rattle.read.specs.Answers.{Held, Tells, rowField};
+ghost use Rattle.read.specs.Emit.{left, emit, Further};
+use crate::classify::Field;
+use crate::classify::Row;
+use crate::classify::field_at;
+use crate::packed::packed;
+use crate::room::Spot;
+use crate::room::Step;
+use crate::room::put;
+use crate::scalar::Meant;
+use crate::scalar::Short;
+use crate::scalar::index;
+use crate::scalar::meaning_of;
+use crate::scalar::short_at;
+use crate::scalar::wide;
+use skip::field::Past;
+use skip::unknown_or_group::skip_unknown_group;
+
+enum Kind {
+    Of(u64),
+    Other,
+}
+
+// The kind of the field whose tag is the one byte c, of wire type 0.
+fn int_kind(keys: &[u64; 256], info: &[u8; 1024], c: u8, ty: u32) -> Kind
+    requires { ⌜ ty < 32 ⌝ }
+    ensures { λ r. ⌜ Tells (tableSays (now (keys .entry)) (now (info .entry)) ty) c r ⌝ }
+{
+    if c % 8 == 0 {
+        if c < 128 {
+            let number = c / 8;
+            if 0 < number {
+                let i = index(info[ty as usize * 16 + number as usize]);
+                if keys[i] == ty as u64 * 0x1_0000_0000 + c as u64 {
+                    return Kind::Of(wide(info[512 + i]));
+                }
+            }
+        }
+    }
+    Kind::Other
+}
+
+// Reads on while fields are short varints with a tag of one byte, and there is room. Whatever it leaves, `message` does.
+fn short_ints(
+    keys: &[u64; 256],
+    info: &[u8; 1024],
+    s: &[u8],
+    off: usize,
+    ty: u32,
+    depth: u32,
+    room: &mut [u64],
+    from: Spot,
+) -> Spot
+    requires { ⌜ (from .at < length (now s)) × (off + length (now s) < 2 ^ 64) × (from .to ≤ length (now room)) × (ty < 32) ⌝ }
+    ensures { λ r. ⌜ Further (length (now (s .entry))) (λ at. read (tableSays (now (keys .entry)) (now (info .entry))) depth ty (off + at) (drop at (now (s .entry))))
+        (now (room .entry)) (from .at) (from .to) (now (room .exit)) (r .at) (r .to) ⌝ }
+{
+    let mut at = from.at;
+    let mut to = from.to;
+    let last = s.len() - 1;
+    while at < last {
+        let c = s[at];
+        let Kind::Of(kind) = int_kind(keys, info, c, ty) else {
+            return Spot { at, to };
+        };
+        let Short::Of { value, size } = short_at(s, at + 1) else {
+            return Spot { at, to };
+        };
+        let Meant::Is(v) = meaning_of(kind, value) else {
+            return Spot { at, to };
+        };
+        if room.len() - to < 6 {
+            return Spot { at, to };
+        }
+        let start = off + at + 1;
+        to = put(
+            room,
+            to,
+            depth,
+            (c / 8) as u64,
+            kind,
+            v,
+            start,
+            start + size,
+        );
+        at += 1 + size;
+    }
+    Spot { at, to }
+}
+
+// What a field asks, where its tag stands at `at`: its record, and for a head what lies below it.
+fn store(
+    keys: &[u64; 256],
+    info: &[u8; 1024],
+    s: &[u8],
+    off: usize,
+    at: usize,
+    depth: u32,
+    f: Row,
+    room: &mut [u64],
+    from: usize,
+) -> Step
+    requires { ⌜ (depth ≤ 100) × (off + length (now s) < 2 ^ 64) × (from ≤ length (now room)) × Held depth at (length (now s)) f ⌝ }
+    ensures { λ r. ⌜ left r (now (room .exit)) ≡ emit (now (room .entry)) from
+        (records (read (tableSays (now (keys .entry)) (now (info .entry))) (depth + 1)) depth (off + at) (drop at (now (s .entry))) (rowField at f)) ⌝ }
+{
+    let start = f.start;
+    let end = f.end;
+    let kind = f.kind;
+    if kind == 20 {
+        if start == end {
+            return Step::Go(from);
+        }
+    }
+    if room.len() - from < 6 {
+        return Step::Stop {
+            number: 8,
+            to: from,
+            place: off + at,
+        };
+    }
+    let to = put(
+        room,
+        from,
+        depth,
+        f.number,
+        kind,
+        f.value,
+        off + start,
+        off + end,
+    );
+    if kind == 11 {
+        return message(
+            keys,
+            info,
+            &s[start..end],
+            off + start,
+            f.inner,
+            depth + 1,
+            room,
+            to,
+        );
+    }
+    if kind == 20 {
+        return packed(
+            &s[start..end],
+            off + start,
+            off + at,
+            depth + 1,
+            f.number,
+            f.inner as u64,
+            room,
+            to,
+        );
+    }
+    Step::Go(to)
+}
+
+// The fields of the message s, which stands at `off`, behind the first `from` numbers of the room.
+pub(crate) fn message(
+    keys: &[u64; 256],
+    info: &[u8; 1024],
+    s: &[u8],
+    off: usize,
+    ty: u32,
+    depth: u32,
+    room: &mut [u64],
+    from: usize,
+) -> Step
+    requires { ⌜ (depth ≤ 100) × (off + length (now s) < 2 ^ 64) × (from ≤ length (now room)) ⌝ }
+    ensures { λ r. ⌜ left r (now (room .exit)) ≡ emit (now (room .entry)) from (read (tableSays (now (keys .entry)) (now (info .entry))) depth ty off (now (s .entry))) ⌝ }
+{
+    let mut at: usize = 0;
+    let mut to = from;
+    while at < s.len() {
+        if ty < 32 {
+            let x = short_ints(keys, info, s, off, ty, depth, room, Spot { at, to });
+            at = x.at;
+            to = x.to;
+            if at == s.len() {
+                return Step::Go(to);
+            }
+        }
+        match field_at(keys, info, s, at, ty, depth) {
+            Field::Of(f) => {
+                match store(keys, info, s, off, at, depth, f, room, to) {
+                    Step::Go(n) => {
+                        to = n;
+                        at = f.end;
+                    }
+                    Step::Stop {
+                        number,
+                        to: n,
+                        place,
+                    } => {
+                        return Step::Stop {
+                            number,
+                            to: n,
+                            place,
+                        };
+                    }
+                }
+            }
+            Field::Group { number: _, next } => {
+                match skip_unknown_group(s, next, depth) {
+                    Past::To(e) => {
+                        at = e;
+                    }
+                    Past::Refused(k) => {
+                        return Step::Stop {
+                            number: k,
+                            to,
+                            place: off + at,
+                        };
+                    }
+                }
+            }
+            Field::Bad { number, place } => {
+                return Step::Stop {
+                    number,
+                    to,
+                    place: off + at + place,
+                };
+            }
+        }
+    }
+    Step::Go(to)
+}

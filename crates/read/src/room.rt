@@ -1,0 +1,45 @@
+// Storing records: the one place that knows how a record stands in lent room.
+ghost use mathlib.Core.Path.{_≡_};
+ghost use Prim.Native.Nat.{_+_, _≤_, _<_};
+ghost use lib.ListN.{length};
+ghost use Rattle.spec.specs.Record.{row};
+ghost use Rattle.read.specs.Emit.{placed};
+
+// How far a reader came: on, with `to` numbers of the room in use; or refused. Numbers, and not records, so that no turn multiplies.
+pub enum Step {
+    Go(usize),
+    Stop {
+        number: u32,
+        to: usize,
+        place: usize,
+    },
+}
+
+// Where a reader stands: `at` in the bytes, with `to` numbers of the room in use.
+pub struct Spot {
+    pub at: usize,
+    pub to: usize,
+}
+
+// Stores a record from `to` on, where it has room; the place behind it.
+pub(crate) fn put(
+    room: &mut [u64],
+    to: usize,
+    depth: u32,
+    number: u64,
+    kind: u64,
+    value: u64,
+    start: usize,
+    end: usize,
+) -> usize
+    requires { ⌜ to + 6 ≤ length (now room) ⌝ }
+    ensures { λ r. ⌜ (now (room .exit) ≡ placed (now (room .entry)) to (row depth number kind value start end 0)) × (r ≡ to + 6) ⌝ }
+{
+    room[to] = depth as u64;
+    room[to + 1] = number;
+    room[to + 2] = kind;
+    room[to + 3] = value;
+    room[to + 4] = start as u64;
+    room[to + 5] = end as u64;
+    to + 6
+}
