@@ -20,14 +20,14 @@ returns c =
 returns-2 : tie.Need-returns-2
 returns-2 c =
     let i = c .before .before .is-signed in
-    rw (← i .ensures, not-false (i .result) (c .before .if1 .left), lt-ltb (c .before .before .before .args .v) 2147483648 (c .if2 .taken))
+    rw (← i .ensures, not-false (i .result) (c .before .if1 .left), lt-ltb (c .before .before .before .args .v) 2147483648 (omega arith))
 
 returns-3 : tie.Need-returns-3
 returns-3 c =
     let i = c .before .before .is-signed in
     let v = c .before .before .before .args .v in
     let fits = c .before .before .before .fits .v .fits in
-    rw (← i .ensures, not-false (i .result) (c .before .if1 .left), le-ltb v 2147483648 (c .if2 .left), le-leb v 18446744073709551615 (omega (arith, fits)))
+    rw (← i .ensures, not-false (i .result) (c .before .if1 .left), le-ltb v 2147483648 (omega arith), le-leb v 18446744073709551615 (omega (arith, fits)))
     (kept (leb 18446744071562067968 v))
 
 pub in-range-spec : {M : Type 1} → statement M
