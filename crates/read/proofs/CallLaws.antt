@@ -1,23 +1,23 @@
 -- Laws of the two calls: what a reading from the start of the room answers, and what is refused before it. Assumes nothing.
-use Prim.Native.Nat.{ℕ, _+_, _-_, _*_, _/_, _^_, _≤_, _<_}
+use Prim.Native.Nat.{ℕ, _-_, _/_, _^_, _≤_, _<_}
 use native.Mathlib.Omega.{arith}
-use mathlib.Core.Path.{_≡_, refl, sym, ap, _∙_, subst}
-use mathlib.Core.Bool.{true, false, _&&_}
+use mathlib.Core.Path.{_≡_, refl, sym, ap, _∙_}
+use mathlib.Core.Bool.{_&&_}
 use mathlib.Core.Option.{Option, none, some}
-use mathlib.Core.List.{List, []}
+use mathlib.Core.List.{List}
 use lib.ListN.{length, replicate}
 use lib.Dec.{leb}
 use borrow.Author.Tests.{lt-ltb, le-ltb, leb-true}
-use Rattle.spec.specs.Base.{if_then_else_, between, limit, filled}
+use Rattle.spec.specs.Base.{between, limit}
 use Rattle.spec.specs.Record.{stride, stored}
-use Rattle.spec.specs.Reading.{Look, Reading, Done, Refused, within, number, place, listed, roomAfter, read, reading, refusedOr}
+use Rattle.spec.specs.Reading.{Look, Reading, Refused, within, number, place, listed, roomAfter, read, reading, refusedOr}
 use Rattle.spec.specs.Schema.{Schema, badSchema, says}
 use Rattle.spec.specs.declared.Entry.{Entry}
 use Rattle.spec.proofs.Laws.{by-test, both}
 use Rattle.schema.specs.Tables.{soundOf, keysWith, infoWith, tableSays}
 use Rattle.schema.proofs.TableLaws.{sound-valid, made-says, said-message}
 use Rattle.read.specs.Answers.{readingBy, answered}
-use Rattle.read.specs.Emit.{Left, left, emit}
+use Rattle.read.specs.Emit.{left, emit}
 use Rattle.read.specs.declared.Answer.{Answer}
 use Rattle.read.specs.declared.room.Step.{Step}
 use Rattle.read.specs.declared.room.Step.the-variants.{Go, Stop}

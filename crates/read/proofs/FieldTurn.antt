@@ -1,30 +1,30 @@
 -- The turns of the loop over a message's fields, in plain values, and what the records of one field are. Assumes nothing.
-use Prim.Native.Nat.{ℕ, zero, suc, _+_, _-_, _/_, _%_, _≤_, _<_}
+use Prim.Native.Nat.{ℕ, suc, _+_, _-_, _/_, _%_, _≤_, _<_}
 use native.Mathlib.Omega.{arith}
 use native.Mathlib.Nat.{add-zero}
 use mathlib.Core.Path.{_≡_, refl, sym, ap, ap₂, _∙_, subst}
-use mathlib.Core.Bool.{Bool, true, false}
+use mathlib.Core.Bool.{true, false}
 use mathlib.Core.List.{List, [], _∷_}
-use lib.ListN.{length, getD, take, drop, length-drop, length-set, drop-of-length-le}
+use lib.ListN.{length, getD, drop, length-drop, drop-of-length-le}
 use lib.Seq.{drop-drop, drop-cons}
-use lib.Dec.{leb, ltb, eqb}
+use lib.Dec.{leb, eqb}
 use borrow.Author.Tests.{le-leb, lt-ltb, eq-eqb, ne-eqb, eqb-true, eqb-false, leb-true}
-use Rattle.spec.specs.Base.{if_then_else_, part, Read, Took, No, require}
-use Rattle.spec.specs.Varint.{varint, varint32, tag}
-use Rattle.spec.specs.Kind.{Shape, one, other, shape, scalar}
+use Rattle.spec.specs.Base.{part, Read, Took, No, require}
+use Rattle.spec.specs.Varint.{varint, tag}
+use Rattle.spec.specs.Kind.{Shape, one, other, shape}
 use Rattle.spec.specs.Schema.{Says}
 use Rattle.spec.specs.Skip.{outerGroup}
 use Rattle.spec.specs.Record.{Record, row, stride}
 use Rattle.spec.specs.Reading as spec
 use Rattle.spec.specs.Reading.{Look, Reading, Done, Refused, _then_, _followed-by_, contents, records, read, used}
-use Rattle.spec.proofs.Laws.{chosen, by-test, Takes, took, none, takes-tag}
+use Rattle.spec.proofs.Laws.{chosen, by-test}
 use Rattle.spec.proofs.ReadingLaws.{read-nil, read-cons}
 use Rattle.skip.specs.declared.field.Past.{Past}
 use Rattle.skip.specs.declared.field.Past.the-variants as past
 use Rattle.skip.specs.Passed as skip
 use Rattle.skip.proofs.SkipAnswers.{takes-outer}
 use Rattle.read.specs.Answers.{scalarOf, Shortly, meantBy, Tells, tells, tells-not, tagAt, fromBody, fromTag, asked, rowField, resolved, Held}
-use Rattle.read.specs.Emit.{Left, left, placed, emit, Further}
+use Rattle.read.specs.Emit.{Left, left, placed, emit}
 use Rattle.read.specs.declared.room.Step.{Step}
 use Rattle.read.specs.declared.room.Step.the-variants.{Go, Stop}
 use Rattle.read.specs.declared.message.Kind.{Kind}
@@ -235,8 +235,8 @@ module _ (look : Look) (depth ty : ℕ) {s : List ℕ} {off : ℕ} {room₀ : Li
                   on = omega arith;
                   inside = held .inside;
                   fits = goes-on (subst Fits (sym called ∙ ap (λ (x : Step). left x room′) z) (emit-fits _ room to (h .further .fits)));
-                  kept = l ∙ h .further .kept
-                }
+                  kept = l ∙ h .further .kept;
+                };
           }
 
     -- a group, which is skipped
@@ -272,8 +272,8 @@ module _ (look : Look) (depth ty : ℕ) {s : List ℕ} {off : ℕ} {room₀ : Li
                     on = omega arith;
                     inside = group-within .1;
                     fits = h .further .fits;
-                    kept = h .further .kept
-                  }
+                    kept = h .further .kept;
+                  };
             }
 
 -- ---- a short integer behind a tag of one byte
@@ -320,5 +320,5 @@ module _ (look : Look) (depth ty : ℕ) {s : List ℕ} {off : ℕ} {room₀ : Li
       record {
         further =
             stored (h .further) (value look depth ty s off at (omega arith) (c / 8) k w 1 (1 + n) int-field) (omega arith) (omega (arith, int-within .1)) l
-            (put ∙ ap (λ (x : ℕ). placed room to (row depth (c / 8) k w (off + at + 1) x 0)) end) next
+            (put ∙ ap (λ (x : ℕ). placed room to (row depth (c / 8) k w (off + at + 1) x 0)) end) next;
       }

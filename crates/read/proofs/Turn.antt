@@ -1,10 +1,10 @@
 -- The turns of a reader's loop, in plain values. Where a loop is says `Further`: what was to be emitted is what the rest emits from here. Here
 -- stands how each end and each turn follows from that. Assumes nothing.
-use Prim.Native.Nat.{ℕ, zero, suc, _+_, _-_, _≤_, _<_, min}
+use Prim.Native.Nat.{ℕ, _+_, _-_, _≤_, _<_, min}
 use native.Mathlib.Omega.{arith}
 use native.Mathlib.Nat.{add-zero}
 use mathlib.Core.Path.{_≡_, refl, sym, ap, _∙_, subst}
-use mathlib.Core.Bool.{Bool, true, false, false≢true}
+use mathlib.Core.Bool.{true, false, false≢true}
 use mathlib.Core.List.{List, [], _∷_}
 use lib.ListN.{length, drop, length-drop, drop-of-length-le}
 use lib.Seq.{drop-drop}
@@ -60,7 +60,7 @@ module _ {most : ℕ} {todo : ℕ → Reading} {room₀ : List ℕ} {from b : �
         on = omega (arith, h .on, on);
         inside = inside;
         fits = omega (arith, long, next, l);
-        kept = long ∙ h .kept
+        kept = long ∙ h .kept;
       }
 
 -- A loop over the bytes s, which stand at `off`: f says what there is to do with bytes at a place.

@@ -30,8 +30,8 @@ returns-3 c =
     let a = i .before .before .before .before .args in
     let h = r .read-prepared .ensures in
     let same =
-        reads-tables (schemaOf (a .types) (a .numbers .now)) (length (a .room .now) / stride) (a .s .now) _ _ _ (sym (t .tables .ensures .0) ∙ ap told (e .enum-told .given .1))
-        (t .tables .ensures .1) (t .tables .ensures .2) (omega arith) (i .if1 .left) in
+    reads-tables (schemaOf (a .types) (a .numbers .now)) (length (a .room .now) / stride) (a .s .now) _ _ _ (sym (t .tables .ensures .0) ∙ ap told (e .enum-told .given .1))
+    (t .tables .ensures .1) (t .tables .ensures .2) (omega arith) (i .if1 .left) in
     (h .0 ∙ ap number same, h .1 ∙ ap place same, h .2 ∙ ap (λ (q : Reading). length (listed q)) same, h .3 ∙ ap (λ (q : Reading). roomAfter q (a .room .now)) same)
 
 pub read-spec : {M : Type 1} → statement M

@@ -2,7 +2,7 @@
 -- of a message, one level deeper. Assumes nothing.
 use Prim.Native.Nat.{ℕ, _+_, _-_, _*_, _<_, _≤_}
 use native.Mathlib.Omega.{arith}
-use mathlib.Core.Path.{_≡_, sym, _∙_}
+use mathlib.Core.Path.{sym, _∙_}
 use borrow.Author.Needs.{needs}
 use lib.ListN.{length}
 use Rattle.spec.specs.Reading.{read}
@@ -84,20 +84,11 @@ message-same-length t c = let x = c .before .before .before in search (needs, he
 message-returns : (t : ℕ) → message-lts.Need-returns (message-claims t) (message-at t) message.Post message-Inv-loop message-μ-loop
 message-returns t c = let x = c .before .before .before in fields-end _ _ _ (here-by (x .before .before .before .before .loop .inv) (x .short-ints .ensures)) (omega (arith, c .if2 .taken))
 
-message-field-at-requires : (t : ℕ) → message-lts.Need-field-at-requires (message-claims t) (message-at t) message.Post message-Inv-loop message-μ-loop
-message-field-at-requires t c κs = search needs
-
-message-enum-known-f : (t : ℕ) → message-lts.Need-enum-known-f (message-claims t) (message-at t) message.Post message-Inv-loop message-μ-loop
-message-enum-known-f t c = search needs
-
 message-store-requires : (t : ℕ) → message-lts.Need-store-requires (message-claims t) (message-at t) message.Post message-Inv-loop message-μ-loop
 message-store-requires t c κs = let f = c .before .before in (omega arith, (omega arith, omega arith, omega (arith, joined t (f .before .before .before) .0 .further .fits), held t f))
 
-message-enum-known-n : (t : ℕ) → message-lts.Need-enum-known-n (message-claims t) (message-at t) message.Post message-Inv-loop message-μ-loop
-message-enum-known-n t c = search needs
-
 message-loop-less : (t : ℕ) → message-lts.Need-loop-less (message-claims t) (message-at t) message.Post message-Inv-loop message-μ-loop
-message-loop-less t c = 
+message-loop-less t c =
     let n = c .before in
     let w = n .before .before .before in
     let f = w .before .before .before .before in
@@ -106,7 +97,7 @@ message-loop-less t c =
     omega (arith, j .1, j .2, held t f .behind, held t f .ordered, held t f .inside)
 
 message-loop-again : (t : ℕ) → message-lts.Need-loop-again (message-claims t) (message-at t) message.Post message-Inv-loop message-μ-loop
-message-loop-again t c = 
+message-loop-again t c =
     let n = c .before in
     let w = n .before .before .before in
     let f = w .before .before .before .before in
@@ -114,11 +105,8 @@ message-loop-again t c =
     let j = joined t (a .before) in
     row-goes _ _ _ (j .0) (j .2) (a .field-at .ensures .0) (f .f .given .1) (held t f) (w .before .store .ensures) (n .n .given .1) (w .room2 .given)
 
-message-enum-known-number : (t : ℕ) → message-lts.Need-enum-known-number (message-claims t) (message-at t) message.Post message-Inv-loop message-μ-loop
-message-enum-known-number t c = search needs
-
 message-same-length-2 : (t : ℕ) → message-lts.Need-same-length-2 (message-claims t) (message-at t) message.Post message-Inv-loop message-μ-loop
-message-same-length-2 t c = 
+message-same-length-2 t c =
     let n = c .before in
     let w = n .before .before .before in
     let f = w .before .before .before .before in
@@ -127,7 +115,7 @@ message-same-length-2 t c =
     search (needs, w .room2 .given ∙ j .0 .further .kept)
 
 message-returns-2 : (t : ℕ) → message-lts.Need-returns-2 (message-claims t) (message-at t) message.Post message-Inv-loop message-μ-loop
-message-returns-2 t c = 
+message-returns-2 t c =
     let n = c .before in
     let w = n .before .before .before in
     let f = w .before .before .before .before in
@@ -135,17 +123,8 @@ message-returns-2 t c =
     let j = joined t (a .before) in
     row-stops _ _ _ (j .0) (j .2) (a .field-at .ensures .0) (f .f .given .1) (held t f) (w .before .store .ensures) (n .number .given .1)
 
-message-enum-known-next : (t : ℕ) → message-lts.Need-enum-known-next (message-claims t) (message-at t) message.Post message-Inv-loop message-μ-loop
-message-enum-known-next t c = search needs
-
-message-skip-unknown-group-requires : (t : ℕ) → message-lts.Need-skip-unknown-group-requires (message-claims t) (message-at t) message.Post message-Inv-loop message-μ-loop
-message-skip-unknown-group-requires t c κs = search needs
-
-message-enum-known-e : (t : ℕ) → message-lts.Need-enum-known-e (message-claims t) (message-at t) message.Post message-Inv-loop message-μ-loop
-message-enum-known-e t c = search needs
-
 message-loop-less-2 : (t : ℕ) → message-lts.Need-loop-less-2 (message-claims t) (message-at t) message.Post message-Inv-loop message-μ-loop
-message-loop-less-2 t c = 
+message-loop-less-2 t c =
     let e = c .before in
     let k = e .before .before in
     let n = k .before .before in
@@ -154,7 +133,7 @@ message-loop-less-2 t c =
     omega (arith, j .1, group-within _ _ _ (j .0) (j .2) (a .field-at .ensures .0) (n .next .given .1) (k .skip-unknown-group .ensures) (a .field-at .ensures .1) (e .e .given .1))
 
 message-loop-again-2 : (t : ℕ) → message-lts.Need-loop-again-2 (message-claims t) (message-at t) message.Post message-Inv-loop message-μ-loop
-message-loop-again-2 t c = 
+message-loop-again-2 t c =
     let e = c .before in
     let k = e .before .before in
     let n = k .before .before in
@@ -162,11 +141,8 @@ message-loop-again-2 t c =
     let j = joined t (a .before) in
     group-past _ _ _ (j .0) (j .2) (a .field-at .ensures .0) (n .next .given .1) (k .skip-unknown-group .ensures) (a .field-at .ensures .1) (e .e .given .1)
 
-message-enum-known-k : (t : ℕ) → message-lts.Need-enum-known-k (message-claims t) (message-at t) message.Post message-Inv-loop message-μ-loop
-message-enum-known-k t c = search needs
-
 message-add-t34 : (t : ℕ) → message-lts.Need-add-t34 (message-claims t) (message-at t) message.Post message-Inv-loop message-μ-loop
-message-add-t34 t c = 
+message-add-t34 t c =
     let e = c .before .before in
     let k = e .before .before in
     let n = k .before .before in
@@ -175,7 +151,7 @@ message-add-t34 t c =
     omega (arith, j .2, a .before .before .before .before .before .before .pre .1 .1)
 
 message-same-length-3 : (t : ℕ) → message-lts.Need-same-length-3 (message-claims t) (message-at t) message.Post message-Inv-loop message-μ-loop
-message-same-length-3 t c = 
+message-same-length-3 t c =
     let e = c .before .before in
     let k = e .before .before in
     let n = k .before .before in
@@ -184,7 +160,7 @@ message-same-length-3 t c =
     search (needs, j .0 .further .kept)
 
 message-returns-3 : (t : ℕ) → message-lts.Need-returns-3 (message-claims t) (message-at t) message.Post message-Inv-loop message-μ-loop
-message-returns-3 t c = 
+message-returns-3 t c =
     let e = c .before .before in
     let k = e .before .before in
     let n = k .before .before in
@@ -192,39 +168,33 @@ message-returns-3 t c =
     let j = joined t (a .before) in
     group-bad _ _ _ (j .0) (j .2) (a .field-at .ensures .0) (n .next .given .1) (k .skip-unknown-group .ensures) (e .k .given .1)
 
-message-enum-known-number-2 : (t : ℕ) → message-lts.Need-enum-known-number-2 (message-claims t) (message-at t) message.Post message-Inv-loop message-μ-loop
-message-enum-known-number-2 t c = search needs
-
 message-add-t35 : (t : ℕ) → message-lts.Need-add-t35 (message-claims t) (message-at t) message.Post message-Inv-loop message-μ-loop
-message-add-t35 t c = 
+message-add-t35 t c =
     let n = c .before .before in
     let a = n .before .before in
     let j = joined t (a .before) in
     omega (arith, j .2)
 
 message-add-t36 : (t : ℕ) → message-lts.Need-add-t36 (message-claims t) (message-at t) message.Post message-Inv-loop message-μ-loop
-message-add-t36 t c = 
+message-add-t36 t c =
     let n = c .before .before in
     let a = n .before .before in
     let j = joined t (a .before) in
     omega (arith, j .2, bad-place _ _ _ _ _ (a .field-at .ensures .1) (n .number2 .given .1))
 
 message-same-length-4 : (t : ℕ) → message-lts.Need-same-length-4 (message-claims t) (message-at t) message.Post message-Inv-loop message-μ-loop
-message-same-length-4 t c = 
+message-same-length-4 t c =
     let n = c .before .before in
     let a = n .before .before in
     let j = joined t (a .before) in
     search (needs, j .0 .further .kept)
 
 message-returns-4 : (t : ℕ) → message-lts.Need-returns-4 (message-claims t) (message-at t) message.Post message-Inv-loop message-μ-loop
-message-returns-4 t c = 
+message-returns-4 t c =
     let n = c .before .before in
     let a = n .before .before in
     let j = joined t (a .before) in
     field-bad _ _ _ (j .0) (j .2) (a .field-at .ensures .0) (n .number2 .given .1)
-
-message-same-length-5 : (t : ℕ) → message-lts.Need-same-length-5 (message-claims t) (message-at t) message.Post message-Inv-loop message-μ-loop
-message-same-length-5 t c = search needs
 
 message-returns-5 : (t : ℕ) → message-lts.Need-returns-5 (message-claims t) (message-at t) message.Post message-Inv-loop message-μ-loop
 message-returns-5 t c = fields-end _ _ _ (c .before .loop .inv) (c .loop-test .left)
@@ -242,7 +212,7 @@ store-add-t18 : (t : ℕ) → store-lts.Need-add-t18 (store-claims t) (store-at 
 store-add-t18 t c = omega (arith, c .before .before .before .before .pre .1 .3 .behind, c .before .before .before .before .pre .1 .3 .ordered, c .before .before .before .before .pre .1 .3 .inside)
 
 store-returns-2 : (t : ℕ) → store-lts.Need-returns-2 (store-claims t) (store-at t) store.Post
-store-returns-2 t c = 
+store-returns-2 t c =
     row-full _ (c .before .before .before .before .pre .1 .3) _ _ (λ k e. elim (c .before .if1 .came) [ inl x ↦ x .1 .left e | inr y ↦ y .left k ]) _ _ (omega arith) (c .if3 .taken)
 
 store-add-put : (t : ℕ) → store-lts.Need-add-put (store-claims t) (store-at t) store.Post
@@ -270,7 +240,7 @@ store-add-message-2 : (t : ℕ) → store-lts.Need-add-message-2 (store-claims t
 store-add-message-2 t c = omega (arith, c .before .before .before .before .before .before .before .before .before .before .pre .1 .3 .shallow (c .before .if4 .taken))
 
 store-message-requires : (t : ℕ) → store-lts.Need-message-requires (store-claims t) (store-at t) store.Post
-store-message-requires t c κs = 
+store-message-requires t c κs =
     let q = c .before .before .before .before in
     omega (arith, c .before .before .before .before .before .before .before .before .before .before .before .pre .1 .3 .behind, c .before .before .before .before .before .before .before .before .before .before .before .pre .1 .3 .ordered, c .before .before .before .before .before .before .before .before .before .before .before .pre .1 .3 .inside, c .before .before .before .before .before .before .before .before .before .before .before .pre .1 .3 .shallow (c .before .before .if4 .taken), c .before .message-arg .given .2, q .room .given, q .before .put .ensures .1, q .before .before .before .if3 .left, c .before .before .before .before .before .before .before .before .before .before .before .pre)
 
@@ -278,7 +248,7 @@ store-same-length : (t : ℕ) → store-lts.Need-same-length (store-claims t) (s
 store-same-length t c = search (needs, c .before .room2 .given ∙ c .before .before .before .before .before .before .before .room .given)
 
 store-returns-3 : (t : ℕ) → store-lts.Need-returns-3 (store-claims t) (store-at t) store.Post
-store-returns-3 t c = 
+store-returns-3 t c =
     let p = c .before .before .before .before .before .before .before .before in
     put-then _ _ (row-message _ (c .before .before .before .before .before .before .before .before .before .before .before .before .before .before .pre .1 .3) _ _ (c .before .before .before .before .before .if4 .taken)) (omega (arith, p .before .before .if3 .left)) (p .put .ensures .0) (p .put .ensures .1) (c .before .before .message .ensures)
 
@@ -300,11 +270,8 @@ store-add-packed-2 t c = omega (arith, c .before .before .before .before .before
 store-add-packed-3 : (t : ℕ) → store-lts.Need-add-packed-3 (store-claims t) (store-at t) store.Post
 store-add-packed-3 t c = omega (arith, c .before .before .before .before .before .before .before .before .before .before .before .pre .1 .3 .behind, c .before .before .before .before .before .before .before .before .before .before .before .pre .1 .3 .ordered, c .before .before .before .before .before .before .before .before .before .before .before .pre .1 .3 .inside)
 
-store-cast-packed : (t : ℕ) → store-lts.Need-cast-packed (store-claims t) (store-at t) store.Post
-store-cast-packed t c = search needs
-
 store-packed-requires : (t : ℕ) → store-lts.Need-packed-requires (store-claims t) (store-at t) store.Post
-store-packed-requires t c κs = 
+store-packed-requires t c κs =
     let q = c .before .before .before .before .before .before in
     omega (arith, c .before .before .before .before .before .before .before .before .before .before .before .before .before .pre .1 .3 .behind, c .before .before .before .before .before .before .before .before .before .before .before .before .before .pre .1 .3 .ordered, c .before .before .before .before .before .before .before .before .before .before .before .before .before .pre .1 .3 .inside, c .before .before .packed-arg .given .2, q .room .given, q .before .put .ensures .1, q .before .before .before .if3 .left)
 
@@ -312,7 +279,7 @@ store-same-length-2 : (t : ℕ) → store-lts.Need-same-length-2 (store-claims t
 store-same-length-2 t c = search (needs, c .before .room3 .given ∙ c .before .before .before .before .before .before .before .before .before .room .given)
 
 store-returns-4 : (t : ℕ) → store-lts.Need-returns-4 (store-claims t) (store-at t) store.Post
-store-returns-4 t c = 
+store-returns-4 t c =
     let p = c .before .before .before .before .before .before .before .before .before .before in
     let j = p .before .before .before in
     put-then _ _ (row-packed _ (c .before .before .before .before .before .before .before .before .before .before .before .before .before .before .before .before .pre .1 .3) _ _ (c .before .before .before .before .before .before .if5 .taken) (elim (j .if1 .came) [ inl x ↦ x .1 .left | inr y ↦ λ e. y .left (c .before .before .before .before .before .before .if5 .taken) ]))
@@ -322,7 +289,7 @@ store-same-length-3 : (t : ℕ) → store-lts.Need-same-length-3 (store-claims t
 store-same-length-3 t c = search (needs, c .before .before .before .room .given)
 
 store-returns-5 : (t : ℕ) → store-lts.Need-returns-5 (store-claims t) (store-at t) store.Post
-store-returns-5 t c = 
+store-returns-5 t c =
     let p = c .before .before .before .before in
     put-only _ _ (row-value _ (c .before .before .before .before .before .before .before .before .before .before .pre .1 .3) _ _ (c .before .if4 .left) (c .if5 .left)) (omega (arith, p .before .before .if3 .left)) (p .put .ensures .0) (p .put .ensures .1)
 
@@ -336,30 +303,30 @@ pub +message+store-spec : {M : Type 1} → statement M
     (message-short-ints-requires t)
     (message-same-length t)
     (message-returns t)
-    (message-field-at-requires t)
-    (message-enum-known-f t)
+    (λ c κs. search needs)
+    (λ c. search needs)
     (message-store-requires t)
-    (message-enum-known-n t)
+    (λ c. search needs)
     (message-loop-less t)
     (message-loop-again t)
-    (message-enum-known-number t)
+    (λ c. search needs)
     (message-same-length-2 t)
     (message-returns-2 t)
-    (message-enum-known-next t)
-    (message-skip-unknown-group-requires t)
-    (message-enum-known-e t)
+    (λ c. search needs)
+    (λ c κs. search needs)
+    (λ c. search needs)
     (message-loop-less-2 t)
     (message-loop-again-2 t)
-    (message-enum-known-k t)
+    (λ c. search needs)
     (message-add-t34 t)
     (message-same-length-3 t)
     (message-returns-3 t)
-    (message-enum-known-number-2 t)
+    (λ c. search needs)
     (message-add-t35 t)
     (message-add-t36 t)
     (message-same-length-4 t)
     (message-returns-4 t)
-    (message-same-length-5 t)
+    (λ c. search needs)
     (message-returns-5 t))
     λ t. store-lts.spec (store-claims t)
     (store-at t)
@@ -385,7 +352,7 @@ pub +message+store-spec : {M : Type 1} → statement M
     (store-add-packed t)
     (store-add-packed-2 t)
     (store-add-packed-3 t)
-    (store-cast-packed t)
+    (λ c. search needs)
     (store-packed-requires t)
     (store-same-length-2 t)
     (store-returns-4 t)
