@@ -85,11 +85,10 @@ pub enum Meant {
 pub(crate) fn meaning_of(kind: u64, v: u64) -> Meant
     ensures { λ r. ⌜ r ≡ meantBy (shape kind) v ⌝ }
 {
-    if kind < 6 {
-        if 2 < kind {
+    if 2 < kind {
+        if kind < 6 {
             return Meant::Is(v);
         }
-        return Meant::Other;
     }
     match kind {
         8 => Meant::Is(if v == 0 { 0 } else { 1 }),

@@ -1,6 +1,7 @@
 -- `read::scalar::meaning_of` meets its contract: its tests are those of the table. Assumes nothing.
 use native.Mathlib.Omega.{arith}
 use mathlib.Core.Path.{ap, _∙_}
+use mathlib.Core.Logic.{⊎-elim}
 use borrow.Author.Needs.{needs}
 use Rattle.spec.specs.Kind.{shape, shapes}
 use Rattle.read.specs.Answers.{meantBy, meantAs}
@@ -13,46 +14,47 @@ returns : tie.Need-returns
 returns c = let a = c .before .before .args in meant-first (a .kind) (a .v) (omega arith) (omega arith)
 
 returns-2 : tie.Need-returns-2
-returns-2 c = let a = c .before .before .args in meant-zero (a .kind) (a .v) (omega arith)
+unfolding shape shapes meantBy meantAs
+returns-2 c = rw (c .before .match .keys1, c .if3 .taken)
 
 returns-3 : tie.Need-returns-3
 unfolding shape shapes meantBy meantAs
-returns-3 c = rw (c .before .match .keys1, c .if3 .taken)
+returns-3 c = rw (c .before .match .keys1) (ap Is (omega (arith, c .if3 .left)))
 
 returns-4 : tie.Need-returns-4
-unfolding shape shapes meantBy meantAs
-returns-4 c = rw (c .before .match .keys1) (ap Is (omega (arith, c .if3 .left)))
-
-returns-5 : tie.Need-returns-5
-returns-5 c =
+returns-4 c =
     let m = c .before .before .before .before .before in
     let a = m .before .before .args in
     ap Is (c .unzigzag .ensures) ∙ meant-17-18 (a .kind) (a .v) (omega arith) (m .match .rest .0 .1) (m .match .rest .1) (omega arith) (omega arith)
 
-returns-6 : tie.Need-returns-6
-returns-6 c =
+-- below 3, or from 6 on
+returns-5 : tie.Need-returns-5
+returns-5 c =
     let m = c .before in
     let a = m .before .before .args in
-    meant-low (a .kind) (a .v) (omega arith) (m .match .rest .0 .1) (m .match .rest .1) (omega arith)
+    ⊎-elim
+    (λ w. meant-low (a .kind) (a .v) (w .1 .left) (m .match .rest .0 .1) (m .match .rest .1) (omega arith))
+    (λ w. meant-zero (a .kind) (a .v) (omega (arith, w .left)))
+    (m .before .if1 .came)
 
-returns-7 : tie.Need-returns-7
-returns-7 c =
+returns-6 : tie.Need-returns-6
+returns-6 c =
     let m = c .before .before .before in
     let a = m .before .before .args in
     meant-15-16 (a .kind) (a .v) (omega arith) (m .match .rest .0 .1) (m .match .rest .1) (omega arith) (omega arith)
 
-returns-8 : tie.Need-returns-8
-returns-8 c =
+returns-7 : tie.Need-returns-7
+returns-7 c =
     let m = c .before .before .before .before in
     let a = m .before .before .args in
     meant-high (a .kind) (a .v) (omega arith) (m .match .rest .0 .1) (m .match .rest .1) (omega arith)
 
-returns-9 : tie.Need-returns-9
+returns-8 : tie.Need-returns-8
 unfolding shape shapes meantBy meantAs
-returns-9 c = rw (c .match .keys2)
+returns-8 c = rw (c .match .keys2)
 
-returns-10 : tie.Need-returns-10
-returns-10 c =
+returns-9 : tie.Need-returns-9
+returns-9 c =
     let m = c .before .before in
     let a = m .before .before .args in
     meant-13-14 (a .kind) (a .v) (omega arith) (m .match .rest .0 .1) (m .match .rest .1) (omega arith) (omega arith)
@@ -62,13 +64,12 @@ meaning-of-spec =
     tie.close
     (tie.spec
     returns
-    returns-2
     (λ c κs. search needs)
+    returns-2
     returns-3
     returns-4
     returns-5
     returns-6
     returns-7
     returns-8
-    returns-9
-    returns-10)
+    returns-9)
