@@ -1,5 +1,5 @@
 -- Laws of what a field asks: that it is the definition's field, and what a reader may rely on. Assumes nothing.
-use Prim.Native.Nat.{ℕ, zero, suc, _+_, _-_, _/_, _≤_, _<_}
+use Prim.Native.Nat.{ℕ, _+_, _-_, _/_, _≤_, _<_}
 use native.Mathlib.Omega.{arith}
 use mathlib.Core.Path.{_≡_, refl, sym, ap, ap₂, _∙_}
 use mathlib.Core.Bool.{Bool, true, false}
@@ -7,7 +7,7 @@ use mathlib.Core.List.{List}
 use lib.ListN.{length, drop, length-drop}
 use lib.Seq.{drop-drop}
 use lib.Dec.{leb, eqb}
-use borrow.Author.Tests.{eq-eqb, ne-eqb, eqb-true, leb-false}
+use borrow.Author.Tests.{ne-eqb, leb-false}
 use Rattle.spec.specs.Base.{if_then_else_, part, Read, Took, No}
 use Rattle.spec.specs.Varint.{varint32, varint64, tag}
 use Rattle.spec.specs.Utf8.{utf8}
@@ -16,7 +16,7 @@ use Rattle.spec.specs.Skip.{content, outerGroup}
 use Rattle.spec.specs.Reading as spec
 use Rattle.spec.proofs.Laws.{chosen, either-way, Takes, took, none, takes-tag}
 use Rattle.spec.proofs.ReadingLaws.{In, Sound, is-value, is-message, is-packed, field-sound}
-use Rattle.read.specs.Answers.{spanAt, valued, ranged, texted, bodied, tagAt, fromBody, fromTag, asked, asField, rowField, resolved, Held}
+use Rattle.read.specs.Answers.{valued, ranged, texted, bodied, tagAt, fromBody, fromTag, asked, asField, rowField, resolved, Held}
 use Rattle.read.specs.declared.classify.Row.{Row}
 use Rattle.read.specs.declared.classify.Field.{Field}
 use Rattle.read.specs.declared.classify.Field.the-variants as field

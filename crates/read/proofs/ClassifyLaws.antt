@@ -1,6 +1,6 @@
 -- Laws of the steps of a field: its tag, its length, what stands behind them. Each says an answer of the code in the definitions' terms.
 -- Assumes nothing.
-use Prim.Native.Nat.{ℕ, zero, suc, _+_, _-_, _*_, _/_, _%_, _^_, _≤_, _<_}
+use Prim.Native.Nat.{ℕ, suc, _+_, _-_, _*_, _/_, _%_, _≤_, _<_}
 use native.Mathlib.Omega.{arith}
 use mathlib.Core.Path.{_≡_, refl, sym, ap, ap₂, _∙_}
 use mathlib.Core.Bool.{Bool, true, false, not, false≢true}
@@ -8,12 +8,12 @@ use mathlib.Core.List.{List}
 use lib.ListN.{length, drop, take, getD, length-drop}
 use native.Mathlib.Numerals.{add-one}
 use lib.Seq.{drop-cons, drop-drop}
-use lib.Dec.{leb, eqb}
+use lib.Dec.{eqb}
 use borrow.Author.Tests.{le-leb, lt-leb, eqb-true, eqb-false}
 use Rattle.spec.specs.Base.{if_then_else_, part, Read, Took, No, _>>=_, longer, digit}
-use Rattle.spec.specs.Varint.{varint, varint32, varint64, tag, goodTag}
+use Rattle.spec.specs.Varint.{varint, varint32, tag, goodTag}
 use Rattle.spec.specs.Utf8.{utf8}
-use Rattle.spec.specs.Kind.{Shape, one, other, string, bytes, message, packed, startGroup, endGroup, nothing, shape, shapes, scalar}
+use Rattle.spec.specs.Kind.{Shape, one, other, string, bytes, message, packed, startGroup, endGroup, nothing, shape, shapes}
 use Rattle.spec.specs.Schema.{Says}
 use Rattle.spec.specs.Skip.{content}
 use Rattle.spec.proofs.Laws.{by-test, Takes, took, none, takes-varint, takes-scalar, takes-tag, Holds, holds, content-holds}
@@ -28,11 +28,8 @@ use Rattle.wire.proofs.FoundLaws.{Placed, varint-placed}
 use Rattle.wire.specs.declared.found.Found.the-variants as found
 use Rattle.read.specs.Answers.{Shortly, is-short, scalarOf, hasLength, isHead, lengthOf, spanAt, valued, ranged, texted, bodied, tagAt, quickTag}
 use Rattle.read.specs.declared.scalar.Short.the-variants as short
-use Rattle.read.specs.declared.classify.Tag.{Tag}
 use Rattle.read.specs.declared.classify.Tag.the-variants as tagged
-use Rattle.read.specs.declared.classify.Span.{Span}
 use Rattle.read.specs.declared.classify.Span.the-variants as span
-use Rattle.read.specs.declared.classify.Body.{Body}
 use Rattle.read.specs.declared.classify.Body.the-variants as body
 use Rattle.read.proofs.KindTests.{headOf, headTest, head-kind, head-one, sortOf}
 
@@ -84,7 +81,7 @@ module _ (say : ℕ → Says) (at : ℕ) (s : List ℕ) where
 
     pub told-tag : goodTag v ≡ true → tagged.Of (v / 8) (say v .kind) (say v .inner) next ≡ tagAt say at (tag (drop at s))
     told-tag g =
-        let p : Placed _ s at v next = varint-placed 4 15 s at e in
+        let p : Placed _ s at v next = varint-placed 4 15 s at e refl in
         let q : next ≡ at + (next - at) = omega (arith, p .past) in
         ap (tagged.Of (v / 8) (say v .kind) (say v .inner)) q ∙ tag-took (tag-good (drop at s) (sym e) g)
 
@@ -113,8 +110,8 @@ module _ (keys info : List ℕ) (ty at : ℕ) (s : List ℕ) (inside : at < leng
 -- ---- lengths and contents
 
 pub width-placed : (narrow : Bool) (s : List ℕ) (at : ℕ) {v next : ℕ} → told at (found.Value v next) ≡ varintOf narrow (drop at s) → (at < next) × (next ≤ length s)
-width-placed true s at e = let p = varint-placed 4 15 s at e in (p .past, p .inside)
-width-placed false s at e = let p = varint-placed 9 1 s at e in (p .past, p .inside)
+width-placed true s at e = let p = varint-placed 4 15 s at e refl in (p .past, p .inside)
+width-placed false s at e = let p = varint-placed 9 1 s at e refl in (p .past, p .inside)
 
 content-took : (len : List ℕ → Read) (s : List ℕ) {m n : ℕ} → len s ≡ Took m n → n + m ≤ length s → content len s ≡ Took n (n + m)
 unfolding content _>>=_ longer

@@ -1,16 +1,16 @@
 -- Laws of storing: one reading behind another, what a reader that was called leaves to its caller, and that a reading from the start of the room
 -- leaves what the definition of the call says. Assumes nothing.
-use Prim.Native.Nat.{ℕ, zero, suc, _+_, _-_, _*_, _/_, _≤_, _<_}
+use Prim.Native.Nat.{ℕ, suc, _+_, _*_, _/_, _≤_, _<_}
 use native.Mathlib.Omega.{arith}
 use mathlib.Core.Path.{_≡_, refl, sym, ap, ap₂, _∙_}
 use mathlib.Core.Bool.{Bool, true, false}
 use mathlib.Core.List.{List, [], _∷_, _++_, append-assoc}
-use lib.ListN.{length, take, drop, set, length-set, length-append, length-drop}
+use lib.ListN.{length, set, length-set, length-append}
 use lib.Seq.{set-append-seam}
 use native.Mathlib.Nat.{suc-add}
 use lib.Dec.{leb}
-use borrow.Author.Tests.{leb-true, leb-false, le-leb, lt-leb}
-use Rattle.spec.specs.Base.{if_then_else_, filled}
+use borrow.Author.Tests.{le-leb, lt-leb}
+use Rattle.spec.specs.Base.{if_then_else_}
 use Rattle.spec.specs.Record.{Record, stride, numbers, stored}
 use Rattle.spec.specs.Reading.{Reading, Done, Refused, _then_, _followed-by_, within, number, place, listed, roomAfter}
 use Rattle.read.specs.Emit.{Left, left, placed, emit}

@@ -1,5 +1,5 @@
 -- The table of kinds by tests on the kind, which is how code asks it. Assumes nothing.
-use Prim.Native.Nat.{ℕ, zero, suc, _≤_, _<_, min}
+use Prim.Native.Nat.{ℕ, suc, _≤_, _<_, min}
 use native.Mathlib.Decide.{decLt}
 use native.Mathlib.Omega.{arith}
 use mathlib.Core.Path.{_≡_, refl, sym, ap, _∙_}
@@ -11,7 +11,7 @@ use lib.Dec.{T, leb, ltb, eqb}
 use borrow.Author.Tests.{lt-ltb, le-ltb, le-leb, lt-leb, ne-eqb, eqb-true}
 use Rattle.spec.specs.Base.{if_then_else_, Read, Took, No, meaning, require}
 use Rattle.spec.specs.Varint.{varint32, varint64, unzigzag}
-use Rattle.spec.specs.Kind.{Scalar, int32, uint32, uint64, bool, sint32, sint64, fixed32, sfixed32, fixed64, Shape, one, other, string, bytes, message, packed, startGroup, endGroup, nothing, shape, shapes, scalar, signed32}
+use Rattle.spec.specs.Kind.{int32, uint32, uint64, bool, sint32, sint64, fixed32, sfixed32, fixed64, Shape, one, other, string, bytes, message, packed, startGroup, endGroup, nothing, shape, shapes, scalar, signed32}
 use Rattle.spec.specs.Schema.{bit}
 use Rattle.wire.specs.Reached.{varintOf}
 use Rattle.wire.proofs.Below.{agree, equal-below}

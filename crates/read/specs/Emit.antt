@@ -2,8 +2,7 @@
 -- definitions. That reading from the start of the room leaves what the definition of the call says is a law (proofs/EmitLaws).
 use Prim.Native.Nat.{ℕ, _+_, _≤_}
 use mathlib.Core.Path.{_≡_}
-use mathlib.Core.Bool.{Bool}
-use mathlib.Core.List.{List, []}
+use mathlib.Core.List.{List}
 use lib.ListN.{length, set}
 use lib.Dec.{leb}
 use Rattle.spec.specs.Base.{if_then_else_}

@@ -71,7 +71,7 @@ module _ (len : List ℕ → Read) (s : List ℕ) where
     unfolding content _>>=_ longer
     content-ends h = rw (e, le-leb (n + m) (length s) h) ends
 
-    content-short : length s < n + m → content len s ≡ No 1
+    pub content-short : length s < n + m → content len s ≡ No 1
     unfolding content _>>=_ longer
     content-short h = rw (e, lt-leb (n + m) (length s) h) refl
 

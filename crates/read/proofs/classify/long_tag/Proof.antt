@@ -1,14 +1,13 @@
 -- `read::classify::long_tag` meets its contract: the varint, whether it is a good tag, and what the tables say of it. Assumes nothing.
 use Prim.Native.Nat.{_-_, _/_}
 use native.Mathlib.Omega.{arith}
-use mathlib.Core.Path.{_≡_, sym, ap, _∙_}
+use mathlib.Core.Path.{_≡_, refl, sym, ap, _∙_}
 use lib.ListN.{drop}
 use borrow.Author.Needs.{needs}
 use Rattle.spec.specs.Base.{Took}
 use Rattle.spec.specs.Varint.{varint32}
 use Rattle.spec.specs.Schema.{Says}
 use Rattle.spec.proofs.SkipLaws.{good-tag, bad-wire, bad-number}
-use Rattle.schema.specs.Tables.{tableSays}
 use Rattle.wire.specs.Answers.{told}
 use Rattle.wire.proofs.FoundLaws.{varint-placed}
 use Rattle.read.specs.declared.classify.Tag.the-variants as tagged
@@ -33,7 +32,7 @@ returns-2 c =
     bad-tag _ _ _ (v .1 .0) (found (c .before .before)) (bad-wire (v .0) (omega arith))
 
 cast-says : tie.Need-cast-says
-cast-says c = let p = varint-placed 4 15 _ _ (found (c .before .before)) in omega (arith, p .small)
+cast-says c = let p = varint-placed 4 15 _ _ (found (c .before .before)) refl in omega (arith, p .small)
 
 returns-3 : tie.Need-returns-3
 returns-3 c =

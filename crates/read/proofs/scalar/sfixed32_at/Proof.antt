@@ -1,8 +1,6 @@
 -- `read::scalar::sfixed32_at` meets its contract: four bytes, and their sign. Assumes nothing.
 use native.Mathlib.Omega.{arith}
-use mathlib.Core.Path.{sym, ap, _∙_}
 use Rattle.spec.specs.Base.{meaning}
-use Rattle.wire.specs.Answers.{told}
 use Rattle.wire.proofs.FoundLaws.{fixed-placed}
 use borrow.Author.Needs.{needs}
 use Rattle.read.proofs.scalar.sfixed32_at.Statement.{statement}
@@ -11,8 +9,7 @@ use Rattle.read.proofs.scalar.sfixed32_at.Tie as tie
 cast-extend32 : tie.Need-cast-extend32
 cast-extend32 c =
     let a = c .before .before .before .before .before .args in
-    let e = ap (told (a .at)) (sym (c .before .value .given .1)) ∙ c .before .before .before .decode-fixed32 .ensures in
-    let p = fixed-placed 3 (a .s .now) (a .at) (c .before .before .before .before .shared-slice-known .given) e in
+    let p = fixed-placed 3 (a .s .now) (a .at) (c .before .before .before .before .shared-slice-known .given) (c .before .before .before .decode-fixed32 .ensures) (c .before .value .given .1) in
     omega (arith, p .small)
 
 returns : tie.Need-returns
