@@ -1,7 +1,7 @@
 -- Laws of the two calls: what a reading from the start of the room answers, and what is refused before it. Assumes nothing.
 use Prim.Native.Nat.{ℕ, _-_, _/_, _^_, _≤_, _<_}
 use native.Mathlib.Omega.{arith}
-use mathlib.Core.Path.{_≡_, refl, sym, ap, _∙_}
+use mathlib.Core.Path.{_≡_, refl, sym, ap, ap₂, _∙_}
 use mathlib.Core.Bool.{_&&_}
 use mathlib.Core.Option.{Option, none, some}
 use mathlib.Core.List.{List}
@@ -27,6 +27,13 @@ use Rattle.read.proofs.EmitLaws.{ended, emit-all, ended-go, ended-stop}
 -- the answer and the room that a reading leaves
 abbrev pub Answers : Reading → Answer → (room room′ : List ℕ) → Type 0
 Answers q a room room′ = (a .number ≡ number q) × (a .place ≡ place q) × (a .count ≡ length (listed q)) × (room′ ≡ roomAfter q room)
+
+-- any two answers to a call, and any two rooms, are equal
+pub one-answer : (q : Reading) (a b : Answer) (room x y : List ℕ) → Answers q a room x → Answers q b room y → (a ≡ b) × (x ≡ y)
+one-answer q a b room x y h g =
+    (ap (λ (c : ℕ). record { number = a .number; count = c; place = a .place }) (h .2 ∙ sym (g .2))
+    ∙ ap₂ (λ (n p : ℕ). record { number = n; count = b .count; place = p }) (h .0 ∙ sym (g .0)) (h .1 ∙ sym (g .1)),
+    h .3 ∙ sym (g .3))
 
 pub answers-refused : (q : Reading) (k p : ℕ) (room : List ℕ) → q ≡ Refused k p → Answers q (record { number = k; count = 0; place = p }) room room
 unfolding number place listed stored
