@@ -30,10 +30,11 @@ Answers q a room room′ = (a .number ≡ number q) × (a .place ≡ place q) ×
 
 -- any two answers to a call, and any two rooms, are equal
 pub one-answer : (q : Reading) (a b : Answer) (room x y : List ℕ) → Answers q a room x → Answers q b room y → (a ≡ b) × (x ≡ y)
-one-answer q a b room x y h g =
-    (ap (λ (c : ℕ). record { number = a .number; count = c; place = a .place }) (h .2 ∙ sym (g .2))
-    ∙ ap₂ (λ (n p : ℕ). record { number = n; count = b .count; place = p }) (h .0 ∙ sym (g .0)) (h .1 ∙ sym (g .1)),
-    h .3 ∙ sym (g .3))
+one-answer q a b room x y h g = (
+  ap (λ (c : ℕ). record { number = a .number; count = c; place = a .place }) (h .2 ∙ sym (g .2))
+      ∙ ap₂ (λ (n p : ℕ). record { number = n; count = b .count; place = p }) (h .0 ∙ sym (g .0)) (h .1 ∙ sym (g .1)),
+  h .3 ∙ sym (g .3),
+)
 
 pub answers-refused : (q : Reading) (k p : ℕ) (room : List ℕ) → q ≡ Refused k p → Answers q (record { number = k; count = 0; place = p }) room room
 unfolding number place listed stored
