@@ -57,7 +57,7 @@ pub extern "C" fn perf_put_varints(values: &[u64], out: &mut [u8]) -> usize
 pub extern "C" fn perf_utf8(s: &[u8]) -> usize
     ensures { λ r. ⌜ r ≡ validPrefix (now (s .entry)) ⌝ }
 {
-    wire::utf8::utf8_prefix(s)
+    utf8::utf8_prefix(s)
 }
 
 // How many bytes the field behind a tag takes; 0 where it is refused.

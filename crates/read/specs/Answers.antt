@@ -207,6 +207,9 @@ unfoldable pub readingBy : spec.Look → ℕ → List ℕ → spec.Reading
 readingBy look room s = if ltb limit (length s) then spec.Refused 11 0 else spec.within room (spec.read look 0 0 0 s)
 
 -- the answer of a reader that began at the start of the room, whose places count numbers; a caller counts records
+abbrev pub answerOf : (number to place : ℕ) → Answer
+answerOf k to p = record { number = k; count = to / stride; place = p }
+
 unfoldable pub answered : Step → Answer
-answered (step.Go to) = record { number = 0; count = to / stride; place = 0 }
-answered (step.Stop k to p) = record { number = k; count = to / stride; place = p }
+answered (step.Go to) = answerOf 0 to 0
+answered (step.Stop k to p) = answerOf k to p

@@ -17,8 +17,8 @@ use crate::scalar::varint_at;
 use crate::scalar::wide;
 use crate::scalar::wide32;
 use schema::says;
+use utf8::is_utf8;
 use wire::found::Found;
-use wire::utf8::is_utf8;
 use wire::varint::decode::decode_varint32;
 
 // A field that gives a record: what the record says, and what is in it, which is the type of a message's fields or the kind of a packed field's

@@ -6,7 +6,7 @@ ghost use Rattle.spec.specs.Record.{stride};
 ghost use Rattle.spec.specs.Schema.{schemaOf};
 ghost use Rattle.spec.specs.Reading.{reading, number, place, listed, roomAfter};
 ghost use Rattle.schema.specs.Tables.{tableSays};
-ghost use Rattle.read.specs.Answers.{readingBy, answered};
+ghost use Rattle.read.specs.Answers.{readingBy, answerOf, answered};
 
 pub mod classify;
 mod message;
@@ -27,20 +27,22 @@ pub struct Answer {
 }
 
 // The room's places count numbers; a caller counts records.
+fn counted(number: u32, to: usize, place: usize) -> Answer
+    ensures { λ r. ⌜ r ≡ answerOf number to place ⌝ }
+{
+    Answer {
+        number,
+        count: to / 6,
+        place,
+    }
+}
+
 fn told(step: Step) -> Answer
     ensures { λ r. ⌜ r ≡ answered step ⌝ }
 {
     match step {
-        Step::Go(to) => Answer {
-            number: 0,
-            count: to / 6,
-            place: 0,
-        },
-        Step::Stop { number, to, place } => Answer {
-            number,
-            count: to / 6,
-            place,
-        },
+        Step::Go(to) => counted(0, to, 0),
+        Step::Stop { number, to, place } => counted(number, to, place),
     }
 }
 

@@ -2,14 +2,8 @@ pub mod Below
 pub mod FixedLaws
 pub mod FormatLaws
 pub mod FoundLaws
-pub mod Mask
 pub mod OneAnswer
-pub mod PackedLaws
 pub mod PutLaws
-pub mod Sums
-pub mod Text
-pub mod UnknownLaws
-pub mod ValueSizes
 pub mod VarintSteps
 pub mod VarintStores
 pub mod ZigzagLaws

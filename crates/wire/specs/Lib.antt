@@ -1,5 +1,3 @@
 pub mod Answers
 pub mod FormatTold
 pub mod Reached
-pub mod SizeParts
-pub mod Text

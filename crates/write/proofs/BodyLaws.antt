@@ -13,8 +13,8 @@ use Rattle.spec.specs.Record.{Record}
 use Rattle.spec.specs.Writing.{body}
 use Rattle.spec.proofs.RoundTrip.{shape-11, shape-20}
 use Rattle.spec.proofs.KindLaws.{wireOne, wireOf, wire-shape}
-use Rattle.wire.specs.SizeParts.{coded}
-use Rattle.wire.proofs.ValueSizes.{zigzags, zigzag-kind}
+use Rattle.rt.specs.SizeParts.{coded}
+use Rattle.rt.proofs.ValueSizes.{zigzags, zigzag-kind}
 use Rattle.write.specs.Backward.{plain, lead, isHead}
 
 unfoldable byWire : ℕ → Bool → ℕ → List ℕ

@@ -19,8 +19,8 @@ use Rattle.spec.proofs.RoundTrip.{hasContent, shape-11, shape-20}
 use Rattle.spec.proofs.ListLaws.{Low}
 use Rattle.spec.proofs.SizeLaws.{sizeIn}
 use Rattle.spec.proofs.RunLaws.{front, behind, front-low, behind-drop, low-behind, front-length, front-size, Row, row-end, row-more, row-low, Nested, a-row, Fit, Content, Sane, sane-first, sane-rest, sane-drop, is-number, is-content, is-message, is-row, records-at, records-drop, sane-whole}
-use Rattle.wire.specs.SizeParts.{capped}
-use Rattle.wire.proofs.ValueSizes.{size-most}
+use Rattle.rt.specs.SizeParts.{capped}
+use Rattle.rt.proofs.ValueSizes.{size-most}
 use Rattle.write.specs.Summing.{recordsFrom, runFrom, Summed, Lent, Elements, Below}
 use Rattle.write.proofs.KindLaws.{Head, of-message, of-packed}
 

@@ -11,7 +11,7 @@ use lib.ListN.{length, getD}
 use Rattle.spec.specs.Varint.{size, tagSize}
 use Rattle.spec.specs.Kind.{wire}
 use Rattle.spec.proofs.RunLaws.{kind-small}
-use Rattle.wire.proofs.ValueSizes.{size-most}
+use Rattle.rt.proofs.ValueSizes.{size-most}
 use Rattle.write.proofs.KindLaws.{head, type-of}
 use Rattle.write.proofs.Turn.{Here, start, ended, stopped, whole, fit, number-turn, content-turn, head-turn, below, is-scalar, content}
 use borrow.Fn.Kinds.{In}
@@ -22,7 +22,7 @@ use Rattle.write.proofs.sizes.+below_size+run_size.Lts-below_size as be
 use Rattle.write.proofs.sizes.run_size.Reads as run-size
 use Rattle.write.proofs.sizes.run_size.Kinds as run-size-kinds
 use Rattle.write.proofs.sizes.+below_size+run_size.Lts-run_size as run-size-lts
-use Rattle.wire.proofs.rt.compute_raw_varint64_size.Reads as compute-raw-varint64-size-reads
+use Rattle.rt.proofs.compute_raw_varint64_size.Reads as compute-raw-varint64-size-reads
 use Rattle.write.proofs.sizes.cut.Reads as cut-reads
 use Rattle.write.proofs.sizes.elements_size.Reads as elements-size-reads
 use Rattle.write.proofs.sizes.is_head.Reads as is-head-reads

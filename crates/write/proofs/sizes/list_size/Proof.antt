@@ -10,7 +10,7 @@ use Rattle.spec.specs.Record.{Record, recordsOf}
 use Rattle.spec.specs.Sizes.{sizeOf}
 use Rattle.spec.proofs.SizeLaws.{sizeIn}
 use Rattle.spec.proofs.RunLaws.{front-all, records-count}
-use Rattle.wire.specs.SizeParts.{capped}
+use Rattle.rt.specs.SizeParts.{capped}
 use Rattle.write.proofs.sizes.list_size.Statement.{statement}
 use Rattle.write.proofs.sizes.list_size.Tie as tie
 

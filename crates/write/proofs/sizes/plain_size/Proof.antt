@@ -12,8 +12,8 @@ use Rattle.spec.specs.Varint.{size, zigzag}
 use Rattle.spec.specs.Kind.{int32, uint32, uint64, bool, sint32, sint64, fixed32, sfixed32, fixed64, Shape, one, other, shape, wire, isScalar}
 use Rattle.spec.specs.Sizes.{scalarSize, prefixedSize, valueSize}
 use Rattle.spec.proofs.KindLaws.{wireOne, wireOf, wire-shape}
-use Rattle.wire.specs.SizeParts.{coded}
-use Rattle.wire.proofs.ValueSizes.{value-by-wire}
+use Rattle.rt.specs.SizeParts.{coded}
+use Rattle.rt.proofs.ValueSizes.{value-by-wire}
 use Rattle.write.proofs.sizes.plain_size.Statement.{statement}
 use Rattle.write.proofs.sizes.plain_size.Tie as tie
 

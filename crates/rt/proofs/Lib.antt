@@ -1,0 +1,4 @@
+pub mod PackedLaws
+pub mod Sums
+pub mod UnknownLaws
+pub mod ValueSizes

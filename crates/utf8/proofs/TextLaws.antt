@@ -1,0 +1,130 @@
+-- Laws for the functions of `utf8`: the followers of a lead byte at a place of the bytes, and what a run has passed.
+-- Assumes nothing.
+use Prim.Native.Nat.{ℕ, zero, suc, _+_, _-_, _≤_, _<_}
+use native.Mathlib.Omega.{arith}
+use native.Mathlib.Numerals.{add-one}
+use mathlib.Core.Path.{_≡_, refl, sym, ap, _∙_}
+use mathlib.Core.Bool.{Bool, true, false, and-true, and-false, and-eq-true-iff}
+use mathlib.Core.List.{List, [], _∷_}
+use lib.ListN.{length, drop, getD, length-drop}
+use lib.Seq.{drop-cons, drop-drop, getD-drop}
+use lib.Dec.{leb}
+use borrow.Author.Tests.{le-leb, lt-leb, leb-true}
+use Rattle.spec.specs.Base.{between}
+use Rattle.spec.specs.Utf8.{Follow, NoLead, lead, followers, behind, char, validPrefix, utf8}
+use Rattle.spec.proofs.Utf8Laws.{char-le, valid-le, prefix-stop, prefix-step, prefix-ascii}
+use Rattle.utf8.specs.Text.{Low, Passed}
+
+-- a test of two bounds, from the bounds
+pub inside : (lo hi b : ℕ) → lo ≤ b → b ≤ hi → between lo hi b ≡ true
+inside lo hi b l h = simp (le-leb _ _ l, le-leb _ _ h)
+
+pub below : (lo hi b : ℕ) → b < lo → between lo hi b ≡ false
+below lo hi b l = simp (lt-leb _ _ l)
+
+pub above : (lo hi b : ℕ) → hi < b → between lo hi b ≡ false
+above lo hi b h = simp (lt-leb _ _ h) (and-false (leb lo b))
+
+-- the bytes end before the followers
+short : (n lo hi : ℕ) (s : List ℕ) → length s < n → followers n lo hi s ≡ false
+unfolding followers
+short zero lo hi s h = absurd (omega arith)
+short (suc n) lo hi [] h = refl
+short (suc n) lo hi (b ∷ s) h = simp (short n 0x80 0xbf s (omega arith)) (and-false (between lo hi b))
+
+pub short-at : (s : List ℕ) (at n lo hi : ℕ) → length s - at < n → followers n lo hi (drop at s) ≡ false
+short-at s at n lo hi l = short n lo hi (drop at s) (omega (arith, length-drop at s))
+
+module _ (s : List ℕ) (at : ℕ) (h : at < length s) where
+  front : drop at s ≡ getD s at 0 ∷ drop (at + 1) s
+  front = rw (add-one, drop-cons s at 0)
+
+  module _ (lo hi : ℕ) where
+    pub last : between lo hi (getD s at 0) ≡ followers 1 lo hi (drop at s)
+    unfolding followers
+    last = rw front (sym (and-true _))
+
+    pub bad : (n : ℕ) → between lo hi (getD s at 0) ≡ false → followers (suc n) lo hi (drop at s) ≡ false
+    unfolding followers
+    bad n e = rw (front, e)
+
+    pub good : (n : ℕ) → between lo hi (getD s at 0) ≡ true → followers (suc n) lo hi (drop at s) ≡ followers n 0x80 0xbf (drop (at + 1) s)
+    unfolding followers
+    good n e = rw (front, e)
+
+  char-at : char (drop at s) ≡ behind (lead (getD s at 0)) (drop (at + 1) s)
+  unfolding char
+  char-at = rw front
+
+  -- the character at a place, by what its lead byte says
+  module _ {n lo hi : ℕ} (e : lead (getD s at 0) ≡ Follow n lo hi) where
+    pub stands : followers n lo hi (drop (at + 1) s) ≡ true → n + 1 ≡ char (drop at s)
+    unfolding behind
+    stands f = rw (char-at, e, f)
+
+    pub broken : followers n lo hi (drop (at + 1) s) ≡ false → 0 ≡ char (drop at s)
+    unfolding behind
+    broken f = rw (char-at, e, f)
+
+  pub no-lead : lead (getD s at 0) ≡ NoLead → 0 ≡ char (drop at s)
+  unfolding behind
+  no-lead e = rw (char-at, e)
+
+-- a character of two bytes
+pub lead-pair : (b : ℕ) → 0xc2 ≤ b → b ≤ 0xdf → lead b ≡ Follow 1 0x80 0xbf
+unfolding lead
+lead-pair b l h = simp (lt-leb b 0x7f (omega arith), le-leb 0xc2 b l, le-leb b 0xdf h)
+
+char-pair : (s : List ℕ) (j : ℕ) → j + 2 ≤ length s → between 0xc2 0xdf (getD s j 0) ≡ true → between 0x80 0xbf (getD s (j + 1) 0) ≡ true → 2 ≡ char (drop j s)
+char-pair s j h e f =
+    let b = getD s j 0 in
+    let (l, u) = and-eq-true-iff (leb 0xc2 b) (leb b 0xdf) .0 e in
+    stands s j (omega arith) (lead-pair b (leb-true 0xc2 b l) (leb-true b 0xdf u)) (sym (last s (j + 1) (omega arith) 0x80 0xbf) ∙ f)
+
+-- a run that has passed nothing
+pub stay : {s : List ℕ} (i : ℕ) → i ≤ length s → Passed s i i
+stay i h = record { rises = omega arith; within = h; same = refl }
+
+module _ {s : List ℕ} {i j : ℕ} (p : Passed s i j) where
+  pub onward : {r : ℕ} → Passed s j r → Passed s i r
+  onward q = record { rises = omega arith; within = q .within; same = p .same ∙ q .same }
+
+  past : (n : ℕ) → j + n ≤ length s → validPrefix (drop j s) ≡ n + validPrefix (drop n (drop j s)) → Passed s i (j + n)
+  past n h e = record { rises = omega arith; within = h; same = omega (arith, ap validPrefix (drop-drop n j s)) }
+
+  -- a character more
+  pub character : (n : ℕ) → n ≡ char (drop j s) → 0 < n → Passed s i (j + n)
+  character n e h = past n (omega (arith, char-le (drop j s), length-drop j s)) (rw (← e) at (prefix-step (drop j s) (omega arith)))
+
+  -- n bytes of ASCII more
+  pub ascii : (n : ℕ) → j + n ≤ length s → Low n s j → Passed s i (j + n)
+  ascii n h low = past n h (prefix-ascii n (drop j s) (omega (arith, length-drop j s)) (λ k l. rw getD-drop (low k l)))
+
+  pub ascii-byte : j < length s → getD s j 0 < 128 → Passed s i (j + 1)
+  ascii-byte h low = ascii 1 (omega arith) (λ k l. let e : j + k ≡ j = omega arith in rw e low)
+
+  -- a character of two bytes more
+  pub pair : j + 2 ≤ length s → between 0xc2 0xdf (getD s j 0) ≡ true → between 0x80 0xbf (getD s (j + 1) 0) ≡ true → Passed s i (j + 2)
+  pair h e f = character 2 (char-pair s j h e f) (omega arith)
+
+-- at most eight bytes are left, and the last eight are ASCII
+pub ascii-last : (s : List ℕ) (i : ℕ) → i ≤ length s → length s ≤ i + 8 → Low 8 s (length s - 8) → Passed s i (length s)
+ascii-last s i h l low =
+    let there : (k : ℕ) → length s - 8 + (i + k - (length s - 8)) ≡ i + k = λ k. omega arith in
+    let rest : Low (length s - i) s i = λ k b. rw (there k) at (low (i + k - (length s - 8)) (omega arith)) in
+    let end : i + (length s - i) ≡ length s = omega arith in
+    rw end at (ascii {s = s} (stay i h) (length s - i) (omega arith) rest)
+
+-- where the bytes end, or no character stands, the run has passed all that is valid
+pub whole : {s : List ℕ} {i : ℕ} → Passed s 0 i → length s ≤ i → i ≡ validPrefix s
+whole {s} {i} p h = omega (arith, valid-le (drop i s), length-drop i s, p .same)
+
+pub stopped : {s : List ℕ} {i : ℕ} → Passed s 0 i → 0 ≡ char (drop i s) → i ≡ validPrefix s
+stopped {s} {i} p e = omega (arith, prefix-stop (drop i s) (sym e), p .same)
+
+-- each promise allows one answer
+pub one-prefix : (s : List ℕ) {x y : ℕ} → x ≡ validPrefix s → y ≡ validPrefix s → x ≡ y
+one-prefix s p q = p ∙ sym q
+
+pub one-verdict : (s : List ℕ) {x y : Bool} → x ≡ utf8 s → y ≡ utf8 s → x ≡ y
+one-verdict s p q = p ∙ sym q

@@ -1,0 +1,248 @@
+// UTF-8, by the table of RFC 3629: how much of some bytes is valid, and whether all is.
+ghost use mathlib.Core.Path.{_≡_};
+ghost use mathlib.Core.Bool.{true};
+ghost use Prim.Native.Nat.{_+_, _<_, _≤_};
+ghost use lib.ListN.{length, drop};
+ghost use Rattle.spec.specs.Base.{between};
+ghost use Rattle.spec.specs.Utf8.{lead, followers, char, validPrefix, utf8};
+ghost use Rattle.utf8.specs.Text.{leadOf, countOf, word, Low, Passed};
+
+fn wide(b: u8) -> u64
+    ensures { λ r. ⌜ (r ≡ b) × (r < 256) ⌝ }
+{
+    b as u64
+}
+
+fn four(s: &[u8], i: usize) -> u64
+    requires { ⌜ i + 4 ≤ length (now s) ⌝ }
+    ensures { λ r. ⌜ (r ≡ word 4 (now (s .entry)) i) × (r < 4294967296) ⌝ }
+{
+    let a = wide(s[i]);
+    let b = wide(s[i + 1]);
+    let c = wide(s[i + 2]);
+    let d = wide(s[i + 3]);
+    a + b * 256 + c * 65536 + d * 16777216
+}
+
+// The eight bytes from i on as one number, the first lowest: a single load.
+fn eight(s: &[u8], i: usize) -> u64
+    requires { ⌜ i + 8 ≤ length (now s) ⌝ }
+    ensures { λ r. ⌜ r ≡ word 8 (now (s .entry)) i ⌝ }
+{
+    let a = four(s, i);
+    let b = four(s, i + 4);
+    a + b * 4294967296
+}
+
+// Whether the eight bytes from i on are ASCII: none has its high bit.
+fn ascii8(s: &[u8], i: usize) -> bool
+    requires { ⌜ i + 8 ≤ length (now s) ⌝ }
+    ensures { λ r. ⌜ (r ≡ true → Low 8 (now (s .entry)) i) ⌝ }
+{
+    let w = eight(s, i);
+    w & 0x8080808080808080 == 0
+}
+
+// Past the last bytes, at most eight, if they are ASCII. Fewer than eight are looked at together with those before them.
+fn ascii_end(s: &[u8], i: usize) -> usize
+    requires { ⌜ (i ≤ length (now s)) × (length (now s) ≤ i + 8) ⌝ }
+    ensures { λ r. ⌜ Passed (now (s .entry)) i r ⌝ }
+{
+    if s.len() < 8 {
+        return i;
+    }
+    if ascii8(s, s.len() - 8) {
+        return s.len();
+    }
+    i
+}
+
+// Past ASCII, as far as words go: sixteen bytes in a turn.
+fn ascii_words(s: &[u8], i: usize) -> usize
+    requires { ⌜ i ≤ length (now s) ⌝ }
+    ensures { λ r. ⌜ Passed (now (s .entry)) i r ⌝ }
+{
+    let mut j = i;
+    while 16 <= s.len() - j {
+        if !ascii8(s, j) {
+            return j;
+        }
+        if !ascii8(s, j + 8) {
+            return j + 8;
+        }
+        j += 16;
+    }
+    if 8 <= s.len() - j {
+        if !ascii8(s, j) {
+            return j;
+        }
+        return ascii_end(s, j + 8);
+    }
+    ascii_end(s, j)
+}
+
+// Past all ASCII from i on.
+fn ascii_run(s: &[u8], i: usize) -> usize
+    requires { ⌜ i ≤ length (now s) ⌝ }
+    ensures { λ r. ⌜ Passed (now (s .entry)) i r ⌝ }
+{
+    let mut j = ascii_words(s, i);
+    while j < s.len() {
+        if 0x80 <= s[j] {
+            return j;
+        }
+        j += 1;
+    }
+    j
+}
+
+fn within(b: u8, low: u8, high: u8) -> bool
+    ensures { λ r. ⌜ r ≡ between low high b ⌝ }
+{
+    if b < low {
+        return false;
+    }
+    b <= high
+}
+
+// Past all characters of two bytes from i on.
+fn pair_run(s: &[u8], i: usize) -> usize
+    requires { ⌜ i ≤ length (now s) ⌝ }
+    ensures { λ r. ⌜ Passed (now (s .entry)) i r ⌝ }
+{
+    let mut j = i;
+    while 2 <= s.len() - j {
+        if !within(s[j], 0xc2, 0xdf) {
+            return j;
+        }
+        if !within(s[j + 1], 0x80, 0xbf) {
+            return j;
+        }
+        j += 2;
+    }
+    j
+}
+
+// Past characters of n bytes from i on, where a run of them is quick; else no further than i.
+fn same_run(s: &[u8], i: usize, n: usize) -> usize
+    requires { ⌜ i ≤ length (now s) ⌝ }
+    ensures { λ r. ⌜ Passed (now (s .entry)) i r ⌝ }
+{
+    match n {
+        1 => ascii_run(s, i),
+        2 => pair_run(s, i),
+        _ => i,
+    }
+}
+
+// What a lead byte says: how many bytes follow, and the bounds of the first of them; or that it is none.
+enum Lead {
+    Follow(usize, u8, u8),
+    NoLead,
+}
+
+fn lead_of(b: u8) -> Lead
+    ensures { λ r. ⌜ (leadOf r ≡ lead b) × (countOf r ≤ 3) ⌝ }
+{
+    match b {
+        0x00..=0x7f => Lead::Follow(0, 0x80, 0xbf),
+        0xc2..=0xdf => Lead::Follow(1, 0x80, 0xbf),
+        0xe0 => Lead::Follow(2, 0xa0, 0xbf),
+        0xe1..=0xec | 0xee..=0xef => Lead::Follow(2, 0x80, 0xbf),
+        0xed => Lead::Follow(2, 0x80, 0x9f),
+        0xf0 => Lead::Follow(3, 0x90, 0xbf),
+        0xf1..=0xf3 => Lead::Follow(3, 0x80, 0xbf),
+        0xf4 => Lead::Follow(3, 0x80, 0x8f),
+        _ => Lead::NoLead,
+    }
+}
+
+fn one(s: &[u8], at: usize, low: u8, high: u8) -> bool
+    ensures { λ r. ⌜ r ≡ followers 1 low high (drop at (now (s .entry))) ⌝ }
+{
+    if s.len() <= at {
+        return false;
+    }
+    within(s[at], low, high)
+}
+
+fn two(s: &[u8], at: usize, low: u8, high: u8) -> bool
+    requires { ⌜ at ≤ length (now s) ⌝ }
+    ensures { λ r. ⌜ r ≡ followers 2 low high (drop at (now (s .entry))) ⌝ }
+{
+    if s.len() - at < 2 {
+        return false;
+    }
+    if !within(s[at], low, high) {
+        return false;
+    }
+    within(s[at + 1], 0x80, 0xbf)
+}
+
+fn three(s: &[u8], at: usize, low: u8, high: u8) -> bool
+    requires { ⌜ at ≤ length (now s) ⌝ }
+    ensures { λ r. ⌜ r ≡ followers 3 low high (drop at (now (s .entry))) ⌝ }
+{
+    if s.len() - at < 3 {
+        return false;
+    }
+    if !within(s[at], low, high) {
+        return false;
+    }
+    if !within(s[at + 1], 0x80, 0xbf) {
+        return false;
+    }
+    within(s[at + 2], 0x80, 0xbf)
+}
+
+// Whether the bytes that a lead byte asks for stand from `at` on, a branch for each count.
+fn follows(s: &[u8], at: usize, count: usize, low: u8, high: u8) -> bool
+    requires { ⌜ (at ≤ length (now s)) × (count ≤ 3) ⌝ }
+    ensures { λ r. ⌜ r ≡ followers count low high (drop at (now (s .entry))) ⌝ }
+{
+    match count {
+        0 => true,
+        1 => one(s, at, low, high),
+        2 => two(s, at, low, high),
+        _ => three(s, at, low, high),
+    }
+}
+
+// The length of the character at a place, 0 if there is none.
+fn char_at(s: &[u8], at: usize) -> usize
+    requires { ⌜ at < length (now s) ⌝ }
+    ensures { λ r. ⌜ r ≡ char (drop at (now (s .entry))) ⌝ }
+{
+    match lead_of(s[at]) {
+        Lead::Follow(count, low, high) => {
+            if follows(s, at + 1, count, low, high) {
+                count + 1
+            } else {
+                0
+            }
+        }
+        Lead::NoLead => 0,
+    }
+}
+
+// The length of the longest prefix that is UTF-8.
+pub fn utf8_prefix(s: &[u8]) -> usize
+    ensures { λ r. ⌜ r ≡ validPrefix (now (s .entry)) ⌝ }
+{
+    let mut i = ascii_run(s, 0);
+    while i < s.len() {
+        let n = char_at(s, i);
+        if n == 0 {
+            return i;
+        }
+        i = same_run(s, i + n, n);
+    }
+    i
+}
+
+// Whether all is UTF-8.
+pub fn is_utf8(s: &[u8]) -> bool
+    ensures { λ r. ⌜ r ≡ utf8 (now (s .entry)) ⌝ }
+{
+    utf8_prefix(s) == s.len()
+}
