@@ -14,7 +14,7 @@ use Rattle.spec.specs.Record.{Record, row, deeper}
 use Rattle.spec.specs.Reading.{given, shaped, field, used, _followed-by_, element, elements, contents, records, fields, read, within, refusedOr, reading, number, place, listed}
 use Rattle.spec.specs.Writing.{body, bytesOf, written, expected, fitting, inside, recordFault, listFault, schemaFirst, listCheck, judged, sized, Wrote, writing}
 use Rattle.spec.proofs.Cases.{schemaA, schemaB}
-use Rattle.onward.specs.Onward.{end, keep, leave-out, Older, Seen, contentOf, seen, rawOf, raw, held, unknown, onwardOf, onward, GoesOnward}
+use Rattle.onward.specs.Onward.{end, keep, leave-out, Older, Seen, held, seen, rawOf, raw, unknown, onwardOne, onwardOf, onward, GoesOnward}
 use Rattle.onward.proofs.OnwardLaws.{onward-trip}
 
 b-is-older : Older schemaB schemaA
@@ -58,12 +58,12 @@ expectation =
     ∷ shown 0 4 21 3 [] ∷ shown 0 5 24 1065353216 [] ∷ shown 0 7 21 1 [] ∷ shown 0 2 9 0 (0x4b ∷ []) ∷ []
 
 b-is-to-read : onward schemaB payload list ≡ expectation
-unfolding schemaB shortest zigzag little wires wire shapes shape encoded lookup unknownKind deeper body bytesOf contentOf seen rawOf raw held unknown onwardOf onward
+unfolding schemaB shortest zigzag little wires wire shapes shape encoded lookup unknownKind deeper body bytesOf held seen rawOf raw unknown onwardOne onwardOf onward
 b-is-to-read = refl
 
 -- the same, by reading
 b-reads : map (seen s) (listed (reading schemaB 16 s)) ≡ expectation
-unfolding schemaA schemaB meaning require longer _>>=_ digit varint unzigzag fixed tag lead followers behind char chars validPrefix kindWires ownWires wires wire shapes shape isScalar extend scalar goodEntry badEntry badSchema lookup unknownKind kindOf says saysOf content plain skipField skipGroup skipFieldForTag given shaped field used _followed-by_ element elements contents records fields read within refusedOr reading number place listed contentOf seen
+unfolding schemaA schemaB meaning require longer _>>=_ digit varint unzigzag fixed tag lead followers behind char chars validPrefix kindWires ownWires wires wire shapes shape isScalar extend scalar goodEntry badEntry badSchema lookup unknownKind kindOf says saysOf content plain skipField skipGroup skipFieldForTag given shaped field used _followed-by_ element elements contents records fields read within refusedOr reading number place listed held seen
 b-reads = refl
 
 b-writes : writing schemaB 1000 s (listed (reading schemaB 16 s)) ≡ Wrote s
@@ -76,7 +76,7 @@ schemaC = record { types = 2; entries = [] }
 
 c-is-to-read : onward schemaC payload (rec 0 3 11 0 0 0 ∷ rec 1 1 13 5 0 0 ∷ rec 1 3 11 0 0 0 ∷ rec 2 1 13 300 0 0 ∷ rec 0 4 20 0 0 0 ∷ rec 1 4 17 1 0 0 ∷ [])
     ≡ shown 0 3 23 0 (0x08 ∷ 0x05 ∷ 0x1a ∷ 0x03 ∷ 0x08 ∷ 0xac ∷ 0x02 ∷ []) ∷ shown 0 4 23 0 (0x02 ∷ []) ∷ []
-unfolding schemaC shortest zigzag little wires wire shapes shape encoded lookup unknownKind deeper body bytesOf contentOf seen rawOf raw held unknown onwardOf onward
+unfolding schemaC shortest zigzag little wires wire shapes shape encoded lookup unknownKind deeper body bytesOf held seen rawOf raw unknown onwardOne onwardOf onward
 c-is-to-read = refl
 
 -- the theorem at this list, with room for its 16 records and its 40 bytes
