@@ -3,3 +3,4 @@ pub mod OnwardLaws
 pub mod OnwardCases
 pub mod RoomLaws
 pub mod UnderLaws
+pub mod GenerationLaws

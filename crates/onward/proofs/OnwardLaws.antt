@@ -17,8 +17,8 @@ use Rattle.spec.specs.Kind.{Scalar, Shape, one, other, string, bytes, message, 
 use Rattle.spec.specs.Schema.{Schema, badSchema, lookup, unknownKind, kindOf, says}
 use Rattle.spec.specs.Record.{Record, row, deeper}
 use Rattle.spec.specs.Reading.{Done, Refused, read, within, refusedOr, reading, listed, after}
-use Rattle.spec.specs.Writing.{prefixed, bytesOf, written, Fields, lies, Verdict, Fine, listFault, Wrote, Failed, judged, sized, writing, schemaFirst, listCheck}
-use Rattle.onward.specs.Onward.{Older, Seen, held, seen, rawOf, raw, bytesUnder, unknown, lacks, onwardOne, onwardOf, onward, Fewer, end, keep, Given, GoesOnward, DemandThree}
+use Rattle.spec.specs.Writing.{prefixed, written, Fields, lies, Verdict, Fine, listFault, Wrote, Failed, judged, sized, writing, schemaFirst, listCheck}
+use Rattle.onward.specs.Onward.{Older, Seen, held, seen, rawOf, raw, bytesUnder, unknown, lacks, onwardOne, onwardOf, onward, Fewer, end, keep, GoesOnward, DemandThree}
 use Rattle.spec.proofs.Laws.{either-way, both-true, by-test}
 use Rattle.spec.proofs.RecordLaws.{after-listed, within-after}
 use Rattle.spec.proofs.KindLaws.{wireOf, wire-shape}
@@ -432,7 +432,7 @@ fewer-self (e ∷ es) = keep (fewer-self es)
 pub older-self : (sch : Schema) → Older sch sch
 older-self sch = record { same-types = refl; fewer-entries = fewer-self (sch .entries) }
 
-after-same : (qs ps : List Record) → after qs Done ≡ after ps Done → qs ≡ ps
+pub after-same : (qs ps : List Record) → after qs Done ≡ after ps Done → qs ≡ ps
 unfolding listed
 after-same qs ps e = sym (append-nil qs) ∙ sym (after-listed qs Done) ∙ ap listed e ∙ after-listed ps Done ∙ append-nil ps
 

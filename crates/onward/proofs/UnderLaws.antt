@@ -12,15 +12,15 @@ use lib.Dec.{eqb}
 use borrow.Author.Tests.{eq-eqb}
 use Rattle.spec.specs.Base.{part}
 use Rattle.spec.specs.Varint.{encode}
-use Rattle.spec.specs.Kind.{Scalar, Shape, one, other, string, message, shape, wire, encoded}
+use Rattle.spec.specs.Kind.{Scalar, Shape, shape, encoded}
 use Rattle.spec.specs.Schema.{Schema, lookup}
 use Rattle.spec.specs.Record.{Record, deeper}
 use Rattle.spec.specs.Writing.{prefixed, Fields, listFault, schemaFirst, listCheck}
-use Rattle.onward.specs.Onward.{held, bytesUnder, unknown}
-use Rattle.onward.specs.Under.{Among, first, behind, within, lifted, Opens, OpensAlone}
+use Rattle.onward.specs.Onward.{held, unknown}
+use Rattle.onward.specs.Under.{Among, first, later, nested, lifted, Opens, OpensAlone}
 use Rattle.spec.proofs.SchemaLaws.{schema-kinds}
 use Rattle.spec.proofs.WritingLaws.{bytesIn}
-use Rattle.spec.proofs.RoundTrip.{stands-self, Expected, again, tagBytes, Values, no-value, value, Tree, no-field, number, text, blob, inner, row-of, shape-11, back}
+use Rattle.spec.proofs.RoundTrip.{stands-self, again, tagBytes, Values, no-value, value, Tree, no-field, number, text, blob, inner, row-of, shape-11, back}
 use Rattle.spec.proofs.ListLaws.{Over, over-nil, Low, deeper-run, tree-low, kind-9, valid-tree}
 use Rattle.spec.proofs.TreeLaws.{plain-scalar, plain-bytes, values-over, tree-over, tree-bytes}
 use Rattle.onward.proofs.OnwardLaws.{alike-seen}
@@ -41,8 +41,8 @@ module _ (sch : Schema) (payload : List ℕ) where
         → (r ≡ q → under ≡ xs → child ≡ lookup (sch .entries) t (q .number) .child → A) → (Among sch r under child t ys → A)
         → (q .kind ≡ 11 → Among sch r under child (lookup (sch .entries) t (q .number) .child) xs → A) → A
     stands xs ys (first e c) p s f g h = f refl (e ∙ p) c
-    stands {t = t} xs ys (behind a) p s f g h = g (subst (Among sch r under child t) s a)
-    stands {t = t} {q = q} xs ys (within k a) p s f g h = h k (subst (Among sch r under child (lookup (sch .entries) t (q .number) .child)) p a)
+    stands {t = t} xs ys (later a) p s f g h = g (subst (Among sch r under child t) s a)
+    stands {t = t} {q = q} xs ys (nested k a) p s f g h = h k (subst (Among sch r under child (lookup (sch .entries) t (q .number) .child)) p a)
 
     module _ (t d : ℕ) (q : Record) (xs ys : List Record) (dep : q .depth ≡ d) (o : Over (d + 1) xs) (l : Low (d + 1) ys) where
       run : deeper (q .depth) (xs ++ ys) ≡ length xs

@@ -17,8 +17,8 @@ use Rattle.onward.specs.Onward.{seen, unknown}
 pub data Among (sch : Schema) (r : Record) (under : List Record) (child : ℕ) : (type : ℕ) → List Record → Type 0 where
   first : {type : ℕ} {rs : List Record} → under ≡ take (deeper (r .depth) rs) rs → child ≡ lookup (sch .entries) type (r .number) .child
       → Among sch r under child type (r ∷ rs)
-  behind : {type : ℕ} {q : Record} {rs : List Record} → Among sch r under child type (drop (deeper (q .depth) rs) rs) → Among sch r under child type (q ∷ rs)
-  within : {type : ℕ} {q : Record} {rs : List Record} → q .kind ≡ 11
+  later : {type : ℕ} {q : Record} {rs : List Record} → Among sch r under child type (drop (deeper (q .depth) rs) rs) → Among sch r under child type (q ∷ rs)
+  nested : {type : ℕ} {q : Record} {rs : List Record} → q .kind ≡ 11
       → Among sch r under child (lookup (sch .entries) type (q .number) .child) (take (deeper (q .depth) rs) rs) → Among sch r under child type (q ∷ rs)
 
 -- the same record, n levels further out
