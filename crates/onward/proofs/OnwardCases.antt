@@ -10,9 +10,9 @@ use borrow.Author.Tests.{leb-true}
 use Rattle.spec.specs.Base.{limit, meaning, require, longer, _>>=_, digit}
 use Rattle.spec.specs.Varint.{varint, shortest, zigzag, unzigzag, fixed, little, tag}
 use Rattle.spec.specs.Utf8.{lead, followers, behind, char, chars, validPrefix}
-use Rattle.spec.specs.Kind.{kindWires, ownWires, wires, wire, shapes, shape, isScalar, extend, scalar, encoded, fits}
+use Rattle.spec.specs.Kind.{kindWires, ownWires, wires, wire, shapes, shape, isScalar, scalar, encoded, fits}
 use Rattle.spec.specs.Schema.{Schema, goodEntry, badEntry, badSchema, lookup, unknownKind, kindOf, says, saysOf}
-use Rattle.spec.specs.Skip.{content, plain, skipField, skipGroup, skipFieldForTag}
+use Rattle.spec.specs.Skip.{content}
 use Rattle.spec.specs.Record.{Record, row, deeper}
 use Rattle.spec.specs.Reading.{given, shaped, field, used, _followed-by_, element, elements, contents, records, fields, read, within, refusedOr, reading, number, listed}
 use Rattle.spec.specs.Writing.{body, bytesOf, written, expected, fitting, inside, recordFault, listFault, schemaFirst, listCheck, judged, sized, Writing, Wrote, writing}
@@ -160,7 +160,7 @@ cases =
     ∷ []
 
 pub all-right : map goes cases ≡ map should cases
-unfolding schemaA schemaB newest middle oldest meaning require longer _>>=_ digit varint shortest zigzag unzigzag fixed little tag lead followers behind char chars validPrefix kindWires ownWires wires wire shapes shape isScalar extend scalar encoded fits goodEntry badEntry badSchema lookup unknownKind kindOf says saysOf content plain skipField skipGroup skipFieldForTag given shaped field used _followed-by_ element elements contents records fields read within refusedOr reading number listed deeper body bytesOf written expected fitting inside recordFault listFault schemaFirst listCheck judged sized writing held seen rawOf raw unknown onwardOne onwardOf onward
+unfolding schemaA schemaB newest middle oldest meaning require longer _>>=_ digit varint shortest zigzag unzigzag fixed little tag lead followers behind char chars validPrefix kindWires ownWires wires wire shapes shape isScalar scalar encoded fits goodEntry badEntry badSchema lookup unknownKind kindOf says saysOf content given shaped field used _followed-by_ element elements contents records fields read within refusedOr reading number listed deeper body bytesOf written expected fitting inside recordFault listFault schemaFirst listCheck judged sized writing held seen rawOf raw unknown onwardOne onwardOf onward
 all-right = refl
 
 -- ---- the laws at these lists
@@ -201,12 +201,21 @@ all-three =
     })
     (record { same-types = refl; fewer-entries = keep (leave-out (leave-out (leave-out (leave-out (keep (keep (keep end))))))) }) refl
 
--- the message in the root's message opens
+-- the message in the root's message opens, and so does the packed field in it
 abbrev in-it : List Record
 in-it = rec 2 1 9 0 2 4 ∷ rec 2 2 20 0 0 0 ∷ rec 3 2 18 18446744073709551615 0 0 ∷ rec 3 2 18 1 0 0 ∷ []
 
-it-opens : Opens newest 2 payload (rec 1 2 11 0 0 0) in-it (unknown payload (rec 1 2 11 0 0 0) in-it .content)
+message-opens : Opens newest payload (rec 1 2 11 0 0 0) in-it 2 (unknown payload (rec 1 2 11 0 0 0) in-it .content)
 unfolding newest shortest zigzag little lead followers behind char chars validPrefix kindWires ownWires wires wire shapes shape isScalar encoded fits goodEntry badEntry badSchema lookup unknownKind kindOf deeper body bytesOf written expected fitting inside recordFault listFault schemaFirst listCheck
-it-opens =
+message-opens =
     opens-alone newest payload list refl refl (leb-true (length (written payload list)) limit refl) (rec 1 2 11 0 0 0) in-it 2 refl
     (later (later (nested refl (later (first refl refl)))))
+
+abbrev in-row : List Record
+in-row = rec 3 2 18 18446744073709551615 0 0 ∷ rec 3 2 18 1 0 0 ∷ []
+
+packed-opens : Opens newest payload (rec 2 2 20 0 0 0) in-row 18 (unknown payload (rec 2 2 20 0 0 0) in-row .content)
+unfolding newest shortest zigzag little lead followers behind char chars validPrefix kindWires ownWires wires wire shapes shape isScalar encoded fits goodEntry badEntry badSchema lookup unknownKind kindOf deeper body bytesOf written expected fitting inside recordFault listFault schemaFirst listCheck
+packed-opens =
+    opens-alone newest payload list refl refl (leb-true (length (written payload list)) limit refl) (rec 2 2 20 0 0 0) in-row 18 refl
+    (later (later (nested refl (later (nested refl (later (first refl refl)))))))
