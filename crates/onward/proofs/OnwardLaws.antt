@@ -17,8 +17,8 @@ use Rattle.spec.specs.Kind.{Scalar, Shape, one, other, string, bytes, message, 
 use Rattle.spec.specs.Schema.{Schema, badSchema, lookup, unknownKind, kindOf, says}
 use Rattle.spec.specs.Record.{Record, row, deeper}
 use Rattle.spec.specs.Reading.{Done, Refused, read, within, refusedOr, reading, listed, after}
-use Rattle.spec.specs.Writing.{prefixed, bytesOf, written, Fields, lies, Verdict, Fine, listFault, Wrote, Failed, judged, sized, writing, schemaFirst, listCheck}
-use Rattle.onward.specs.Onward.{Older, Seen, contentOf, seen, rawOf, raw, held, unknown, lacks, onwardOf, onward, Fewer, end, keep, GoesOnward}
+use Rattle.spec.specs.Writing.{prefixed, written, Fields, lies, Verdict, Fine, listFault, Wrote, Failed, judged, sized, writing, schemaFirst, listCheck}
+use Rattle.onward.specs.Onward.{Older, Seen, held, seen, rawOf, raw, bytesUnder, unknown, lacks, onwardOne, onwardOf, onward, Fewer, end, keep, GoesOnward, DemandThree}
 use Rattle.spec.proofs.Laws.{either-way, both-true, by-test}
 use Rattle.spec.proofs.RecordLaws.{after-listed, within-after}
 use Rattle.spec.proofs.KindLaws.{wireOf, wire-shape}
@@ -33,14 +33,14 @@ use Rattle.spec.specs.declared.Entry.{Entry}
 
 -- ---- records that are alike show the same
 
-seen-cong : (s p : List ℕ) (r : Record) (x : Shape) → shape (r .kind) ≡ x → contentOf x s r ≡ contentOf x p r → seen s r ≡ seen p r
+seen-cong : (s p : List ℕ) (r : Record) (x : Shape) → shape (r .kind) ≡ x → held x s r [] ≡ held x p r [] → seen s r ≡ seen p r
 unfolding seen
 seen-cong s p r x sh e =
     let with : List ℕ → Seen = λ c. record { depth = r .depth; number = r .number; kind = r .kind; value = r .value; content = c } in
-    ap with (ap (λ (y : Shape). contentOf y s r) sh ∙ e ∙ sym (ap (λ (y : Shape). contentOf y p r) sh))
+    ap with (ap (λ (y : Shape). held y s r []) sh ∙ e ∙ sym (ap (λ (y : Shape). held y p r []) sh))
 
-content-alike : (s p : List ℕ) (q r : Record) (x : Shape) → (hasContent x ≡ true → part (q .start) (q .stop) s ≡ part (r .start) (r .stop) p) → contentOf x s q ≡ contentOf x p r
-unfolding contentOf
+content-alike : (s p : List ℕ) (q r : Record) (x : Shape) → (hasContent x ≡ true → part (q .start) (q .stop) s ≡ part (r .start) (r .stop) p) → held x s q [] ≡ held x p r []
+unfolding held
 content-alike s p q r (one c) e = refl
 content-alike s p q r (other string) e = e refl
 content-alike s p q r (other bytes) e = e refl
@@ -54,8 +54,8 @@ pub same-seen : {s p : List ℕ} {q r : Record} → Same s p q r → seen s q �
 unfolding seen
 same-seen {s} {p} {q} {r} h =
     let with : ℕ → ℕ → ℕ → ℕ → List ℕ → Seen = λ d n k v c. record { depth = d; number = n; kind = k; value = v; content = c } in
-    ap₂ (λ (d n : ℕ). with d n (q .kind) (q .value) (contentOf (shape (q .kind)) s q)) (h .depths) (h .numbers)
-    ∙ ap₂ (λ (k v : ℕ). with (r .depth) (r .number) k v (contentOf (shape k) s q)) (h .kinds) (h .values)
+    ap₂ (λ (d n : ℕ). with d n (q .kind) (q .value) (held (shape (q .kind)) s q [])) (h .depths) (h .numbers)
+    ∙ ap₂ (λ (k v : ℕ). with (r .depth) (r .number) k v (held (shape k) s q [])) (h .kinds) (h .values)
     ∙ ap (with (r .depth) (r .number) (r .kind) (r .value)) (content-alike s p q r (shape (r .kind)) (h .contents))
 
 pub alike-seen : {s p : List ℕ} {qs rs : List Record} → Alike s p qs rs → map (seen s) qs ≡ map (seen p) rs
@@ -74,63 +74,74 @@ onward-enough zero (suc g) old payload t (r ∷ rs) hf hg = absurd (omega arith)
 onward-enough (suc f) zero old payload t (r ∷ rs) hf hg = absurd (omega arith)
 onward-enough (suc f) (suc g) old payload t [] hf hg = refl
 onward-enough (suc f) (suc g) old payload t (r ∷ rs) hf hg =
-    let e : Entry = lookup (old .entries) t (r .number) in
     let n : ℕ = deeper (r .depth) rs in
     let under : List Record = take n rs in
     let first : length under ≤ length rs = omega (arith, length-take n rs) in
     let rest : length (drop n rs) ≤ length rs = omega (arith, length-drop n rs) in
-    ap₂ (λ (x y : List Seen).
-    if eqb (e .kind) 0 then unknown payload r (bytesOf (length under) (not (eqb (r .kind) 20)) payload under) ∷ y else
-    if eqb (r .kind) 11 then seen payload r ∷ (x ++ y) else seen payload r ∷ (map (seen payload) under ++ y))
-    (onward-enough f g old payload (e .child) under (omega arith) (omega arith))
+    ap₂ (onwardOne (lacks old t r) payload r under)
+    (onward-enough f g old payload (lookup (old .entries) t (r .number) .child) under (omega arith) (omega arith))
     (onward-enough f g old payload t (drop n rs) (omega arith) (omega arith))
 
 -- no more records than were written
+one-count : (lacking : Bool) (payload : List ℕ) (r : Record) (under : List Record) (nested rest : List Seen) → length nested ≤ length under
+    → length (onwardOne lacking payload r under nested rest) ≤ suc (length under + length rest)
+unfolding onwardOne
+one-count true payload r under nested rest h = omega arith
+one-count false payload r under nested rest h =
+    either-way (λ (x : List Seen). suc (length (x ++ rest)) ≤ suc (length under + length rest)) (eqb (r .kind) 11)
+    (omega (arith, length-append nested rest))
+    (omega (arith, length-append (map (seen payload) under) rest, length-map under (seen payload)))
+
 pub onward-count : (k : ℕ) (old : Schema) (payload : List ℕ) (t : ℕ) (rs : List Record) → length (onwardOf k old payload t rs) ≤ length rs
 unfolding onwardOf
 onward-count zero old payload t rs = omega arith
 onward-count (suc k) old payload t [] = omega arith
 onward-count (suc k) old payload t (r ∷ rs) =
-    let e : Entry = lookup (old .entries) t (r .number) in
     let n : ℕ = deeper (r .depth) rs in
     let under : List Record = take n rs in
-    let inner : List Seen = onwardOf k old payload (e .child) under in
+    let nested : List Seen = onwardOf k old payload (lookup (old .entries) t (r .number) .child) under in
     let rest : List Seen = onwardOf k old payload t (drop n rs) in
-    let a : length inner ≤ length under = onward-count k old payload (e .child) under in
-    let b : length rest ≤ length (drop n rs) = onward-count k old payload t (drop n rs) in
     let all : length under + length (drop n rs) ≡ length rs = omega (arith, length-take n rs, length-drop n rs, deeper-le (r .depth) rs) in
-    either-way (λ (x : List Seen). length x ≤ suc (length rs)) (eqb (e .kind) 0) (omega arith)
-    (either-way (λ (x : List Seen). length x ≤ suc (length rs)) (eqb (r .kind) 11)
-    (omega (arith, length-append inner rest))
-    (omega (arith, length-append (map (seen payload) under) rest, length-map under (seen payload))))
+    omega (arith, one-count (lacks old t r) payload r under nested rest (onward-count k old payload _ under), onward-count k old payload t (drop n rs))
 
 module _ (old : Schema) (payload : List ℕ) where
-  abbrev onwardIn : ℕ → List Record → List Seen
+  abbrev pub onwardIn : ℕ → List Record → List Seen
   onwardIn t rs = onwardOf (length rs) old payload t rs
 
-  -- a record, those in it and those behind it: whether it is lacking, and whether it is a message
-  abbrev ways : ℕ → Record → List Record → List Record → Bool → Bool → List Seen
-  ways t r xs ys a b =
-      if a then unknown payload r (bytesIn (not (eqb (r .kind) 20)) payload xs) ∷ onwardIn t ys else
-      if b then seen payload r ∷ (onwardIn (lookup (old .entries) t (r .number) .child) xs ++ onwardIn t ys) else
-      seen payload r ∷ (map (seen payload) xs ++ onwardIn t ys)
+  -- a record, those under it and those behind it
+  module _ (t d : ℕ) (r : Record) (xs ys : List Record) (dep : r .depth ≡ d) (o : Over (d + 1) xs) (l : Low (d + 1) ys) where
+    abbrev child : ℕ
+    child = lookup (old .entries) t (r .number) .child
 
-  onward-run : (t d : ℕ) (r : Record) (xs ys : List Record) → r .depth ≡ d → Over (d + 1) xs → Low (d + 1) ys
-      → (a b : Bool) → lacks old t r ≡ a → eqb (r .kind) 11 ≡ b → onwardIn t (r ∷ (xs ++ ys)) ≡ ways t r xs ys a b
-  unfolding onwardOf
-  onward-run t d r xs ys dep o l a b p q =
-      let e : Entry = lookup (old .entries) t (r .number) in
-      let all : List Record = xs ++ ys in
-      let n : deeper (r .depth) all ≡ length xs = deeper-run (r .depth) ys (subst (λ (m : ℕ). Over (m + 1) xs) (sym dep) o) (subst (λ (m : ℕ). Low (m + 1) ys) (sym dep) l) in
-      let f : List Record → List Seen → List Seen → List Seen = λ under x y.
-      if lacks old t r then unknown payload r (bytesIn (not (eqb (r .kind) 20)) payload under) ∷ y else
-      if eqb (r .kind) 11 then seen payload r ∷ (x ++ y) else seen payload r ∷ (map (seen payload) under ++ y) in
-      ap₂ (λ (under rest : List Record). f under (onwardOf (length all) old payload (e .child) under) (onwardOf (length all) old payload t rest))
-      (ap (λ (k : ℕ). take k all) n ∙ take-append-seam xs ys) (ap (λ (k : ℕ). drop k all) n ∙ drop-append-seam xs ys)
-      ∙ ap₂ (f xs)
-      (onward-enough (length all) (length xs) old payload (e .child) xs (omega (arith, length-append xs ys)) (omega arith))
-      (onward-enough (length all) (length ys) old payload t ys (omega (arith, length-append xs ys)) (omega arith))
-      ∙ ap₂ (ways t r xs ys) p q
+    onward-run : onwardIn t (r ∷ (xs ++ ys)) ≡ onwardOne (lacks old t r) payload r xs (onwardIn child xs) (onwardIn t ys)
+    unfolding onwardOf
+    onward-run =
+        let all : List Record = xs ++ ys in
+        let n : deeper (r .depth) all ≡ length xs = ap (λ (m : ℕ). deeper m all) dep ∙ deeper-run d ys o l in
+        ap₂ (λ (under rest : List Record). onwardOne (lacks old t r) payload r under (onwardOf (length all) old payload child under) (onwardOf (length all) old payload t rest))
+        (ap (λ (k : ℕ). take k all) n ∙ take-append-seam xs ys) (ap (λ (k : ℕ). drop k all) n ∙ drop-append-seam xs ys)
+        ∙ ap₂ (onwardOne (lacks old t r) payload r xs)
+        (onward-enough (length all) (length xs) old payload child xs (omega (arith, length-append xs ys)) (omega arith))
+        (onward-enough (length all) (length ys) old payload t ys (omega (arith, length-append xs ys)) (omega arith))
+
+    -- a field that is lacking comes once, unopened
+    pub onward-lacking : lacks old t r ≡ true → onwardIn t (r ∷ (xs ++ ys)) ≡ unknown payload r xs ∷ onwardIn t ys
+    unfolding onwardOne
+    onward-lacking p = onward-run ∙ ap (λ (a : Bool). onwardOne a payload r xs (onwardIn child xs) (onwardIn t ys)) p
+
+    -- a message that is kept comes as written, and then what is read of the records under it
+    pub onward-message : lacks old t r ≡ false → r .kind ≡ 11 → onwardIn t (r ∷ (xs ++ ys)) ≡ seen payload r ∷ (onwardIn child xs ++ onwardIn t ys)
+    unfolding onwardOne
+    onward-message p q =
+        onward-run ∙ ap (λ (a : Bool). onwardOne a payload r xs (onwardIn child xs) (onwardIn t ys)) p
+        ∙ ap (λ (b : Bool). seen payload r ∷ ((if b then onwardIn child xs else map (seen payload) xs) ++ onwardIn t ys)) (eq-eqb (r .kind) 11 q)
+
+    -- any other that is kept comes as written, and so do the records under it
+    pub onward-plain : lacks old t r ≡ false → eqb (r .kind) 11 ≡ false → onwardIn t (r ∷ (xs ++ ys)) ≡ seen payload r ∷ (map (seen payload) xs ++ onwardIn t ys)
+    unfolding onwardOne
+    onward-plain p q =
+        onward-run ∙ ap (λ (a : Bool). onwardOne a payload r xs (onwardIn child xs) (onwardIn t ys)) p
+        ∙ ap (λ (b : Bool). seen payload r ∷ ((if b then onwardIn child xs else map (seen payload) xs) ++ onwardIn t ys)) q
 
 -- ---- the list that the older schema is to read, with its contents in the written bytes s
 
@@ -197,38 +208,37 @@ module _ (old new : Schema) (payload s : List ℕ) (has : (t m : ℕ) → Has (l
         (subst (λ (y : List ℕ). Tree old s t d (q ∷ qs) (tagBytes q ++ prefixed y ++ b)) is-content
         (blob refl (lacking t r d 0 lo hi 0 z x w′) (shape-unknown (wire (r .kind)) w) refl (does-lie k) tr))
 
-    lacking-seen : (under : List ℕ) → r .depth ≡ d → wire (r .kind) ≡ 2 → raw (shape (r .kind)) (r .value) ≡ 0 → held (shape (r .kind)) payload r under ≡ i
-        → seen s (row d (r .number) (unknownKind (wire (r .kind))) 0 lo hi 0) ≡ unknown payload r under
-    unfolding seen unknown contentOf
-    lacking-seen under dep w v h =
+    lacking-seen : (xs : List Record) → r .depth ≡ d → wire (r .kind) ≡ 2 → raw (shape (r .kind)) (r .value) ≡ 0
+        → held (shape (r .kind)) payload r (bytesUnder payload r xs) ≡ i → seen s (row d (r .number) (unknownKind (wire (r .kind))) 0 lo hi 0) ≡ unknown payload r xs
+    unfolding seen unknown held
+    lacking-seen xs dep w v h =
         let k : ℕ = unknownKind (wire (r .kind)) in
         let q : Record = row d (r .number) k 0 lo hi 0 in
         let with : ℕ → ℕ → List ℕ → Seen = λ d v c. record { depth = d; number = r .number; kind = k; value = v; content = c } in
-        ap (λ (c : List ℕ). with d 0 c) (ap (λ (x : Shape). contentOf x s q) (shape-unknown (wire (r .kind)) w) ∙ is-content ∙ sym h)
-        ∙ ap₂ (λ (d v : ℕ). with d v (held (shape (r .kind)) payload r under)) (sym dep) (sym v)
+        ap (with d 0) (ap (λ (x : Shape). held x s q []) (shape-unknown (wire (r .kind)) w) ∙ is-content ∙ sym h)
+        ∙ ap₂ (λ (d v : ℕ). with d v (held (shape (r .kind)) payload r (bytesUnder payload r xs))) (sym dep) (sym v)
 
     -- a field with a content, or a head with the records xs in it, that the older schema lacks
     lacked : (xs ys : List Record) → r .depth ≡ d → Expected new t r → lacks old t r ≡ true → oldEntry t (r .number) .kind ≡ 0
         → wire (r .kind) ≡ 2 → raw (shape (r .kind)) (r .value) ≡ 0
-        → held (shape (r .kind)) payload r (bytesIn (not (eqb (r .kind) 20)) payload xs) ≡ i → Over (d + 1) xs → Low (d + 1) ys
+        → held (shape (r .kind)) payload r (bytesUnder payload r xs) ≡ i → Over (d + 1) xs → Low (d + 1) ys
         → Projected t d ys b → Projected t d (r ∷ (xs ++ ys)) (tagBytes r ++ prefixed i ++ b)
     lacked xs ys dep x p z w v h o l (qs, tr, e) = (
       row d (r .number) (unknownKind (wire (r .kind))) 0 lo hi 0 ∷ qs,
       lacking-content x z w qs tr,
-      ap₂ (_∷_) (lacking-seen (bytesIn (not (eqb (r .kind) 20)) payload xs) dep w v h) e
-          ∙ sym (onward-run old payload t d r xs ys dep o l true (eqb (r .kind) 11) p refl),
+      ap₂ (_∷_) (lacking-seen xs dep w v h) e ∙ sym (onward-lacking old payload t d r xs ys dep o l p),
     )
 
   -- ---- what is kept
 
   values-seen : {c : Scalar} {m k d : ℕ} {xs : List Record} {b : List ℕ} → shape k ≡ one c → Values c m k d xs b → map (seen s) xs ≡ map (seen payload) xs
-  unfolding contentOf
+  unfolding held
   values-seen sh no-value = refl
   values-seen {c} sh (value {r} dep num kin f rest) = ap₂ (_∷_) (seen-cong s payload r (one c) (ap shape kin ∙ sh) refl) (values-seen sh rest)
 
   -- a content that is kept: the same record, with its place in s
   kept-content : (t d at : ℕ) (r : Record) (ys : List Record) (x : Shape) (b : List ℕ) → r .depth ≡ d → r .value ≡ 0 → shape (r .kind) ≡ x
-      → ((z : List ℕ) (q : Record) → contentOf x z q ≡ part (q .start) (q .stop) z) → eqb (r .kind) 11 ≡ false → lacks old t r ≡ false → Low (d + 1) ys
+      → ((z : List ℕ) (q : Record) → held x z q [] ≡ part (q .start) (q .stop) z) → eqb (r .kind) 11 ≡ false → lacks old t r ≡ false → Low (d + 1) ys
       → Stands s at (tagBytes r ++ prefixed (part (r .start) (r .stop) payload) ++ b)
       → ((a e : ℕ) → lies s (row d (r .number) (r .kind) 0 a e 0) ≡ true → part a e s ≡ part (r .start) (r .stop) payload
       → (qs : List Record) → Tree old s t d qs b → Tree old s t d (row d (r .number) (r .kind) 0 a e 0 ∷ qs) (tagBytes r ++ prefixed (part a e s) ++ b))
@@ -240,12 +250,12 @@ module _ (old new : Schema) (payload s : List ℕ) (has : (t m : ℕ) → Has (l
       let found : part (q .start) (q .stop) s ≡ i = is-content t d at r i b here in
       let with : ℕ → ℕ → List ℕ → Seen = λ d v c. record { depth = d; number = r .number; kind = r .kind; value = v; content = c } in
       let shows : seen s q ≡ seen payload r =
-      ap (with d 0) (ap (λ (y : Shape). contentOf y s q) sh ∙ is s q ∙ found ∙ sym (is payload r) ∙ ap (λ (y : Shape). contentOf y payload r) (sym sh))
-      ∙ ap₂ (λ (d v : ℕ). with d v (contentOf (shape (r .kind)) payload r)) (sym dep) (sym val) in (
+      ap (with d 0) (ap (λ (y : Shape). held y s q []) sh ∙ is s q ∙ found ∙ sym (is payload r) ∙ ap (λ (y : Shape). held y payload r []) (sym sh))
+      ∙ ap₂ (λ (d v : ℕ). with d v (held (shape (r .kind)) payload r [])) (sym dep) (sym val) in (
         q ∷ qs,
         subst (λ (y : List ℕ). Tree old s t d (q ∷ qs) (tagBytes r ++ prefixed y ++ b)) found
             (tree (lo t d at r i b here) (hi t d at r i b here) (does-lie t d at r i b here (r .kind)) found qs tr),
-        ap₂ (_∷_) shows e ∙ sym (onward-run old payload t d r [] ys dep over-nil l false false p no11),
+        ap₂ (_∷_) shows e ∙ sym (onward-plain old payload t d r [] ys dep over-nil l p no11),
       )
 
   -- ---- one number
@@ -253,35 +263,35 @@ module _ (old new : Schema) (payload s : List ℕ) (has : (t m : ℕ) → Has (l
   number-lacked : (c : Scalar) (t d : ℕ) (r : Record) (ys : List Record) (b : List ℕ) → r .depth ≡ d → Expected new t r → shape (r .kind) ≡ one c
       → fits c (r .value) ≡ true → lacks old t r ≡ true → oldEntry t (r .number) .kind ≡ 0 → Low (d + 1) ys
       → Projected t d ys b → Projected t d (r ∷ ys) (tagBytes r ++ encoded c (r .value) ++ b)
-  unfolding seen unknown contentOf held raw
+  unfolding seen unknown held raw
   number-lacked c t d r ys b dep x sh f p z l (qs, tr, e) =
       let k : ℕ = unknownKind (wire (r .kind)) in
       let v : ℕ = rawOf c (r .value) in
       let q : Record = row d (r .number) k v 0 0 0 in
       let w : wire k ≡ wire (r .kind) = bare-wire (r .kind) c sh in
-      let under : List ℕ = bytesIn (not (eqb (r .kind) 20)) payload [] in
+      let under : List ℕ = bytesUnder payload r [] in
       let with : ℕ → ℕ → List ℕ → Seen = λ d v c. record { depth = d; number = r .number; kind = k; value = v; content = c } in
       let tree : Tree old s t d (q ∷ qs) (tagBytes q ++ encoded (bare c) v ++ b) =
       number (bare c) refl (lacking t r d v 0 0 0 z x w) (bare-shape (r .kind) c sh) (raw-fits c (r .value) f) tr in
-      let content : contentOf (shape k) s q ≡ held (shape (r .kind)) payload r under =
-      ap (λ (y : Shape). contentOf y s q) (bare-shape (r .kind) c sh) ∙ sym (ap (λ (y : Shape). held y payload r under) sh) in
-      let shows : seen s q ≡ unknown payload r under =
+      let content : held (shape k) s q [] ≡ held (shape (r .kind)) payload r under =
+      ap (λ (y : Shape). held y s q []) (bare-shape (r .kind) c sh) ∙ sym (ap (λ (y : Shape). held y payload r under) sh) in
+      let shows : seen s q ≡ unknown payload r [] =
       ap (with d v) content
       ∙ ap₂ (λ (d v : ℕ). with d v (held (shape (r .kind)) payload r under)) (sym dep) (sym (ap (λ (y : Shape). raw y (r .value)) sh)) in (
         q ∷ qs,
         subst (λ (y : List ℕ). Tree old s t d (q ∷ qs) (y ++ encoded c (r .value) ++ b)) (same-tag r q refl w)
             (subst (λ (y : List ℕ). Tree old s t d (q ∷ qs) (tagBytes q ++ y ++ b)) (raw-encoded c (r .value)) tree),
-        ap₂ (_∷_) shows e ∙ sym (onward-run old payload t d r [] ys dep over-nil l true (eqb (r .kind) 11) p refl),
+        ap₂ (_∷_) shows e ∙ sym (onward-lacking old payload t d r [] ys dep over-nil l p),
       )
 
   number-kept : (c : Scalar) (t d : ℕ) (r : Record) (ys : List Record) (b : List ℕ) → r .depth ≡ d → Expected new t r → shape (r .kind) ≡ one c
       → fits c (r .value) ≡ true → lacks old t r ≡ false → oldEntry t (r .number) ≡ lookup (new .entries) t (r .number) → Low (d + 1) ys
       → Projected t d ys b → Projected t d (r ∷ ys) (tagBytes r ++ encoded c (r .value) ++ b)
-  unfolding contentOf
+  unfolding held
   number-kept c t d r ys b dep x sh f p z l (qs, tr, e) = (
     r ∷ qs,
     number c dep (kept t r z x) sh f tr,
-    ap₂ (_∷_) (seen-cong s payload r (one c) sh refl) e ∙ sym (onward-run old payload t d r [] ys dep over-nil l false false p (plain-scalar (r .kind) c sh .no-message)),
+    ap₂ (_∷_) (seen-cong s payload r (one c) sh refl) e ∙ sym (onward-plain old payload t d r [] ys dep over-nil l p (plain-scalar (r .kind) c sh .no-message)),
   )
 
   -- ---- heads that are kept
@@ -289,28 +299,28 @@ module _ (old new : Schema) (payload s : List ℕ) (has : (t m : ℕ) → Has (l
   message-kept : (t d : ℕ) (r : Record) (xs ys : List Record) (i b : List ℕ) → r .depth ≡ d → Expected new t r → r .kind ≡ 11 → r .value ≡ 0 → d < 100
       → lacks old t r ≡ false → oldEntry t (r .number) ≡ lookup (new .entries) t (r .number) → Over (d + 1) xs → Low (d + 1) ys
       → Projected (lookup (new .entries) t (r .number) .child) (d + 1) xs i → Projected t d ys b → Projected t d (r ∷ (xs ++ ys)) (tagBytes r ++ prefixed i ++ b)
-  unfolding contentOf
+  unfolding held
   message-kept t d r xs ys i b dep x kin val deep p z o l in-it (qs, tr, e) =
       let c : ℕ = oldEntry t (r .number) .child in
       let (ps, tr′, e′) : Projected c (d + 1) xs i = subst (λ (y : Entry). Projected (y .child) (d + 1) xs i) (sym z) in-it in (
         r ∷ (ps ++ qs),
         inner dep (kept t r z x) kin val deep tr′ tr,
         ap₂ (_∷_) (seen-cong s payload r (other message) (ap shape kin ∙ shape-11) refl) (map-append (seen s) ps qs ∙ ap₂ (λ (u v : List Seen). u ++ v) e′ e)
-            ∙ sym (onward-run old payload t d r xs ys dep o l false true p (eq-eqb (r .kind) 11 kin)),
+            ∙ sym (onward-message old payload t d r xs ys dep o l p kin),
       )
 
   packed-kept : (c : Scalar) (t d : ℕ) (r : Record) (xs ys : List Record) (i b : List ℕ) → r .depth ≡ d → Expected new t r → r .kind ≡ 20 → r .value ≡ 0
       → shape (lookup (new .entries) t (r .number) .kind) ≡ one c → Values c (r .number) (lookup (new .entries) t (r .number) .kind) (d + 1) xs i → 1 ≤ length xs
       → lacks old t r ≡ false → oldEntry t (r .number) ≡ lookup (new .entries) t (r .number) → Low (d + 1) ys
       → Projected t d ys b → Projected t d (r ∷ (xs ++ ys)) (tagBytes r ++ prefixed i ++ b)
-  unfolding contentOf
+  unfolding held
   packed-kept c t d r xs ys i b dep x kin val sh in-it long p z l (qs, tr, e) = (
     r ∷ (xs ++ qs),
     row-of c dep (kept t r z x) kin val (ap (λ (y : Entry). shape (y .kind)) z ∙ sh)
         (subst (λ (y : Entry). Values c (r .number) (y .kind) (d + 1) xs i) (sym z) in-it) long tr,
     ap₂ (_∷_) (seen-cong s payload r (other packed) (ap shape kin ∙ shape-20) refl)
         (map-append (seen s) xs qs ∙ ap₂ (λ (u v : List Seen). u ++ v) (values-seen sh in-it) e)
-        ∙ sym (onward-run old payload t d r xs ys dep (values-over in-it) l false false p (ap (λ (k : ℕ). eqb k 11) kin)),
+        ∙ sym (onward-plain old payload t d r xs ys dep (values-over in-it) l p (ap (λ (k : ℕ). eqb k 11) kin)),
   )
 
   -- ---- the whole
@@ -319,7 +329,7 @@ module _ (old new : Schema) (payload s : List ℕ) (has : (t m : ℕ) → Has (l
   wire-two k x sh e = wire-shape k ∙ ap wireOf sh ∙ e
 
   pub project : {t d : ℕ} {rs : List Record} {b : List ℕ} → Tree new payload t d rs b → (at : ℕ) → Stands s at b → Projected t d rs b
-  unfolding onwardOf contentOf raw held wireOf
+  unfolding onwardOf raw held wireOf
   project no-field at h = ([], no-field, refl)
   project {t} {d} (number {r = r} {rs = rs} {b = b} c dep ex sh f rest) at h =
       let x : List ℕ = tagBytes r ++ encoded c (r .value) in
@@ -333,7 +343,7 @@ module _ (old new : Schema) (payload s : List ℕ) (has : (t m : ℕ) → Has (l
       let more : Projected t d rs b = project rest (at + length x) (stands-right x b h) in
       cases t (r .number)
       (λ p z. lacked t d at r i b h [] rs dep ex p z (wire-two (r .kind) (other string) sh refl) (ap (λ (y : Shape). raw y (r .value)) sh)
-      (ap (λ (y : Shape). held y payload r (bytesIn (not (eqb (r .kind) 20)) payload [])) sh) over-nil l more)
+      (ap (λ (y : Shape). held y payload r (bytesUnder payload r [])) sh) over-nil l more)
       (λ p z. kept-content t d at r rs (other string) b dep val sh (λ z q. refl) (ap (λ (k : ℕ). eqb k 11) (kind-9 (r .kind) sh)) p l h
       (λ a e lie found qs tr. text refl (again (kept t r z ex)) sh refl lie (ap utf8 found ∙ u) tr) more)
   project {t} {d} (blob {r = r} {rs = rs} {b = b} dep ex sh val li rest) at h =
@@ -343,7 +353,7 @@ module _ (old new : Schema) (payload s : List ℕ) (has : (t m : ℕ) → Has (l
       let more : Projected t d rs b = project rest (at + length x) (stands-right x b h) in
       cases t (r .number)
       (λ p z. lacked t d at r i b h [] rs dep ex p z (wire-two (r .kind) (other bytes) sh refl) (ap (λ (y : Shape). raw y (r .value)) sh)
-      (ap (λ (y : Shape). held y payload r (bytesIn (not (eqb (r .kind) 20)) payload [])) sh) over-nil l more)
+      (ap (λ (y : Shape). held y payload r (bytesUnder payload r [])) sh) over-nil l more)
       (λ p z. kept-content t d at r rs (other bytes) b dep val sh (λ z q. refl) (plain-bytes (r .kind) sh .no-message) p l h
       (λ a e lie found qs tr. blob refl (again (kept t r z ex)) sh refl lie tr) more)
   project {t} {d} (inner {r = r} {rs = rs} {qs = qs} {b = b} {i = i} dep ex kin val deep in-it rest) at h =
@@ -354,7 +364,7 @@ module _ (old new : Schema) (payload s : List ℕ) (has : (t m : ℕ) → Has (l
       let within = project in-it (at + (length (tagBytes r) + from i)) (inner-stands old payload s t d at r i b h) in
       cases t (r .number)
       (λ p z. lacked t d at r i b h qs rs dep ex p z (wire-two (r .kind) (other message) sh refl) (ap (λ (y : Shape). raw y (r .value)) sh)
-      (ap (λ (y : Shape). held y payload r (bytesIn (not (eqb (r .kind) 20)) payload qs)) sh
+      (ap (λ (y : Shape). held y payload r (bytesUnder payload r qs)) sh
       ∙ ap (λ (k : ℕ). bytesIn (not (eqb k 20)) payload qs) kin ∙ tree-bytes new payload in-it) o l more)
       (λ p z. message-kept t d r qs rs i b dep ex kin val deep p z o l within more)
   project {t} {d} (row-of {r = r} {rs = rs} {qs = qs} {b = b} {i = i} c dep ex kin val sh in-it long rest) at h =
@@ -363,7 +373,7 @@ module _ (old new : Schema) (payload s : List ℕ) (has : (t m : ℕ) → Has (l
       let more : Projected t d rs b = project rest (at + (length (tagBytes r) + to i)) (rest-stands old payload s t d at r i b h) in
       cases t (r .number)
       (λ p z. lacked t d at r i b h qs rs dep ex p z (wire-two (r .kind) (other packed) sh′ refl) (ap (λ (y : Shape). raw y (r .value)) sh′)
-      (ap (λ (y : Shape). held y payload r (bytesIn (not (eqb (r .kind) 20)) payload qs)) sh′
+      (ap (λ (y : Shape). held y payload r (bytesUnder payload r qs)) sh′
       ∙ ap (λ (k : ℕ). bytesIn (not (eqb k 20)) payload qs) kin ∙ values-bytes new payload sh in-it) (values-over in-it) l more)
       (λ p z. packed-kept c t d r qs rs i b dep ex kin val sh in-it long p z l more)
 
@@ -407,6 +417,12 @@ onward-trip old new payload rs room space older vold vnew fine small some-room s
       again = writes old space s s (q .0) vold (tree-valid old s (q .3)) (tree-written old s (q .3)) small some-space;
     }
 
+pub demand-three : DemandThree
+unfolding listCheck schemaFirst
+demand-three old new payload rs room space g =
+    onward-trip old new payload rs room space (g .older) (g .old-valid) (g .new-valid)
+    (ap (λ (x : Option ℕ). schemaFirst x (listFault new payload 0 (Fields 0 ∷ []) rs)) (sym (g .new-valid)) ∙ g .list-valid) (g .small) (g .room-lent) (g .space-lent)
+
 -- ---- the plain round trip is the case of one schema: nothing is lacked that was not unknown before, so all comes as written
 
 fewer-self : (es : List Entry) → Fewer es es
@@ -416,7 +432,7 @@ fewer-self (e ∷ es) = keep (fewer-self es)
 pub older-self : (sch : Schema) → Older sch sch
 older-self sch = record { same-types = refl; fewer-entries = fewer-self (sch .entries) }
 
-after-same : (qs ps : List Record) → after qs Done ≡ after ps Done → qs ≡ ps
+pub after-same : (qs ps : List Record) → after qs Done ≡ after ps Done → qs ≡ ps
 unfolding listed
 after-same qs ps e = sym (append-nil qs) ∙ sym (after-listed qs Done) ∙ ap listed e ∙ after-listed ps Done ∙ append-nil ps
 
@@ -442,17 +458,17 @@ nothing-lost new payload rs room space v fine small some-room some-space =
     (g .0 .list, g .0 .reads, g .0 .shows ∙ g .1)
 
 -- a record that is unknown to the newer schema already comes as written
-pub unknown-already : (payload under : List ℕ) (r : Record) (k : ℕ) → r .kind ≡ k → (eqb k 21 || eqb k 22 || eqb k 23 && eqb (r .value) 0 || eqb k 24) ≡ true
+pub unknown-already : (payload : List ℕ) (under : List Record) (r : Record) (k : ℕ) → r .kind ≡ k → (eqb k 21 || eqb k 22 || eqb k 23 && eqb (r .value) 0 || eqb k 24) ≡ true
     → unknown payload r under ≡ seen payload r
-unfolding unknown seen unknownKind wire wires shape shapes raw rawOf held contentOf
+unfolding unknown seen unknownKind wire wires shape shapes raw rawOf held
 unknown-already payload under r k kin h =
     ap a kin ∙ go (eqb k 21) (eqb k 22) (eqb k 23) (eqb (r .value) 0) (eqb k 24) refl refl refl refl refl h ∙ sym (ap b kin)
   where
     a : ℕ → Seen
-    a k = record { depth = r .depth; number = r .number; kind = unknownKind (wire k); value = raw (shape k) (r .value); content = held (shape k) payload r under }
+    a k = record { depth = r .depth; number = r .number; kind = unknownKind (wire k); value = raw (shape k) (r .value); content = held (shape k) payload r (bytesUnder payload r under) }
 
     b : ℕ → Seen
-    b k = record { depth = r .depth; number = r .number; kind = k; value = r .value; content = contentOf (shape k) payload r }
+    b k = record { depth = r .depth; number = r .number; kind = k; value = r .value; content = held (shape k) payload r [] }
 
     at : (n : ℕ) → k ≡ n → a n ≡ b n → a k ≡ b k
     at n e p = ap a e ∙ p ∙ sym (ap b e)

@@ -1,1 +1,3 @@
 pub mod Onward
+pub mod Under
+pub mod Generations

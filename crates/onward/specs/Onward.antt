@@ -1,18 +1,19 @@
--- What an older schema reads in bytes that were written under a newer one. The older schema is the newer one with some entries left out.
--- Assumes nothing: these are definitions.
+-- Demand 3: what was written under a newer schema goes through an older one unharmed. The older schema is the newer one with some entries left out.
+-- It is stated in the last section; the sections before it say what its words mean. Assumes nothing: these are definitions.
 use Prim.Native.Nat.{ℕ, zero, suc, _%_, _^_, _≤_}
 use mathlib.Core.Path.{_≡_}
-use mathlib.Core.Bool.{Bool, not}
+use mathlib.Core.Bool.{Bool, true, false, not}
 use mathlib.Core.List.{List, [], _∷_, _++_, map}
+use mathlib.Core.Option.{none}
 use lib.ListN.{length, take, drop}
 use lib.Dec.{eqb}
-use Rattle.spec.specs.Base.{if_then_else_, part}
+use Rattle.spec.specs.Base.{if_then_else_, part, limit}
 use Rattle.spec.specs.Varint.{zigzag}
 use Rattle.spec.specs.Kind.{Scalar, int32, uint32, uint64, bool, sint32, sint64, fixed32, sfixed32, fixed64, Shape, one, other, string, bytes, message, packed, startGroup, endGroup, nothing, shape, wire}
-use Rattle.spec.specs.Schema.{Schema, lookup, unknownKind}
+use Rattle.spec.specs.Schema.{Schema, badSchema, lookup, unknownKind}
 use Rattle.spec.specs.Record.{Record, deeper}
 use Rattle.spec.specs.Reading.{Done, reading, after}
-use Rattle.spec.specs.Writing.{bytesOf, Wrote, writing}
+use Rattle.spec.specs.Writing.{bytesOf, written, Fine, listCheck, Wrote, writing}
 use Rattle.spec.specs.declared.Entry.{Entry}
 
 -- ---- older and newer
@@ -27,9 +28,9 @@ pub record Older (old new : Schema) : Type 0 where
   pub same-types : old .types ≡ new .types
   pub fewer-entries : Fewer (old .entries) (new .entries)
 
--- ---- what a record says
+-- ---- what a record shows
 
--- depth, number, kind and value of a record, and its content's bytes in place of where they stand (none for a value and for heads)
+-- Depth, number, kind and value of a record, and its content's bytes in place of where they stand.
 pub record Seen : Type 0 where
   pub depth : ℕ
   pub number : ℕ
@@ -37,21 +38,29 @@ pub record Seen : Type 0 where
   pub value : ℕ
   pub content : List ℕ
 
-unfoldable pub contentOf : Shape → List ℕ → Record → List ℕ
-contentOf (one c) s r = []
-contentOf (other string) s r = part (r .start) (r .stop) s
-contentOf (other bytes) s r = part (r .start) (r .stop) s
-contentOf (other message) s r = []
-contentOf (other packed) s r = []
-contentOf (other startGroup) s r = []
-contentOf (other endGroup) s r = []
-contentOf (other nothing) s r = []
+-- What stands behind a field's length: the content, which lies in the payload, or for a head `inner`, the bytes of all that is under it.
+-- A number has no content.
+unfoldable pub held : Shape → (payload : List ℕ) → Record → (inner : List ℕ) → List ℕ
+held (one c) payload r inner = []
+held (other string) payload r inner = part (r .start) (r .stop) payload
+held (other bytes) payload r inner = part (r .start) (r .stop) payload
+held (other message) payload r inner = inner
+held (other packed) payload r inner = inner
+held (other startGroup) payload r inner = []
+held (other endGroup) payload r inner = []
+held (other nothing) payload r inner = []
 
--- the record r, whose content stands in s
-unfoldable pub seen : List ℕ → Record → Seen
-seen s r = record { depth = r .depth; number = r .number; kind = r .kind; value = r .value; content = contentOf (shape (r .kind)) s r }
+-- A record as written. What is under a head is shown by the records behind it, so here the head holds nothing.
+unfoldable pub seen : (payload : List ℕ) → Record → Seen
+seen payload r = record {
+  depth = r .depth;
+  number = r .number;
+  kind = r .kind;
+  value = r .value;
+  content = held (shape (r .kind)) payload r [];
+}
 
--- ---- what the older schema reads for it
+-- ---- what a field shows that the schema lacks
 
 -- the number that stands on the wire for a value: zigzag is not undone, and a signed number has the bits that are written
 unfoldable pub rawOf : Scalar → ℕ → ℕ
@@ -69,56 +78,65 @@ unfoldable pub raw : Shape → ℕ → ℕ
 raw (one c) v = rawOf c v
 raw (other x) v = 0
 
--- what stands behind the length: the content, or for a head `inner`, the bytes of all that is under it
-unfoldable pub held : Shape → List ℕ → Record → List ℕ → List ℕ
-held (one c) payload r inner = []
-held (other string) payload r inner = part (r .start) (r .stop) payload
-held (other bytes) payload r inner = part (r .start) (r .stop) payload
-held (other message) payload r inner = inner
-held (other packed) payload r inner = inner
-held (other startGroup) payload r inner = []
-held (other endGroup) payload r inner = []
-held (other nothing) payload r inner = []
+-- the bytes of the records under r: with their tags or, under a packed head (kind 20), without
+abbrev pub bytesUnder : (payload : List ℕ) → Record → (under : List Record) → List ℕ
+bytesUnder payload r under = bytesOf (length under) (not (eqb (r .kind) 20)) payload under
 
--- A field that the schema lacks: one record of the unknown kind of its wire type, 21 to 24.
-unfoldable pub unknown : List ℕ → Record → List ℕ → Seen
-unknown payload r inner = record {
+-- One record, of the unknown kind of the field's wire type (21 to 24): a raw value, or a content that holds all that is under it.
+unfoldable pub unknown : (payload : List ℕ) → Record → (under : List Record) → Seen
+unknown payload r under = record {
   depth = r .depth;
   number = r .number;
   kind = unknownKind (wire (r .kind));
   value = raw (shape (r .kind)) (r .value);
-  content = held (shape (r .kind)) payload r inner;
+  content = held (shape (r .kind)) payload r (bytesUnder payload r under);
 }
 
--- the schema has no entry for the record's number in a message of this type
-abbrev pub lacks : Schema → ℕ → Record → Bool
+-- ---- what the older schema reads
+
+-- it has no entry for the record's number in a message of this type
+abbrev pub lacks : Schema → (type : ℕ) → Record → Bool
 lacks old type r = eqb (lookup (old .entries) type (r .number) .kind) 0
 
--- The records rs of a message of this type, as the schema `old` reads them: each field that it lacks once, with all that is under it; the rest as
--- written, in order. A message's records are those of its child type; a packed field's elements come as written.
--- k is no less than the number of records.
-unfoldable pub onwardOf : ℕ → Schema → List ℕ → (type : ℕ) → List Record → List Seen
+-- The record r with the records `under` it, and then `rest`. A field that is lacking comes once, unopened. Any other comes as written: a message (kind 11)
+-- with `nested`, which is what the older schema reads of the records under it, and a packed head with its elements.
+unfoldable pub onwardOne : (lacking : Bool) → (payload : List ℕ) → Record → (under : List Record) → (nested rest : List Seen) → List Seen
+onwardOne true payload r under nested rest = unknown payload r under ∷ rest
+onwardOne false payload r under nested rest =
+    let inside = if eqb (r .kind) 11 then nested else map (seen payload) under in
+    seen payload r ∷ (inside ++ rest)
+
+-- The records rs of a message of this type, in order. The records under one are those behind it that stand deeper; under a message they are
+-- those of its child type. k is no less than the number of records.
+unfoldable pub onwardOf : ℕ → Schema → (payload : List ℕ) → (type : ℕ) → List Record → List Seen
 onwardOf zero old payload type rs = []
 onwardOf (suc k) old payload type [] = []
 onwardOf (suc k) old payload type (r ∷ rs) =
-    let child = lookup (old .entries) type (r .number) .child in
     let n = deeper (r .depth) rs in
     let under = take n rs in
+    let nested = onwardOf k old payload (lookup (old .entries) type (r .number) .child) under in
     let rest = onwardOf k old payload type (drop n rs) in
-    let lacking = unknown payload r (bytesOf (length under) (not (eqb (r .kind) 20)) payload under) ∷ rest in
-    let nested = seen payload r ∷ (onwardOf k old payload child under ++ rest) in
-    let plain = seen payload r ∷ (map (seen payload) under ++ rest) in
-    if lacks old type r then lacking else
-    if eqb (r .kind) 11 then nested else plain
+    onwardOne (lacks old type r) payload r under nested rest
 
 -- a whole list, in a message of the root type
-unfoldable pub onward : Schema → List ℕ → List Record → List Seen
+unfoldable pub onward : Schema → (payload : List ℕ) → List Record → List Seen
 onward old payload rs = onwardOf (length rs) old payload 0 rs
 
--- ---- demand 3: what was written under the newer schema goes through the older one unharmed
+-- ---- demand 3
 
--- The list rs is written under `new`, which gives the bytes s. With room for as many records, `old` reads s without refusal, as a list that shows what
--- is to be read; and writing that list under `old`, with s for its payload, gives s again. `room` is for records and `space` for bytes.
+-- What it asks for: two valid schemas, the old one being the new one with some entries left out; a list that is valid under the new one and at most
+-- 2,147,483,647 bytes when written; `room` for as many records, and `space` for those bytes.
+pub record Given (old new : Schema) (payload : List ℕ) (rs : List Record) (room space : ℕ) : Type 0 where
+  pub older : Older old new
+  pub old-valid : badSchema old ≡ none
+  pub new-valid : badSchema new ≡ none
+  pub list-valid : listCheck new payload rs ≡ Fine
+  pub small : length (written payload rs) ≤ limit
+  pub room-lent : length rs ≤ room
+  pub space-lent : length (written payload rs) ≤ space
+
+-- What it promises: the list is written under the new schema, which gives the bytes s; the old one reads s without refusal, as a list; that list shows what is to
+-- be read, and has no more records than were written; and writing it under the old schema, with s for its payload, gives s again.
 pub record GoesOnward (old new : Schema) (payload : List ℕ) (rs : List Record) (room space : ℕ) (s : List ℕ) : Type 0 where
   pub list : List Record
   pub writes : writing new space payload rs ≡ Wrote s
@@ -126,3 +144,9 @@ pub record GoesOnward (old new : Schema) (payload : List ℕ) (rs : List Record)
   pub shows : map (seen s) list ≡ onward old payload rs
   pub no-more : length list ≤ length rs
   pub again : writing old space s list ≡ Wrote s
+
+-- The demand. OnwardLaws.demand-three proves it.
+abbrev pub DemandThree : Type 0
+DemandThree =
+    (old new : Schema) (payload : List ℕ) (rs : List Record) (room space : ℕ)
+    → Given old new payload rs room space → GoesOnward old new payload rs room space (written payload rs)

@@ -252,7 +252,7 @@ module _ (sch : Schema) (payload s : List ℕ) where
       elements-cons c d m k t at b x
       ∙ ap (λ (r : Read). element r t (λ v n. row d m k v at (at + n) t then elements (length (drop n (b ∷ x))) c d m k t (at + n) (drop n (b ∷ x)))) e
 
-  values-back : {c : Scalar} {m k d : ℕ} {rs : List Record} {b : List ℕ} → shape k ≡ one c → Values c m k d rs b → (t at : ℕ)
+  pub values-back : {c : Scalar} {m k d : ℕ} {rs : List Record} {b : List ℕ} → shape k ≡ one c → Values c m k d rs b → (t at : ℕ)
       → (qs : List Record) × (elements (length b) c d m k t at b ≡ after qs Done) × Alike s payload qs rs × Values c m k d qs b
   unfolding after elements
   values-back sh no-value t at = ([], refl, nothing-left, no-value)
