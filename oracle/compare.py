@@ -41,6 +41,8 @@ def falls(line):
 def rule(verb, crate, model):
     """Why the whole line is not compared with the crate; none where it is."""
     number = model.split(' ', 1)[0]
+    if model == 'bad line':
+        return 'bad line'
     if crate in LEFT:
         return LEFT[crate]
     if verb in ('read', 'size', 'write') and number == '9' or verb == 'records' and '/refused 9 ' in model:
