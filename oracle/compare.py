@@ -12,7 +12,7 @@ RULES = {
     'room': '8: the crate has no room; the records before it are compared',
     'place': 'the place of a refused reading; all else of the answer is compared',
     'enum': 'a packed negative enum, which the crate counts as five bytes',
-    'limit': 'a size above the limit, which size calls of the crate do not judge',
+    'long': 'the size of a content of more than 1,048,576 bytes: the crate asks for the bytes themselves, and judges no limit',
     'group': 'kind 10, which the crate gives the wire type of a message',
     'bad line': 'a line that is no case',
     'past': 'bare stream: a message or packed length runs past the slice; the limited stream is compared',
@@ -21,8 +21,7 @@ RULES = {
 LEFT = {
     'left out: the crate has no such call': 'own',
     'left out: a packed negative enum': 'enum',
-    'left out: a content above the size limit': 'limit',
-    'left out: a size above the limit': 'limit',
+    'left out: a long content': 'long',
     'left out: the wire type of groups': 'group',
     'left out: bad line': 'bad line',
 }

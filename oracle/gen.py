@@ -312,7 +312,7 @@ class Lines(Maker):
         lines = ['encode %d' % v, 'vsize %d' % v, 'tagsize %d' % n, 'zdec32 %d' % v32, 'zdec64 %d' % v, 'zenc64 %d' % v, 'zenc32 %d' % self.value(17),
                  'tag %d' % self.pattern(32), 'tag %d' % r.randrange(70), 'maketag %d %d' % (n, r.randrange(8)), 'wire %d' % r.choice([r.randrange(30), U32, v32]),
                  'msgsize %d' % r.choice([v, 2147483647, 2147483648, 2147483646]),
-                 'fieldsize %d %d %d' % ((kind, n, self.value(kind)) if kind in NUMBERS else (9 if kind == 9 else 12, n, r.choice([r.randrange(300), self.pattern(20)]))),
+                 'fieldsize %d %d %d' % ((kind, n, self.value(kind)) if kind in NUMBERS else (9 if kind == 9 else 12, n, r.choice([r.randrange(300), self.pattern(20), self.pattern(20), r.choice([self.pattern(), 2147483630 + r.randrange(30)])]))),
                  'packedsize %d %d %s' % (self.packed_values(r.choice(NUMBERS)))]
         lines += ['varint%d %s' % (bits, self.varint_bytes().hex() or '-') for bits in (32, 64)]
         return lines

@@ -548,7 +548,7 @@ def value_size(kind, v):
 
 
 def field_size(kind, num, v):
-    if kind in (9, 12):
+    if kind in (9, 11, 12):
         return limited(vsize(num * 8) + vsize(v) + v)
     numeric(kind, v)
     return limited(vsize(num * 8) + value_size(kind, v))
