@@ -444,8 +444,19 @@ class Lines(Maker):
         tail = r.choice([[], [(levels, 2, 17, 5, 0, 0)], [(levels, 2, 20, 0, 0, 0), (levels + 1, 2, 17, 5, 0, 0)], [(levels, 3, 9, 0, 0, 1)], [(levels + 1, 2, 17, 5, 0, 0)], [(levels, 1, 11, 1, 0, 0)]])
         payload = r.choice(['41', 'ff'])
         lines += ['size %s %s %s' % (s, list_word(head + tail), payload), 'write %s %s %s 700' % (s, list_word(head + tail), payload)]
+        if r.random() < .05:
+            lines += self.long()
         level = r.choice([98, 99, 100])
         return lines + ['pull %d enter,tag,enter,tag,skip:11,leave %s' % (level, hexed(counted(b'\x0a' + counted(b'\x0b' + b'\x0b\x0c\x0c'))))]
+
+    def long(self):
+        """Lines, rooms and answers about as long as they may be."""
+        r = self.r
+        count = r.choice([4094, 4095, 4096, 4097])
+        lines = ['utf8 ' + 'c3a4' * ((65536 - 5) // 4 + r.randrange(2)), 'read %s %d %s' % (A, r.choice([4095, 4096]), '0801' * count), 'records %s %s' % (A, '0801' * r.choice([1023, 1024, 1025]))]
+        lines.append('write %s %s - %d' % (A, list_word([(0, 4, 20, 0, 0, 0)] + [(1, 4, 17, 1, 0, 0)] * count), count + r.choice([2, 3, 4])))
+        content, times = r.choice([20000, 21000]), r.randrange(1, 5)
+        return lines + ['write 1|0,1,12,1,0 %s %s 65536' % (list_word([(0, 1, 12, 0, 0, content)] * times), '00' * content)]
 
     def lists(self):
         r = self.r

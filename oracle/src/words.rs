@@ -15,16 +15,28 @@ impl<'a> Line<'a> {
     }
     /// So many words behind the verb, no more and no fewer.
     pub fn words(&self, count: usize) -> Parsed<&[&'a str]> {
-        if self.0.len() == count + 1 { Some(&self.0[1..]) } else { None }
+        if self.0.len() == count + 1 {
+            Some(&self.0[1..])
+        } else {
+            None
+        }
     }
 }
 
 pub fn number<T: std::str::FromStr>(word: &str) -> Parsed<T> {
-    if word.bytes().all(|b| b.is_ascii_digit()) { word.parse().ok() } else { None }
+    if word.bytes().all(|b| b.is_ascii_digit()) {
+        word.parse().ok()
+    } else {
+        None
+    }
 }
 
 pub fn numbers<T: std::str::FromStr>(word: &str, by: char) -> Parsed<Vec<T>> {
-    if word == "-" { Some(Vec::new()) } else { word.split(by).map(number).collect() }
+    if word == "-" {
+        Some(Vec::new())
+    } else {
+        word.split(by).map(number).collect()
+    }
 }
 
 pub fn bytes(word: &str) -> Parsed<Vec<u8>> {
@@ -137,5 +149,9 @@ pub fn both(limited: String, bare: String, past: bool) -> String {
     if past {
         return limited + "\tpast";
     }
-    if limited == bare { limited } else { format!("{} BARE {}", limited, bare) }
+    if limited == bare {
+        limited
+    } else {
+        format!("{} BARE {}", limited, bare)
+    }
 }

@@ -244,19 +244,32 @@ fn no_overflow() {
     let bytes = [0u8, 1, 0x0f, 0x10, 0x7f, 0x80, 0x81, 0x8f, 0x90, 0xff];
     for length in 0..=6usize {
         for mut i in 0..bytes.len().pow(length as u32) {
-            let b: Vec<u8> = (0..length).map(|_| { let x = bytes[i % bytes.len()]; i /= bytes.len(); x }).collect();
+            let b: Vec<u8> = (0..length)
+                .map(|_| {
+                    let x = bytes[i % bytes.len()];
+                    i /= bytes.len();
+                    x
+                })
+                .collect();
             tried(&b);
         }
     }
     println!("every slice of up to 6 of the bytes {}: read {}, refused otherwise {}, U32Overflow {}", hex(&bytes), seen[0], seen[1], seen[2]);
     let b = [0xff, 0xff, 0xff, 0xff, 0x7f];
     let mut reader = std::io::BufReader::with_capacity(1, &b[..]);
-    println!("the same crate over a BufRead that gives a byte at a time, {}: {}", hex(&b), told(CodedInputStream::from_buf_read(&mut reader).read_raw_varint32()));
+    println!(
+        "the same crate over a BufRead that gives a byte at a time, {}: {}",
+        hex(&b),
+        told(CodedInputStream::from_buf_read(&mut reader).read_raw_varint32())
+    );
 }
 
 fn kinds() {
     title("a known number with another wire type (google.protobuf.Value, 1 enum: 0a00)");
-    println!("generated code {}", told(Value::parse_from_bytes(&[0x0a, 0]).map(|v| v.unknown_fields().iter().map(|u| format!("unknown {:?}", u)).collect::<Vec<_>>())));
+    println!(
+        "generated code {}",
+        told(Value::parse_from_bytes(&[0x0a, 0]).map(|v| v.unknown_fields().iter().map(|u| format!("unknown {:?}", u)).collect::<Vec<_>>()))
+    );
     println!("dynamic message {}", told(dynamic(&[0x0a, 0]).map(|_| "read")));
     title("kind 10, a bool above 1, and a group as an unknown value");
     println!("WireType::for_type(TYPE_GROUP) = {:?}", WireType::for_type(protobuf::descriptor::field_descriptor_proto::Type::TYPE_GROUP));
