@@ -1,0 +1,579 @@
+#!/usr/bin/env python3
+"""gen.py LINES SEED: writes so many case lines. First short inputs, all of them where LINES is 1,000,000 or more (else every so-many-th); then lines of every
+verb, valid, damaged and adversarial, by a seeded random choice."""
+import random
+import sys
+
+A = '2|0,1,5,0,0;0,2,9,0,0;0,3,11,0,1;0,4,17,1,0;0,5,2,0,0;0,7,8,0,0;1,1,13,0,0;1,2,12,0,0;1,3,11,0,1'
+B = '2|0,1,5,0,0;0,2,9,0,0;0,3,11,0,1;1,1,13,0,0;1,3,11,0,1'
+KINDS = [1, 2, 3, 4, 5, 6, 7, 8, 9, 11, 12, 13, 14, 15, 16, 17, 18]
+NUMBERS = [k for k in KINDS if k not in (9, 11, 12)]
+WIRE = {1: 1, 2: 5, 3: 0, 4: 0, 5: 0, 6: 1, 7: 5, 8: 0, 9: 2, 11: 2, 12: 2, 13: 0, 14: 0, 15: 5, 16: 1, 17: 0, 18: 0}
+STEPS = 'int32 int64 uint32 uint64 sint32 sint64 fixed32 fixed64 sfixed32 sfixed64 float double bool enum'.split()
+NAME = {1: 'double', 2: 'float', 3: 'int64', 4: 'uint64', 5: 'int32', 6: 'fixed64', 7: 'fixed32', 8: 'bool', 9: 'string', 11: 'enter', 12: 'bytes',
+        13: 'uint32', 14: 'enum', 15: 'sfixed32', 16: 'sfixed64', 17: 'sint32', 18: 'sint64'}
+U32, U64 = (1 << 32) - 1, (1 << 64) - 1
+MAX_NUMBER = 536870911
+# broken UTF-8 in each way of RFC 3629, and the strings at the borders of what is right
+BROKEN = ['80', 'bf', 'c0', 'c080', 'c1bf', 'c2', 'c241', 'c2c0', 'df7f', 'e0', 'e080', 'e09f80', 'e0a0', 'e0a041', 'e180', 'e18041', 'e1c080', 'ec7f80', 'eda080',
+          'edbfbf', 'ee80c0', 'efbf', 'f0', 'f08080', 'f08f8080', 'f0908041', 'f09080', 'f18080', 'f1808041', 'f180c080', 'f37fbfbf', 'f4908080', 'f48fbf', 'f5808080',
+          'f8888080', 'fe', 'ff', '41ff42', 'e282', 'f09f98']
+GOOD = ['', '41', '7f', 'c280', 'dfbf', 'e0a080', 'e0bfbf', 'e18080', 'ecbfbf', 'ed8080', 'ed9fbf', 'ee8080', 'efbfbf', 'f0908080', 'f0bfbfbf', 'f1808080', 'f3bfbfbf',
+        'f4808080', 'f48fbfbf', '00']
+
+
+def varint(v):
+    out = bytearray()
+    while v > 127:
+        out.append(v & 127 | 128)
+        v >>= 7
+    out.append(v)
+    return bytes(out)
+
+
+def longer(v, size):
+    """v in so many bytes, more than are needed."""
+    out = bytearray(v >> 7 * i & 127 | 128 for i in range(size))
+    out[-1] &= 127
+    return bytes(out)
+
+
+def tag(number, wire):
+    return varint(number * 8 + wire)
+
+
+def counted(content):
+    return varint(len(content)) + bytes(content)
+
+
+def hexed(b):
+    return bytes(b).hex() or '-'
+
+
+def nested(levels, number, inner=b''):
+    for _ in range(levels):
+        inner = tag(number, 2) + counted(inner)
+    return inner
+
+
+def schema_word(types, entries):
+    return '%d|%s' % (types, ';'.join(','.join(map(str, e)) for e in entries) or '-')
+
+
+# ---- values and messages
+
+class Maker:
+    """Random values, schemas, messages and lists."""
+
+    def __init__(self, seed):
+        self.r = random.Random(seed)
+
+    def pattern(self, bits=64):
+        """A number at a border, or any."""
+        r = self.r
+        top = (1 << bits) - 1
+        w = r.randrange(6)
+        if w == 0:
+            return r.randrange(4)
+        if w == 1:
+            return max(0, min(top, (1 << r.randrange(bits + 1)) + r.randrange(-2, 3)))
+        if w == 2:
+            return top - r.randrange(3)
+        if w == 3:
+            return r.randrange(300)
+        return r.getrandbits(r.randrange(1, bits + 1))
+
+    def value(self, kind):
+        """One of the kind's values."""
+        if kind in (5, 14, 15, 17):
+            v = self.pattern(32)
+            return v | (U64 ^ U32) if v >> 31 else v
+        if kind in (2, 7, 13, 24):
+            return self.pattern(32)
+        if kind == 8:
+            return self.r.randrange(2)
+        return self.pattern()
+
+    def text(self):
+        r = self.r
+        return bytes.fromhex(''.join(r.choice(GOOD) for _ in range(r.randrange(4))))
+
+    def content(self):
+        return bytes(self.r.randrange(256) for _ in range(self.r.choice([0, 1, 2, 3, 5, 20])))
+
+    def number(self):
+        r = self.r
+        return r.choice([1, 2, 3, 4, 5, 7, 15, 16, 17, 100, 2047, 2048, 18999, 262143, 262144, MAX_NUMBER - 1, MAX_NUMBER, r.randrange(1, MAX_NUMBER + 1)])
+
+    def schema(self):
+        """A valid schema of a few types; mostly small numbers, so that messages meet them."""
+        r = self.r
+        types = r.choice([1, 1, 2, 2, 3, 4, 32])
+        entries = []
+        for owner in range(min(types, 4)):
+            numbers = sorted(set(r.randrange(1, 9) if r.random() < .8 else self.number() for _ in range(r.randrange(7))))
+            for n in numbers:
+                kind = r.choice(KINDS + [11, 11, 14, 17])
+                entries.append((owner, n, kind, r.randrange(2), r.randrange(types) if kind == 11 else 0))
+        return types, entries
+
+    def encoded(self, kind, v):
+        if WIRE[kind] == 1:
+            return v.to_bytes(8, 'little')
+        if WIRE[kind] == 5:
+            return (v & U32).to_bytes(4, 'little')
+        if kind in (17, 18):
+            s = v - (1 << 64) if v >> 63 else v
+            v = 2 * s if s >= 0 else -2 * s - 1
+        if kind == 8 and self.r.random() < .1:
+            v = self.pattern()
+        b = varint(v)
+        most = 5 if kind in (13, 17) else 10
+        if len(b) < most and self.r.random() < .05:
+            return longer(v, self.r.randrange(len(b), most + 1))
+        return b
+
+    def group(self, deep):
+        r = self.r
+        out = tag(self.number(), 3)
+        for _ in range(r.randrange(3)):
+            out += self.group(deep - 1) if deep and r.random() < .4 else self.unknown(r.choice([0, 1, 2, 5]), self.number())
+        return out + tag(self.number(), 4)
+
+    def unknown(self, wire, n):
+        if wire == 3:
+            return self.group(2)
+        body = {0: lambda: varint(self.pattern()), 1: lambda: self.r.randbytes(8), 2: lambda: counted(self.content()), 5: lambda: self.r.randbytes(4)}[wire]()
+        return tag(n, wire) + body
+
+    def field(self, entries, entry, deep):
+        """A field that the schema has, as it says."""
+        r = self.r
+        _, n, kind, repeated, child = entry
+        if repeated and WIRE[kind] != 2 and r.random() < .6:
+            return tag(n, 2) + counted(b''.join(self.encoded(kind, self.value(kind)) for _ in range(r.choice([0, 1, 2, 3, 6]))))
+        if kind == 9:
+            return tag(n, 2) + counted(self.text())
+        if kind == 12:
+            return tag(n, 2) + counted(self.content())
+        if kind == 11:
+            return tag(n, 2) + counted(self.message(entries, child, deep - 1))
+        return tag(n, WIRE[kind]) + self.encoded(kind, self.value(kind))
+
+    def message(self, entries, of_type, deep):
+        """A good message: known fields, and a few unknown ones."""
+        r = self.r
+        mine = [e for e in entries if e[0] == of_type]
+        out = bytearray()
+        for _ in range(r.randrange(4) if deep > 0 else 0):
+            if mine and r.random() < .75:
+                out += self.field(entries, r.choice(mine), deep)
+            else:
+                n = r.choice(mine)[1] if mine and r.random() < .5 else self.number()
+                out += self.unknown(r.choice([0, 1, 2, 3, 5]), n)
+        return bytes(out)
+
+    def damaged(self, b):
+        """One fault of some way in good bytes."""
+        r = self.r
+        b = bytearray(b)
+        way = r.randrange(9)
+        i = r.randrange(len(b) + 1)
+        if way == 0:
+            return b[:i]
+        if way == 1 and b:
+            b[r.randrange(len(b))] ^= 1 << r.randrange(8)
+        elif way == 2 and b:
+            b[r.randrange(len(b))] = r.randrange(256)
+        elif way == 3:
+            b[i:i] = r.choice([b'\xff' * 9 + b'\x01', b'\xff' * 9 + b'\x02', b'\x80' * 10, b'\xff\xff\xff\xff\x0f', b'\xff\xff\xff\xff\x10', b'\x80\x80\x80\x80\x80\x00'])
+        elif way == 4:
+            b[i:i] = bytes([r.choice([0, 6, 7, 0x0b, 0x0c, 0x0e, 0x0f, 0x80])])
+        elif way == 5:
+            b[i:i] = tag(r.randrange(1, 9), 2) + r.choice([varint((1 << 63) - 1), varint(1 << 63), varint(U64), varint(U32), varint(1 << 32), varint(1 << 31), varint(U64 - 12), b'\x7f'])
+        elif way == 6:
+            b += bytes.fromhex(r.choice(['08', '0a', '0a05', '80', '0d', '09', '1a80', 'ff']))
+        elif way == 7 and b:
+            del b[r.randrange(len(b))]
+        else:
+            b[i:i] = r.randbytes(r.randrange(1, 4))
+        return bytes(b)
+
+    # ---- lists
+
+    def records(self, entries, payload):
+        """A valid list of records; contents lie in the payload, which grows."""
+        out = []
+        self.run(entries, payload, out, 0, 0, self.r.randrange(5))
+        return out
+
+    def put_content(self, payload, content):
+        at = len(payload)
+        payload += content
+        return at, len(payload)
+
+    def run(self, entries, payload, out, of_type, depth, count):
+        r = self.r
+        mine = [e for e in entries if e[0] == of_type]
+        for _ in range(count):
+            if mine and r.random() < .8:
+                self.known(entries, payload, out, r.choice(mine), depth)
+            else:
+                self.stranger(mine, payload, out, depth)
+
+    def stranger(self, mine, payload, out, depth):
+        """A record of an unknown kind."""
+        r = self.r
+        kind = r.choice([21, 22, 23, 24])
+        wire = {21: 0, 22: 1, 23: 2, 24: 5}[kind]
+        n = self.number()
+        taken = {e[1]: e for e in mine}
+        if n in taken and (WIRE[taken[n][2]] == wire or (wire == 2 and taken[n][3])):
+            return
+        s = e = r.randrange(5)
+        if kind == 23:
+            s, e = self.put_content(payload, self.content())
+        out.append((depth, n, kind, 0 if kind == 23 else self.value(kind) if kind == 24 else self.pattern(), s, e))
+
+    def known(self, entries, payload, out, entry, depth):
+        r = self.r
+        _, n, kind, repeated, child = entry
+        s = e = r.randrange(5)
+        if kind == 9:
+            s, e = self.put_content(payload, self.text())
+        if kind == 12:
+            s, e = self.put_content(payload, self.content())
+        if repeated and WIRE[kind] != 2 and r.random() < .6:
+            out.append((depth, n, 20, 0, s, e))
+            out += [(depth + 1, n, kind, self.value(kind), s, e) for _ in range(r.choice([1, 1, 2, 3, 8]))]
+            return
+        out.append((depth, n, kind, 0 if kind in (9, 11, 12) else self.value(kind), s, e))
+        if kind == 11 and depth < 6:
+            self.run(entries, payload, out, child, depth + 1, r.randrange(3))
+
+    def spoilt(self, records, payload, entries):
+        """One fault of some way in a valid list."""
+        r = self.r
+        out = [list(x) for x in records]
+        if not out:
+            return [(r.choice([0, 1, 2, U64]), r.choice([0, 1, MAX_NUMBER + 1]), r.choice([0, 10, 19, 20, 25, 26, 5]), 0, 0, 0)]
+        i = r.randrange(len(out))
+        x = out[i]
+        way = r.randrange(12)
+        if way == 0:
+            x[0] += r.choice([1, 2, 99, 100, U64 - x[0]])
+        elif way == 1:
+            x[1] = r.choice([0, MAX_NUMBER + 1, x[1] + 1, U32, U64, 1 << 32 | x[1]])
+        elif way == 2:
+            x[2] = r.choice([0, 10, 19, 20, 25, 26, 27, U64, r.randrange(30)])
+        elif way == 3:
+            x[3] = r.choice([1, 2, 1 << 31, U32, 1 << 32, U64, U64 ^ U32, (1 << 63) - 1, U64 - (1 << 31), U64 + 1 - (1 << 31)])
+        elif way == 4:
+            x[4], x[5] = r.choice([(1, 0), (0, len(payload) + 1), (len(payload) + 1, len(payload) + 1), (U64, U64), (0, U64), (len(payload), len(payload))])
+        elif way == 5:
+            heads = [j for j, y in enumerate(out) if y[2] == 20]
+            if heads:
+                j = r.choice(heads)
+                del out[j + 1:r.choice([j + 2, len(out)])]
+        elif way == 6:
+            packed = [j for j in range(1, len(out)) if out[j - 1][2] == 20]
+            if packed:
+                y = out[r.choice(packed)]
+                y[r.choice([1, 2])] = r.choice([1, 2, 3, 5, 13, 17, y[1]])
+        elif way == 7:
+            del out[i]
+        elif way == 8:
+            out.insert(i, list(r.choice(out)))
+        elif way == 9:
+            s, e = self.put_content(payload, bytes.fromhex(r.choice(BROKEN)))
+            texts = [y for y in out if y[2] == 9]
+            if texts:
+                y = r.choice(texts)
+                y[4], y[5] = s, e
+        elif way == 10:
+            x[0] = max(0, x[0] - 1)
+        else:
+            r.shuffle(out)
+        return [tuple(y) for y in out]
+
+
+# ---- lines
+
+def list_word(records):
+    return ';'.join(','.join(map(str, x)) for x in records) or '-'
+
+
+class Lines(Maker):
+    """Each method gives a few lines of one family."""
+
+    def leaf(self):
+        r = self.r
+        v, v32, kind, n = self.pattern(), self.pattern(32), r.choice(KINDS), r.choice([self.number(), self.number(), 0, MAX_NUMBER + 1, U32])
+        lines = ['encode %d' % v, 'vsize %d' % v, 'tagsize %d' % n, 'zdec32 %d' % v32, 'zdec64 %d' % v, 'zenc64 %d' % v, 'zenc32 %d' % self.value(17),
+                 'tag %d' % self.pattern(32), 'tag %d' % r.randrange(70), 'maketag %d %d' % (n, r.randrange(8)), 'wire %d' % r.choice([r.randrange(30), U32, v32]),
+                 'msgsize %d' % r.choice([v, 2147483647, 2147483648, 2147483646]),
+                 'fieldsize %d %d %d' % ((kind, n, self.value(kind)) if kind in NUMBERS else (9 if kind == 9 else 12, n, r.choice([r.randrange(300), self.pattern(20), self.pattern(20), r.choice([self.pattern(), 2147483630 + r.randrange(30)])]))),
+                 'packedsize %d %d %s' % (self.packed_values(r.choice(NUMBERS)))]
+        lines += ['varint%d %s' % (bits, self.varint_bytes().hex() or '-') for bits in (32, 64)]
+        return lines
+
+    def packed_values(self, kind):
+        r = self.r
+        return kind, self.number(), ','.join(str(self.value(kind)) for _ in range(r.choice([0, 1, 2, 3, 10, 40]))) or '-'
+
+    def varint_bytes(self):
+        r = self.r
+        w = r.randrange(4)
+        if w == 0:
+            b = varint(self.pattern())
+        elif w == 1:
+            b = longer(self.pattern(), r.randrange(1, 12))
+        elif w == 2:
+            b = bytes(r.choice([0x80, 0xff, r.randrange(128, 256)]) for _ in range(r.choice([3, 4, 5, 8, 9, 10]))) + bytes([r.choice([0, 1, 2, 0x0f, 0x10, 0x7f, 0x80])])
+        else:
+            b = r.randbytes(r.randrange(12))
+        return b[:r.randrange(len(b) + 1)] if r.random() < .2 else b + r.randbytes(r.randrange(3))
+
+    def utf8(self):
+        r = self.r
+        b = bytes.fromhex(''.join(r.choice(GOOD) for _ in range(r.randrange(5))))
+        lines = ['utf8 ' + hexed(b), 'utf8 ' + hexed(self.damaged(b))]
+        i = r.randrange(len(b) + 1)
+        lines.append('utf8 ' + hexed(b[:i] + bytes.fromhex(r.choice(BROKEN)) + b[i:]))
+        lines.append('utf8 ' + hexed(bytes(r.choice([0x41, 0x7f, 0x80, 0x8f, 0x90, 0x9f, 0xa0, 0xbf, 0xc1, 0xc2, 0xdf, 0xe0, 0xed, 0xef, 0xf0, 0xf4, 0xf5]) for _ in range(4))))
+        return lines
+
+    def groups(self):
+        """Skips and the document check over nested groups, at levels around 100."""
+        r = self.r
+        level = r.choice([0, 0, 0, 1, 50, 98, 99, 100, 101, 250, U32])
+        t = r.choice([11, 11, 11, 8, 9, 10, 13, 12, 14, 15, 0, 3, self.number() * 8 + r.randrange(8)])
+        b = r.choice([self.group(3), self.group(1)[1:], self.message([], 0, 2)])
+        b = self.damaged(b) if r.random() < .5 else b
+        many, more = r.choice([1, 2, 98, 99, 100, 101, 102]), r.choice([-1, 0, 0, 0, 1])
+        near = b'\x0b' * many + (b'\x08\x01' if r.random() < .2 else b'') + b'\x0c' * max(0, many + more)
+        lines = ['%s %d %d %s' % (v, level, t, hexed(b)) for v in ('skip', 'group')]
+        lines += ['%s %d %d %s' % (v, r.choice([0, 0, 0, 1, 99, 100]), 11, hexed(near)) for v in ('skip', 'group')]
+        return lines + ['document ' + hexed(near), 'document ' + hexed(b)]
+
+    def schemas(self):
+        """A valid schema, one fault in it, and searches."""
+        r = self.r
+        types, entries = self.schema()
+        bad = [list(e) for e in entries]
+        bad_types = types
+        way = r.randrange(13)
+        if way == 0 or not bad:
+            bad_types = r.choice([0, 33, 34, U32, types])
+        else:
+            e = r.choice(bad)
+            if way == 1:
+                e[0] = r.choice([types, types + 1, U32])
+            elif way == 2:
+                e[1] = r.choice([0, MAX_NUMBER + 1, U32])
+            elif way == 3:
+                e[2] = r.choice([0, 10, 19, 20, 25, U32])
+            elif way == 4:
+                e[3] = 2
+            elif way == 5:
+                e[4] = r.choice([types, types + 1, 1, U32])
+            elif way == 6:
+                r.shuffle(bad)
+            elif way == 7:
+                bad.insert(r.randrange(len(bad)), list(e))
+            elif way == 8:
+                bad = [[0, i + 1, 4, 0, 0] for i in range(r.choice([255, 256, 257, 300]))]
+            elif way == 9:
+                e[2], e[4] = 11, r.choice([types - 1, types])
+        lines = ['schema ' + schema_word(types, entries), 'schema ' + schema_word(bad_types, bad)]
+        for _ in range(2):
+            e = r.choice(entries) if entries else (0, 1)
+            lines.append('lookup %s %d %d' % (schema_word(types, entries), e[0] if r.random() < .8 else r.randrange(4), e[1] if r.random() < .7 else self.number()))
+        lines.append('lookup %s %d %d' % (schema_word(bad_types, bad), r.randrange(3), r.randrange(9)))
+        if r.random() < .3:
+            lines.append('read %s 5 %s' % (schema_word(bad_types, bad), hexed(self.message(entries, 0, 2))))
+            lines.append('size %s %s -' % (schema_word(bad_types, bad), list_word(self.records(entries, bytearray()))))
+        return lines
+
+    def reads(self):
+        r = self.r
+        types, entries = self.schema()
+        word = schema_word(types, entries)
+        b = self.message(entries, 0, 4)
+        lines = ['read %s %d %s' % (word, r.choice([100, 100, 4096]), hexed(b))]
+        lines += ['read %s 100 %s' % (word, hexed(self.damaged(b))) for _ in range(5)]
+        lines += ['read %s %d %s' % (word, r.randrange(6), hexed(b)), 'read %s %d %s' % (word, r.randrange(4), hexed(self.damaged(b)))]
+        lines.append('records %s %s' % (word, hexed(b if r.random() < .4 else self.damaged(b))))
+        return lines
+
+    def cuts(self):
+        """Every cut of a good message."""
+        types, entries = self.schema()
+        word = schema_word(types, entries)
+        b = self.message(entries, 0, 4)[:60]
+        return ['read %s 100 %s' % (word, hexed(b[:i])) for i in range(len(b) + 1)]
+
+    def rooms(self):
+        """A message with room for all its records, for one fewer, for one and for none. The count is not known here: all rooms up to one of them are tried."""
+        types, entries = self.schema()
+        word = schema_word(types, entries)
+        b = self.message(entries, 0, 3)[:40]
+        return ['read %s %d %s' % (word, room, hexed(b)) for room in range(min(len(b), 8) + 1)]
+
+    def packed(self):
+        """A packed field of each kind whose last element is bad."""
+        r = self.r
+        kind = r.choice(NUMBERS)
+        word = schema_word(1, [(0, 1, kind, 1, 0)])
+        good = b''.join(self.encoded(kind, self.value(kind)) for _ in range(r.randrange(4)))
+        bad = r.choice([b'\x80', b'\xff' * 4 + b'\x10', b'\xff' * 5, b'\xff' * 9 + b'\x02', b'\x80' * 10, b'\x80\x80\x80\x80\x08', b'\xff\xff\xff\xff\x0f', b'\x01\x02\x03', b'\x01'])
+        body = good + bad
+        field = tag(1, 2) + counted(body)
+        lines = ['read %s 9 %s' % (word, hexed(field)), 'read %s 9 %s' % (word, hexed(field[:r.randrange(len(field) + 1)])), 'read %s %d %s' % (word, r.randrange(5), hexed(field))]
+        return lines + ['read %s 9 %s' % (word, hexed(tag(1, 2) + varint(len(body) + r.choice([-1, 1, 2, 100, U32, 1 << 62])) + body))]
+
+    def deep(self):
+        """Messages, groups and lists around the deepest that there may be."""
+        r = self.r
+        levels = r.choice([98, 99, 100, 101, 102])
+        s = '1|0,1,11,0,0;0,2,17,1,0;0,3,9,1,0'
+        inner = r.choice([b'', b'\x10\x01', b'\x12\x02\x01\x02', b'\x0a', b'\x0a\xff', b'\x0b\x0c', b'\x0b\x13\x0c\x0c', b'\x0b', b'\x08', b'\x0a\x00', b'\x1a\x01\xff', b'\x0b\x13\x13\x0c\x0c\x0c'])
+        b = nested(levels, 1, inner)
+        lines = ['read %s %d %s' % (s, r.choice([200, 99, 100, 101, 102]), hexed(b))]
+        head = [(d, 1, 11, 0, 0, 0) for d in range(levels)]
+        tail = r.choice([[], [(levels, 2, 17, 5, 0, 0)], [(levels, 2, 20, 0, 0, 0), (levels + 1, 2, 17, 5, 0, 0)], [(levels, 3, 9, 0, 0, 1)], [(levels + 1, 2, 17, 5, 0, 0)], [(levels, 1, 11, 1, 0, 0)]])
+        payload = r.choice(['41', 'ff'])
+        lines += ['size %s %s %s' % (s, list_word(head + tail), payload), 'write %s %s %s 700' % (s, list_word(head + tail), payload)]
+        if r.random() < .05:
+            lines += self.long()
+        level = r.choice([98, 99, 100])
+        return lines + ['pull %d enter,tag,enter,tag,skip:11,leave %s' % (level, hexed(counted(b'\x0a' + counted(b'\x0b' + b'\x0b\x0c\x0c'))))]
+
+    def long(self):
+        """Lines, rooms and answers about as long as they may be."""
+        r = self.r
+        count = r.choice([4094, 4095, 4096, 4097])
+        lines = ['utf8 ' + 'c3a4' * ((65536 - 5) // 4 + r.randrange(2)), 'read %s %d %s' % (A, r.choice([4095, 4096]), '0801' * count), 'records %s %s' % (A, '0801' * r.choice([1023, 1024, 1025]))]
+        lines.append('write %s %s - %d' % (A, list_word([(0, 4, 20, 0, 0, 0)] + [(1, 4, 17, 1, 0, 0)] * count), count + r.choice([2, 3, 4])))
+        content, times = r.choice([20000, 21000]), r.randrange(1, 5)
+        return lines + ['write 1|0,1,12,1,0 %s %s 65536' % (list_word([(0, 1, 12, 0, 0, content)] * times), '00' * content)]
+
+    def lists(self):
+        r = self.r
+        types, entries = self.schema()
+        word = schema_word(types, entries)
+        payload = bytearray()
+        records = self.records(entries, payload)
+        if r.random() < .3:
+            payload += b'zz'
+        lines = ['size %s %s %s' % (word, list_word(records), hexed(payload)), 'write %s %s %s 4000' % (word, list_word(records), hexed(payload))]
+        for room in r.sample(range(40), 3):
+            lines.append('write %s %s %s %d' % (word, list_word(records), hexed(payload), room))
+        for verb in ('size', 'write', 'write'):
+            more = bytearray(payload)
+            bad = self.spoilt(records, more, entries)
+            lines.append('%s %s %s %s%s' % (verb, word, list_word(bad), hexed(more), ' 4000' if verb == 'write' else ''))
+        return lines
+
+    def exact(self):
+        """A short list with every room up to more than it needs."""
+        types, entries = self.schema()
+        payload = bytearray()
+        records = self.records(entries, payload)[:3]
+        if records and records[-1][2] == 20:
+            records = records[:-1]
+        return ['write %s %s %s %d' % (schema_word(types, entries), list_word(records), hexed(payload), room) for room in range(14)]
+
+    def pulls(self):
+        r = self.r
+        types, entries = self.schema()
+        out, steps = bytearray(), []
+        self.walk(entries, 0, out, steps, 3)
+        b = bytes(out)
+        lines = []
+        for damage in (False, False, True):
+            if damage:
+                b = self.damaged(b)
+            mixed = [s if r.random() > .15 else r.choice(STEPS + ['tag', 'bytes', 'string', 'enter', 'leave', 'skip:%d' % r.choice([8, 9, 10, 11, 12, 13, 14, 0, self.pattern(32)])]) for s in steps]
+            for some in (steps, mixed):
+                lines.append('pull %d %s %s' % (r.choice([0, 0, 0, 97, 98, 99, 100]), ','.join(some[:60]) or 'tag', hexed(b)))
+        return lines
+
+    def walk(self, entries, of_type, out, steps, deep):
+        """A message, and the steps that read it."""
+        r = self.r
+        mine = [e for e in entries if e[0] == of_type]
+        for _ in range(r.randrange(1, 4)):
+            if not mine or r.random() < .2:
+                n, wire = self.number(), r.choice([0, 1, 2, 3, 5])
+                out += self.unknown(wire, n)
+                steps += ['tag', 'skip:%d' % (n * 8 + wire)]
+                continue
+            e = r.choice(mine)
+            steps.append('tag')
+            if e[2] != 11:
+                out += self.field(entries, (e[0], e[1], e[2], 0, 0), deep)
+                steps.append(NAME[e[2]])
+                continue
+            inner = bytearray()
+            steps.append('enter')
+            if deep:
+                self.walk(entries, e[4], inner, steps, deep - 1)
+            steps.append('leave')
+            out += tag(e[1], 2) + counted(inner)
+        if r.random() < .5:
+            steps.append('tag')
+
+    def no_case(self):
+        """Lines that are no case."""
+        r = self.r
+        good = r.choice([self.leaf()[0], self.leaf()[-1], 'read %s 5 0801' % A, 'write %s - - 5' % A, 'size %s - -' % A, 'pull 0 tag 08', 'skip 0 8 01', 'schema ' + A, 'lookup %s 0 1' % A, 'utf8 41'])
+        words = good.split(' ')
+        return [r.choice(['', 'what 1', ' '.join(words[:-1]), good + ' 1', good + 'x', good[:-1] + 'G', 'varint64 0', 'varint64 0A', 'encode 18446744073709551616', 'tag 4294967296', 'encode -1', 'encode',
+                          'utf8 ', 'read %s 4097 -' % A, 'write %s - - 65537' % A, 'pull 101 tag 08', 'pull 0 tagg 08', 'pull 0 skip: 08', 'schema 1', 'schema 1|0,1,5,0', 'schema x|-', 'read 1|- 5',
+                          'size %s 0,1,5,1,0 -' % A, 'zdec32 4294967296', 'wire x', 'READ', 'varint64 8'])]
+
+
+FAMILIES = [('leaf', 6), ('utf8', 5), ('groups', 8), ('schemas', 6), ('reads', 22), ('cuts', 3), ('rooms', 4), ('packed', 8), ('deep', 2), ('lists', 18), ('exact', 3), ('pulls', 14), ('no_case', 1)]
+MATTER = bytes.fromhex('00 01 02 05 06 07 08 09 0a 0b 0c 0d 0e 0f 10 12 13 1a 1c 20 22 24 25 2d 38 7f 80 81 ff')
+LEADS = bytes.fromhex('00 7f 80 8f 90 9f a0 bf c0 c1 c2 df e0 e1 ec ed ee ef f0 f1 f3 f4 f5 ff')
+P = '1|0,1,5,1,0;0,4,13,1,0;0,5,7,1,0'
+
+
+def short():
+    """Every input of up to two bytes, and of three over the bytes that matter."""
+    two = [b''] + [bytes([a]) for a in range(256)] + [bytes([a, b]) for a in range(256) for b in range(256)]
+    for b in two:
+        h = hexed(b)
+        yield from ('read %s 9 %s' % (A, h), 'document ' + h, 'skip 0 11 ' + h, 'group 0 11 ' + h, 'utf8 ' + h)
+    for b in two[:257]:
+        h = hexed(b)
+        yield from ('varint32 ' + h, 'varint64 ' + h)
+    three = [bytes([a, b, c]) for a in MATTER for b in MATTER for c in MATTER]
+    for b in three:
+        h = hexed(b)
+        yield from ('read %s 9 %s' % (A, h), 'read %s 9 %s' % (P, h), 'skip 0 11 ' + h, 'group 0 11 ' + h, 'document ' + h)
+    for b in (bytes([a, b, c]) for a in LEADS for b in LEADS for c in LEADS):
+        yield 'utf8 ' + hexed(b)
+
+
+def main():
+    count, seed = int(sys.argv[1]), int(sys.argv[2])
+    out = sys.stdout
+    every = 1 if count >= 1000000 else 1000000 // max(count, 1) + 1
+    given = 0
+    for i, line in enumerate(short()):
+        if i % every == seed % every:
+            out.write(line + '\n')
+            given += 1
+    make = Lines(seed)
+    names = [n for n, w in FAMILIES for _ in range(w)]
+    while given < count:
+        lines = getattr(make, make.r.choice(names))()
+        for line in lines[:count - given]:
+            out.write(line + '\n')
+        given += min(len(lines), count - given)
+
+
+if __name__ == '__main__':
+    main()

@@ -1,0 +1,108 @@
+#!/usr/bin/env python3
+"""mutants.py: puts one fault after another into the model, and shows that the recorded lines alone find each: some answer differs from the recorded one.
+Exit status 1 where one is not found. A fault is a piece of text of model.py, which stands there exactly once, and what is put in its place."""
+import sys
+
+FAULTS = [
+    ('a varint64 of eleven bytes', 'return varint(b, at, end, 10, 1)', 'return varint(b, at, end, 11, 1)'),
+    ('the tenth byte not judged', 'return varint(b, at, end, 10, 1)', 'return varint(b, at, end, 10, 127)'),
+    ('the fifth byte not judged', 'return varint(b, at, end, 5, 15)', 'return varint(b, at, end, 5, 127)'),
+    ('a varint32 of ten bytes', 'return varint(b, at, end, 5, 15)', 'return varint(b, at, end, 10, 1)'),
+    ('a cut varint is bad', 'if at + i >= end:\n            raise Refused(1)', 'if at + i >= end:\n            raise Refused(2)'),
+    ('size of 0 is 0', 'return (max(v.bit_length(), 1) + 6) // 7', 'return (v.bit_length() + 6) // 7'),
+    ('size rounded otherwise', 'return (max(v.bit_length(), 1) + 6) // 7', 'return max(v.bit_length(), 1) // 7 + 1'),
+    ('zigzag of the minimum', 'return 2 * v if v >= 0 else -2 * v - 1', 'return (2 * v if v >= 0 else -2 * v - 1) & (U64 - 1) if v == -1 << 63 else (2 * v if v >= 0 else -2 * v - 1)'),
+    ('zigzag undone with the wrong sign', '-(n + 1 >> 1)', '-(n - 1 >> 1)'),
+    ('wire type 6 taken', 'if tag % 8 > 5 or tag < 8:', 'if tag % 8 > 6 or tag < 8:'),
+    ('number 0 taken', 'if tag % 8 > 5 or tag < 8:', 'if tag % 8 > 5:'),
+    ('int32 truncated, not refused', 'if kind in (5, 14) and not int32_fits(v):', 'if kind in (5,) and not int32_fits(v):'),
+    ('sfixed32 not sign-extended', '(v | (U64 ^ U32) if kind == 15 and v >> 31 else v), at', 'v, at'),
+    ('a bool above 1 kept', 'v = min(v, 1)', 'v = v'),
+    ('zigzag undone on an unknown varint', "as_kind = {21: 4, 22: 6, 24: 7}", "as_kind = {21: 18, 22: 6, 24: 7}"),
+    ('UTF-8 asked of bytes', 'if kind == 9 and not utf8(b[start:stop]):', 'if kind in (9, 12) and not utf8(b[start:stop]):'),
+    ('UTF-8 asked of unknown content', 'if kind == 9 and not utf8(b[start:stop]):', 'if kind in (9, 23) and not utf8(b[start:stop]):'),
+    ('UTF-8 not asked of a string', 'if kind == 9 and not utf8(b[start:stop]):', 'if False:'),
+    ('overlong c1', 'elif 0xc2 <= lead <= 0xdf:', 'elif 0xc1 <= lead <= 0xdf:'),
+    ('overlong e0', '{0xe0: (0xa0, 0xbf), 0xed', '{0xed'),
+    ('surrogates', '0xed: (0x80, 0x9f)', '0xed: (0x80, 0xbf)'),
+    ('overlong f0', '{0xf0: (0x90, 0xbf), 0xf4', '{0xf4'),
+    ('above 10ffff', '0xf4: (0x80, 0x8f)', '0xf4: (0x80, 0xbf)'),
+    ('f5 taken', 'elif 0xf0 <= lead <= 0xf4:', 'elif 0xf0 <= lead <= 0xf5:'),
+    ('a string length as wide as a message length', 'start, stop = content(b, at, end, varint32)\n            if kind == 9', 'start, stop = content(b, at, end, varint64)\n            if kind == 9'),
+    ('a message length as narrow as a string length', 'start, stop = content(self.b, at, end, varint64)\n        self.put(depth, num, 11', 'start, stop = content(self.b, at, end, varint32)\n        self.put(depth, num, 11'),
+    ('a packed length as narrow as a string length', 'start, stop = content(self.b, at, end, varint64)\n        if start < stop', 'start, stop = content(self.b, at, end, varint32)\n        if start < stop'),
+    ('a packed head counts as a level', 'self.put(depth, num, 20, 0, start, stop)', 'self.put(depth, num, 20, 0, start, stop)\n        if depth >= MAX_DEPTH:\n            raise Refused(7)'),
+    ('an empty packed field recorded', 'if start < stop:\n            self.put', 'if True:\n            self.put'),
+    ('a length may end one byte behind', 'if n > end - at:', 'if n > end - at + 1:'),
+    ('99 levels of messages', 'if depth == MAX_DEPTH:', 'if depth == MAX_DEPTH - 1:'),
+    ('101 levels of messages', 'if depth == MAX_DEPTH:', 'if depth == MAX_DEPTH + 1:'),
+    ('a head recorded after its content', 'self.put(depth, num, 11, 0, start, stop)\n        self.message(start, stop, child, depth + 1)', 'self.message(start, stop, child, depth + 1)\n        self.put(depth, num, 11, 0, start, stop)'),
+    ('7 judged after the length', 'if depth == MAX_DEPTH:\n            raise Refused(7)\n        start, stop = content(self.b, at, end, varint64)', 'start, stop = content(self.b, at, end, varint64)\n        if depth == MAX_DEPTH:\n            raise Refused(7)'),
+    ('the outermost group of the loop counted', 'at = skip_groups(b, at, end, depth, False)', 'at = skip_groups(b, at, end, depth, True)'),
+    ('the loop\'s level always 0', 'at = skip_groups(b, at, end, depth, False)', 'at = skip_groups(b, at, end, 0, False)'),
+    ('the end of the bytes never closes groups', 'if at == end and counted:\n            return at', 'if False:\n            return at'),
+    ('an end-group tag taken as a field', 'if wire == 4:\n                    raise Refused(4)', 'if wire == 4:\n                    continue'),
+    ('room of one more', 'if len(self.records) == self.room:', 'if len(self.records) == self.room + 1:'),
+    ('place of a nested fault is the outer tag', 'self.message(start, stop, child, depth + 1)\n        return stop', 'mine = self.place\n        try:\n            self.message(start, stop, child, depth + 1)\n        except Refused:\n            self.place = mine\n            raise\n        return stop'),
+    ('packed without repeated', 'if entry[3] and wire == 2 and WIRE[kind] != 2:', 'if wire == 2 and WIRE[kind] != 2:'),
+    ('33 types', 'if not 1 <= types <= 32', 'if not 1 <= types <= 33'),
+    ('257 entries', 'len(entries) > 256', 'len(entries) > 257'),
+    ('equal entries taken', 'before >= (owner, num)', 'before > (owner, num)'),
+    ('the place of the earlier of two not rising', 'raise Refused(9, i)', 'raise Refused(9, i if not good else i - 1)'),
+    ('number 536,870,912 in a schema', 'owner < types and 1 <= num <= MAX_NUMBER and', 'owner < types and 1 <= num <= MAX_NUMBER + 1 and'),
+    ('kind 10 in a schema', 'kind in WIRE and repeated', '(kind in WIRE or kind == 10) and repeated'),
+    ('a child with a number', '(child < types if kind == 11 else child == 0)', 'child < types'),
+    ('a list may jump', 'if depth >= len(inside):\n            raise Refused(10, i)', 'depth = min(depth, len(inside) - 1)'),
+    ('a packed head alone', 'if kind == 20 and (i + 1 == len(records) or', 'if kind == 20 and i + 1 < len(records) and ('),
+    ('an element of another kind', 'if (num, kind) != (of, element):', 'if num != of:'),
+    ('an element of another number', 'if (num, kind) != (of, element):', 'if kind != element:'),
+    ('a reversed range', 'not start <= end <= len(payload)', 'not end <= len(payload)'),
+    ('an empty range behind the payload', 'not start <= end <= len(payload)', 'start != end and not start <= end <= len(payload)'),
+    ('7 before 10', "if not fits(kind, v) or (kind in", "if kind == 11 and depth >= MAX_DEPTH:\n            raise Refused(7, i)\n        if not fits(kind, v) or (kind in"),
+    ('6 not asked of a list', 'if kind == 9 and not utf8(payload[start:end]):', 'if False:'),
+    ('message heads at depth 100 in a list', 'if kind == 11 and depth >= MAX_DEPTH:\n            raise Refused(7, i)', 'if kind == 11 and depth > MAX_DEPTH:\n            raise Refused(7, i)'),
+    ('kind 23 for a packable entry', 'return read_as(entry, UNKNOWN_WIRE[kind]) == kind', 'return read_as(entry, UNKNOWN_WIRE[kind]) in (kind, 20)'),
+    ('a negative enum in five bytes', 'return encode(zigzag(v) if kind in (17, 18) else v)', 'return encode(zigzag(v) if kind in (17, 18) else v & U32 if kind == 14 else v)'),
+    ('size of a negative enum five', 'vsize(zigzag(v) if kind in (17, 18) else v), 1:', 'vsize(zigzag(v) if kind in (17, 18) else v & U32 if kind == 14 else v), 1:'),
+    ('12 without the size', 'no, out = 12, b\'\'', 'no, size, out = 12, 0, b\'\''),
+    ('12 with room enough', 'if no == 0 and size > room:', 'if no == 0 and size >= room:'),
+    ('a pull reader that enters at level 100', 'if level >= MAX_DEPTH:\n                raise Refused(7)\n            self.inner', 'if level > MAX_DEPTH:\n                raise Refused(7)\n            self.inner'),
+    ('a pull reader that moves on a refusal', "return 'r%d@%d' % (r.number, at - start)", "self.readers[-1][2] = min(at + 1, end)\n            return 'r%d@%d' % (r.number, at - start)"),
+    ('the document check takes 101 groups', 'if opened > 100:', 'if opened > 101:'),
+    ('the document check takes open groups', 'return opened == 0', 'return True'),
+    ('a search gives the last of equal entries', 'for i, e in enumerate(entries):\n        if e[:2] == (owner, num):', 'for i, e in reversed(list(enumerate(entries))):\n        if e[:2] == (owner, num):'),
+]
+
+
+def found(source, lines, answers):
+    """The first recorded line that the faulty model answers otherwise; none where there is no such line."""
+    module = {'__name__': 'mutant'}
+    exec(compile(source, 'mutant', 'exec'), module)
+    for line, recorded in zip(lines, answers):
+        try:
+            if module['answer'](line) == recorded:
+                continue
+        except Exception as wrong:  # a fault may also break the model
+            return line, type(wrong).__name__
+        return line, 'another answer'
+    return None
+
+
+def main():
+    sys.setrecursionlimit(10000)
+    folder = sys.argv[1] if len(sys.argv) > 1 else '../crates/replay'
+    lines, answers = (open('%s/%s' % (folder, n), encoding='ascii').read().split('\n')[:-1] for n in ('stdin', 'stdout'))
+    source = open('model.py', encoding='utf-8').read()
+    missed = 0
+    assert found(source, lines, answers) is None, 'the model itself differs from what is recorded'
+    for name, old, new in FAULTS:
+        assert source.count(old) == 1, '%s: its text stands %d times in the model' % (name, source.count(old))
+        by = found(source.replace(old, new), lines, answers)
+        missed += by is None
+        print('%-48s %s' % (name, 'MISSED' if by is None else 'found by: ' + by[0][-70:] + ('' if by[1] == 'another answer' else ' (%s)' % by[1])))
+    print('%d faults, %d missed' % (len(FAULTS), missed))
+    sys.exit(1 if missed else 0)
+
+
+if __name__ == '__main__':
+    main()

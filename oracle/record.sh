@@ -1,0 +1,26 @@
+#!/bin/bash
+# record.sh: writes ../crates/replay/stdin and stdout: lines that cover every verb, kind and refusal, and their answers by the crate, or by the model where the
+# crate has none. The program `replay` is run over them by the gate, with no Rust at hand. The lines are own/lines.txt, and some of gen.py's.
+# After setup.sh. Nothing of ours takes part: the answers are the crate's and the model's, which must agree wherever both answer.
+set -eu
+cd "$(dirname "$0")"
+W=work/record; to=../crates/replay
+mkdir -p $W "$to"
+cargo build -q --release
+answer() { # lines in $1: answered by both sides, which must agree
+    target/release/oracle <"$1" >"$1.oracle"
+    python3 model.py <"$1" >"$1.model"
+    python3 compare.py "$1" "$1.oracle" "$1.model" "$1.model" >"$1.table" || { cat "$1.table"; exit 1; }
+}
+grep -v '^#' own/lines.txt >$W/own
+python3 gen.py 60000 7 | awk 'length($0) < 2500' | grep -v '^lookup' >$W/some
+python3 gen.py 20000 8 | grep '^lookup' | python3 -c 'import sys, compare; sys.stdout.writelines([l for l in sys.stdin if not compare.falls(l.strip())][:200])' >>$W/some
+answer $W/own
+answer $W/some
+cp $W/own $W/stdin; cp $W/own.model $W/stdout
+python3 pick.py $W/some $W/some.oracle $W/some.model $((5000 - $(wc -l <$W/own))) $W/stdin $W/stdout
+answer $W/stdin
+cmp $W/stdin.model $W/stdout
+cat $W/stdin.table
+cp $W/stdin $W/stdout "$to/"
+echo "recorded: $(wc -l <"$to/stdin") lines, $(wc -c <"$to/stdin") and $(wc -c <"$to/stdout") bytes"
