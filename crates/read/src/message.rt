@@ -27,17 +27,19 @@ enum Kind {
     Other,
 }
 
-// The kind of the field whose tag is the one byte c, of wire type 0. With the wire type turned to the front, such a tag is its number, 1 to 15: one test.
+// The kind of the field whose tag is the one byte c, of wire type 0.
 fn int_kind(keys: &[u64; 256], info: &[u8; 1024], c: u8, ty: u32) -> Kind
     requires { ⌜ ty < 32 ⌝ }
     ensures { λ r. ⌜ Tells (tableSays (now (keys .entry)) (now (info .entry)) ty) c r ⌝ }
 {
-    let turned = c % 8 * 32 + c / 8;
-    if 0 < turned {
-        if turned < 16 {
-            let i = index(info[ty as usize * 16 + turned as usize]);
-            if keys[i] == ty as u64 * 0x1_0000_0000 + c as u64 {
-                return Kind::Of(wide(info[512 + i]));
+    if c % 8 == 0 {
+        if c < 128 {
+            let number = c / 8;
+            if 0 < number {
+                let i = index(info[ty as usize * 16 + number as usize]);
+                if keys[i] == ty as u64 * 0x1_0000_0000 + c as u64 {
+                    return Kind::Of(wide(info[512 + i]));
+                }
             }
         }
     }
