@@ -11,8 +11,8 @@ mod sizes;
 
 use crate::bytes::put_list;
 use crate::sizes::list_size;
-use crate::sizes::wire_types;
 use wire::wire_format::MAX_MESSAGE_SIZE;
+use wire::wire_format::record_wires;
 
 // What a writing comes to: the refusal's number, 0 for none; the size, 0 on refusal, but for 12 the size that is needed; the index of the bad
 // record, or of the bad entry of the schema.
@@ -56,7 +56,7 @@ fn write_checked(list: &[u64], payload: &[u8], out: &mut [u8]) -> Answer
 {
     let r = by_size(out.len() as u64, list_size(list));
     if r.number == 0 {
-        let table = wire_types();
+        let table = record_wires();
         let size = r.size;
         put_list(&table, list, payload, out, size);
     }
