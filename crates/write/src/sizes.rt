@@ -137,7 +137,7 @@ fn run_size(table: &[u8; 25], list: &[u64], from: usize, depth: u64) -> Sum
 }
 
 // The size of a list that the check found without fault, cut off above the limit.
-fn list_size(list: &[u64]) -> u64
+pub(crate) fn list_size(list: &[u64]) -> u64
     requires { ⌜ Passed (recordsOf (now list)) ⌝ }
     ensures { λ r. ⌜ r ≡ capped (sizeOf (recordsOf (now (list .entry)))) ⌝ }
 {
