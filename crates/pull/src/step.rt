@@ -16,7 +16,7 @@ use skip::unknown_or_group::skip_field_for_tag;
 use wire::fixed::decode_fixed32;
 use wire::fixed::decode_fixed64;
 use wire::found::Found;
-use wire::utf8::is_utf8;
+use utf8::is_utf8;
 
 // What a step is asked for: the tag as it stands, a value of a kind, a content, or the field behind a tag skipped.
 pub enum Ask {

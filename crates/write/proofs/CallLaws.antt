@@ -17,7 +17,7 @@ use Rattle.spec.specs.Writing.{Fields, written, Verdict, Fine, Faulty, listFaul
 use Rattle.spec.proofs.VarintLaws.{lower-or-not}
 use Rattle.spec.proofs.SizeLaws.{Held, size-bytes, fine-held, Answered, wrote, short, above, faulty, writing-answered, output-refused}
 use Rattle.spec.proofs.RunLaws.{fine-passed}
-use Rattle.wire.specs.SizeParts.{capped}
+use Rattle.rt.specs.SizeParts.{capped}
 use Rattle.write.specs.Answers.{told, bySize}
 use Rattle.write.specs.Backward.{Given}
 use Rattle.write.specs.declared.Answer.{Answer}
