@@ -2,3 +2,4 @@
 pub mod reader;
 pub mod step;
 pub mod value;
+pub mod wide;

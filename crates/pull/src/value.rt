@@ -1,6 +1,8 @@
 // What stands at a position of a slice: a value that is one number, or a content behind its length.
 ghost use mathlib.Core.Path.{_≡_};
-ghost use lib.ListN.{drop};
+ghost use Prim.Native.Nat.{_+_, _≤_};
+ghost use mathlib.Core.Bool.{true};
+ghost use lib.ListN.{length, getD, drop};
 ghost use Rattle.spec.specs.Base.{meaning};
 ghost use Rattle.spec.specs.Varint as spec;
 ghost use Rattle.spec.specs.Kind.{scalar, int32, bool, sfixed32};
@@ -8,6 +10,7 @@ ghost use Rattle.spec.specs.Skip.{content};
 ghost use Rattle.wire.specs.Answers.{told};
 ghost use Rattle.wire.specs.Reached.{varintOf};
 ghost use Rattle.pull.specs.Told.{spanAt};
+use crate::wide::of_ten;
 use wire::fixed::decode_fixed32;
 use wire::fixed::extend32;
 use wire::found::Found;
@@ -17,13 +20,41 @@ use wire::zigzag::unzigzag;
 
 // ---- numbers
 
-fn long_found(s: &[u8], at: usize, narrow: bool) -> Found
+fn rare_found(s: &[u8], at: usize, narrow: bool) -> Found
     ensures { λ r. ⌜ told at r ≡ varintOf narrow (drop at (now (s .entry))) ⌝ }
 {
     if narrow {
         return decode_varint32(s, at);
     }
     decode_varint64(s, at)
+}
+
+// Whether ten bytes are there, and the first has another behind it.
+fn is_long(s: &[u8], at: usize) -> bool
+    ensures { λ r. ⌜ (r ≡ true → (at + 10 ≤ length (now (s .entry))) × (128 ≤ getD (now (s .entry)) at 0)) ⌝ }
+{
+    if s.len() < 10 {
+        return false;
+    }
+    if s.len() - 10 < at {
+        return false;
+    }
+    128 <= s[at]
+}
+
+// The general answer is taken apart, so that the own one need not be in memory.
+fn long_found(s: &[u8], at: usize, narrow: bool) -> Found
+    ensures { λ r. ⌜ told at r ≡ varintOf narrow (drop at (now (s .entry))) ⌝ }
+{
+    if !narrow {
+        if is_long(s, at) {
+            return of_ten(s, at);
+        }
+    }
+    match rare_found(s, at, narrow) {
+        Found::Value { value, next } => Found::Value { value, next },
+        Found::Refused(k) => Found::Refused(k),
+    }
 }
 
 // A varint of either width. Those of one or two bytes are read in place, as most are, and the others by a call.

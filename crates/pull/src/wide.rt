@@ -1,0 +1,87 @@
+// A varint64 of two or more bytes. `wire` has the same steps for both widths; this copy is the reader's own, as the compiler makes a function with one caller a part of it.
+ghost use mathlib.Core.Path.{_≡_};
+ghost use Prim.Native.Nat.{_+_, _≤_};
+ghost use lib.ListN.{length, getD, drop};
+ghost use Rattle.spec.specs.Varint.{varint64};
+ghost use Rattle.wire.specs.Answers.{told};
+ghost use Rattle.wire.specs.Reached.{Reached};
+use wire::found::Found;
+
+// A varint of two or more bytes, where ten bytes are there: with no call, so that a long value costs a reader little more than its bytes.
+pub(crate) fn of_ten(s: &[u8], at: usize) -> Found
+    requires { ⌜ (at + 10 ≤ length (now s)) × (128 ≤ getD (now s) at 0) ⌝ }
+    ensures { λ r. ⌜ told at r ≡ varint64 (drop at (now (s .entry))) ⌝ }
+{
+    let b0 = s[at] as u64;
+    let b1 = s[at + 1] as u64;
+    let v2 = b0 % 128 + b1 % 128 * 128;
+    if b1 < 128 {
+        let next = at + 2;
+        return Found::Value { value: v2, next };
+    }
+    let b2 = s[at + 2] as u64;
+    let v3 = v2 + b2 % 128 * 0x4000;
+    if b2 < 128 {
+        let next = at + 3;
+        return Found::Value { value: v3, next };
+    }
+    let b3 = s[at + 3] as u64;
+    let v4 = v3 + b3 % 128 * 0x20_0000;
+    if b3 < 128 {
+        let next = at + 4;
+        return Found::Value { value: v4, next };
+    }
+    from_fifth(s, at, v4)
+}
+
+// The fifth to the tenth byte, of which all are there; `v4` is the value of the four before them.
+fn from_fifth(s: &[u8], at: usize, v4: u64) -> Found
+    requires { ⌜ (at + 10 ≤ length (now s)) × Reached 9 1 (now s) at 4 5 v4 ⌝ }
+    ensures { λ r. ⌜ told at r ≡ varint64 (drop at (now (s .entry))) ⌝ }
+{
+    let b4 = s[at + 4] as u64;
+    let v5 = v4 + b4 % 128 * 0x1000_0000;
+    if b4 < 128 {
+        let next = at + 5;
+        return Found::Value { value: v5, next };
+    }
+    let b5 = s[at + 5] as u64;
+    let v6 = v5 + b5 % 128 * 0x8_0000_0000;
+    if b5 < 128 {
+        let next = at + 6;
+        return Found::Value { value: v6, next };
+    }
+    let b6 = s[at + 6] as u64;
+    let v7 = v6 + b6 % 128 * 0x400_0000_0000;
+    if b6 < 128 {
+        let next = at + 7;
+        return Found::Value { value: v7, next };
+    }
+    from_eighth(s, at, v7)
+}
+
+// The eighth to the tenth, likewise.
+fn from_eighth(s: &[u8], at: usize, v7: u64) -> Found
+    requires { ⌜ (at + 10 ≤ length (now s)) × Reached 9 1 (now s) at 7 2 v7 ⌝ }
+    ensures { λ r. ⌜ told at r ≡ varint64 (drop at (now (s .entry))) ⌝ }
+{
+    let b7 = s[at + 7] as u64;
+    let v8 = v7 + b7 % 128 * 0x2_0000_0000_0000;
+    if b7 < 128 {
+        let next = at + 8;
+        return Found::Value { value: v8, next };
+    }
+    let b8 = s[at + 8] as u64;
+    let v9 = v8 + b8 % 128 * 0x100_0000_0000_0000;
+    if b8 < 128 {
+        let next = at + 9;
+        return Found::Value { value: v9, next };
+    }
+    let b9 = s[at + 9] as u64;
+    if 1 < b9 {
+        return Found::Refused(2);
+    }
+    let whole = v9 + b9 * 0x8000_0000_0000_0000;
+    let next = at + 10;
+    Found::Value { value: whole, next }
+}
