@@ -113,3 +113,22 @@ pub fn read(types: u32, entries: &[Entry], s: &[u8], room: &mut [u64]) -> Answer
     let count = copy(entries, &mut numbers);
     read_copied(types, count, &numbers, s, room)
 }
+
+// Lends the first of these entries to `read`.
+fn lend_read(types: u32, entries: [Entry; 257], count: usize, s: &[u8], room: &mut [u64]) -> Answer
+    requires { ⌜ count ≤ 257 ⌝ }
+    ensures { λ r. ⌜ (r .number ≡ number (reading (record { types = types; entries = take count entries }) (length (now (room .entry)) / stride) (now (s .entry))))
+        × (r .place ≡ place (reading (record { types = types; entries = take count entries }) (length (now (room .entry)) / stride) (now (s .entry))))
+        × (r .count ≡ length (listed (reading (record { types = types; entries = take count entries }) (length (now (room .entry)) / stride) (now (s .entry)))))
+        × (now (room .exit) ≡ roomAfter (reading (record { types = types; entries = take count entries }) (length (now (room .entry)) / stride) (now (s .entry))) (now (room .entry))) ⌝ }
+{
+    read(types, &entries[..count], s, room)
+}
+
+// Lends the first of these entries to `lookup`.
+fn lend_lookup(entries: [Entry; 257], count: usize, owner: u32, number: u32) -> Place
+    requires { ⌜ count ≤ 257 ⌝ }
+    ensures { λ r. ⌜ told r ≡ placeOf 0 (take count entries) owner number ⌝ }
+{
+    lookup(&entries[..count], owner, number)
+}
