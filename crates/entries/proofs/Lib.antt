@@ -1,0 +1,6 @@
+pub mod CallLaws
+pub mod CopyLaws
+pub mod LentLaws
+pub mod Locals
+pub mod NumbersLaws
+pub mod Pieces
