@@ -13,10 +13,10 @@ use crate::value::sint_found;
 use crate::value::span_at;
 use crate::value::varint_found;
 use skip::unknown_or_group::skip_field_for_tag;
+use utf8::is_utf8;
 use wire::fixed::decode_fixed32;
 use wire::fixed::decode_fixed64;
 use wire::found::Found;
-use utf8::is_utf8;
 
 // What a step is asked for: the tag as it stands, a value of a kind, a content, or the field behind a tag skipped.
 pub enum Ask {
