@@ -11,7 +11,7 @@ use Rattle.spec.specs.Reading.{Reading, number, listed}
 use Rattle.spec.specs.Writing as spec
 use Rattle.spec.proofs.FlatLaws.{writing-stored}
 use Rattle.onward.specs.Onward.{seen, GoesOnward}
-use Rattle.onward.proofs.OnwardLaws.{onward-trip}
+use Rattle.onward.proofs.OnwardLaws.{demand-three}
 use Rattle.onward.proofs.RoomLaws.{onward-answer}
 use Rattle.read.specs.declared.Answer as read
 use Rattle.read.proofs.CallLaws as read-laws
@@ -83,8 +83,9 @@ module _ (new old : Schema) (list payload bytes room again : List ℕ) (d : Dema
 
   goes : (space : ℕ) → length s ≤ space → GoesOnward old new payload rs (length room / stride) space s
   goes space h =
-      let f = write-laws.check-fine new payload rs (d .list-valid) in
-      onward-trip old new payload rs (length room / stride) space (d .older) (d .old-valid) (f .0) (f .1) (d .within-limit) (d .room-for-records) h
+      let g = d .given in
+      demand-three old new payload rs (length room / stride) space
+      (record { older = g .older; old-valid = g .old-valid; new-valid = g .new-valid; list-valid = g .list-valid; small = g .small; room-lent = g .room-lent; space-lent = h })
 
   pub demand-3 : {t : Trip} {bytes′ room′ again′ : List ℕ} → Copied new old list payload bytes room again t bytes′ room′ again′
       → Unharmed old list payload t bytes′ room′ again′
@@ -92,7 +93,7 @@ module _ (new old : Schema) (list payload bytes room again : List ℕ) (d : Dema
   demand-3 {t} {bytes′} {room′} {again′} c =
       let p = c .passed in
       let g = goes (length again) (d .room-again) in
-      let w : writes new list payload bytes ≡ spec.Wrote s = goes (length bytes) (d .room-for-bytes) .writes in
+      let w : writes new list payload bytes ≡ spec.Wrote s = goes (length bytes) (d .given .space-lent) .writes in
       let went : sent (writes new list payload bytes) ≡ s = ap sent w in
       let answer = onward-answer g in
       let q : reads old (sent (writes new list payload bytes)) room ≡ reads old s room = ap (λ (x : List ℕ). reads old x room) went in

@@ -3,18 +3,17 @@
 use Prim.Native.Nat.{ℕ, _*_, _/_, _≤_}
 use mathlib.Core.Path.{_≡_}
 use mathlib.Core.List.{List, [], map}
-use mathlib.Core.Option.{none}
 use lib.ListN.{length, take}
 use lib.Dec.{eqb}
-use Rattle.spec.specs.Base.{if_then_else_, limit}
-use Rattle.spec.specs.Schema.{Schema, badSchema}
+use Rattle.spec.specs.Base.{if_then_else_}
+use Rattle.spec.specs.Schema.{Schema}
 use Rattle.spec.specs.Record.{Record, stride, recordsOf}
 use Rattle.spec.specs.Reading.{Reading, reading, number, place, listed, roomAfter}
-use Rattle.spec.specs.Writing.{Fine, listCheck, written, Writing, Wrote, Failed, writing, output}
+use Rattle.spec.specs.Writing.{written, Writing, Wrote, Failed, writing, output}
 use Rattle.write.specs.Answers.{told}
 use Rattle.write.specs.declared.Answer.{Answer}
 use Rattle.read.specs.declared.Answer as read
-use Rattle.onward.specs.Onward.{Older, seen, onward}
+use Rattle.onward.specs.Onward.{seen, onward, Given}
 use Rattle.trip.specs.declared.Trip.{Trip}
 
 -- ---- the three steps
@@ -57,15 +56,9 @@ pub record Copied (new old : Schema) (list payload bytes room again : List ℕ) 
 
 -- ---- demand 3
 
--- What the demand asks for: the older schema is the newer one with some entries left out, and valid; the list is valid under the newer one, which
--- is valid then too; its size is within the limit; there is room for its records once, and for its bytes twice.
+-- What the demand asks for, of the schemas and the list, and of room for its records and its bytes; and room for the bytes once more.
 pub record Demanded (new old : Schema) (list payload bytes room again : List ℕ) : Type 0 where
-  pub older : Older old new
-  pub old-valid : badSchema old ≡ none
-  pub list-valid : listCheck new payload (recordsOf list) ≡ Fine
-  pub within-limit : length (written payload (recordsOf list)) ≤ limit
-  pub room-for-records : length (recordsOf list) ≤ length room / stride
-  pub room-for-bytes : length (written payload (recordsOf list)) ≤ length bytes
+  pub given : Given old new payload (recordsOf list) (length room / stride) (length bytes)
   pub room-again : length (written payload (recordsOf list)) ≤ length again
 
 -- the bytes that were written, the records that were read, and the bytes that were written again
