@@ -14,7 +14,7 @@ half=$(((lines + 1) / 2))
 head -n "$half" work/lines | python3 model.py >work/model.1 & a=$!
 tail -n +$((half + 1)) work/lines | python3 model.py >work/model.2 & b=$!
 target/release/oracle <work/lines >work/oracle
-./replay.sh <work/lines >work/ours
+${REPLAY:-../tools/run.sh replay} <work/lines >work/ours
 wait $a; wait $b
 cat work/model.1 work/model.2 >work/model
 rm work/model.1 work/model.2
