@@ -145,7 +145,7 @@ def gen(crate, fn, c):
 -- The state is plain, so what it owns is never carried: `Is` is kept as a fact, and `owned` makes it anew at each call.
 -- Assumes nothing.
 mod Facts
-use mathlib.Core.Path.{{_≡_, refl, sym}}
+use mathlib.Core.Path.{{refl, sym}}
 use Prim.Native.Nat.{{ℕ, _<_, _≤_, _*_, _+_, _-_, _^_, zero-le}}
 use native.Mathlib.Nat.{{lt-of-le-of-lt}}
 use native.Mathlib.Numerals.{{add-one-le, add-one-dec}}

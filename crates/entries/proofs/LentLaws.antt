@@ -1,24 +1,24 @@
 -- What is lent on of a copy is the schema's numbers; of more than 256 entries it is one number, which is bad at 0 as they are. So every call that judges its
 -- schema first answers the same. Assumes nothing.
-use Prim.Native.Nat.{ℕ, _*_, _%_, _≤_, _<_, min}
+use Prim.Native.Nat.{ℕ, _*_, _≤_, _<_, min}
 use native.Mathlib.Omega.{arith}
 use mathlib.Core.Path.{_≡_, refl, sym, ap, ap₂, _∙_}
 use mathlib.Core.Bool.{Bool, true, false, _&&_, false≢true}
-use mathlib.Core.Option.{Option, none, some}
+use mathlib.Core.Option.{some}
 use mathlib.Core.List.{List}
 use lib.ListN.{length, take, drop, length-take}
 use lib.Seq.{take-append-seam}
-use lib.Dec.{leb, ltb}
+use lib.Dec.{leb}
 use borrow.Author.Tests.{lt-ltb, le-ltb, lt-leb}
 use Rattle.spec.specs.Base.{if_then_else_, between, filled, limit}
 use Rattle.spec.specs.Schema.{Schema, badEntry, badSchema, schemaOf, copied}
-use Rattle.spec.specs.Reading.{Reading, Refused, reading, refusedOr}
+use Rattle.spec.specs.Reading.{reading, refusedOr}
 use Rattle.spec.specs.Record.{Record}
 use Rattle.spec.specs.Writing.{Verdict, written, listCheck, schemaFirst, judged, sized, writing, sizing}
 use Rattle.spec.specs.declared.Entry.{Entry}
 use Rattle.spec.proofs.SchemaLaws.{length-copied, schema-back, rest-bad}
 use Rattle.spec.proofs.VarintLaws.{lower-or-not}
-use Rattle.entries.specs.Copied.{few, copiedTo, lentOf}
+use Rattle.entries.specs.Copied.{copiedTo, lentOf}
 use Rattle.entries.proofs.CopyLaws.{few-all, copied-to}
 
 -- two schemas under which every call answers the same: they are one, or both are bad at 0

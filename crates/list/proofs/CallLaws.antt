@@ -2,7 +2,7 @@
 use Prim.Native.Nat.{ℕ, _+_, _-_, _*_, _/_, _%_, _^_, _≤_, _<_}
 use native.Mathlib.Omega.{arith}
 use mathlib.Core.Path.{_≡_, refl, sym, ap, _∙_}
-use mathlib.Core.Option.{Option, none, some}
+use mathlib.Core.Option.{none, some}
 use mathlib.Core.List.{List, [], _∷_}
 use lib.ListN.{length, getD, replicate, length-replicate, getD-replicate}
 use Rattle.spec.specs.Schema.{Schema, badSchema}
@@ -65,16 +65,6 @@ module _ (sch : Schema) (payload : List ℕ) (rs : List Record) where
   pub check-valid : badSchema sch ≡ none → listFault sch payload 0 (Fields 0 ∷ []) rs ≡ listCheck sch payload rs
   unfolding listCheck schemaFirst
   check-valid e = sym (rw e refl)
-
-  -- a list without fault is valid under a valid schema: what a writer goes on with
-  pub fine-list : told Fine ≡ listCheck sch payload rs → (badSchema sch ≡ none) × (listFault sch payload 0 (Fields 0 ∷ []) rs ≡ spec.Fine)
-  unfolding listCheck schemaFirst told
-  fine-list e = go (badSchema sch) refl e
-    where
-      go : (b : Option ℕ) → badSchema sch ≡ b → spec.Fine ≡ schemaFirst b (listFault sch payload 0 (Fields 0 ∷ []) rs)
-          → (badSchema sch ≡ none) × (listFault sch payload 0 (Fields 0 ∷ []) rs ≡ spec.Fine)
-      go none p q = (p, sym q)
-      go (some i) p q = let z : _≡_ {A = ℕ} 0 1 = cc in absurd (omega arith)
 
 -- any two answers to a call are equal
 pub one-answer : (v : spec.Verdict) (a b : Verdict) → told a ≡ v → told b ≡ v → a ≡ b

@@ -9,7 +9,6 @@ ghost use Rattle.spec.specs.Kind.{shape};
 ghost use Rattle.spec.specs.Skip.{content};
 ghost use Rattle.spec.specs.Reading.{field};
 ghost use Rattle.schema.specs.Tables.{tableSays};
-ghost use Rattle.wire.specs.Answers.{told};
 ghost use Rattle.read.specs.Answers.{tagAt, quickTag, isHead, lengthOf, spanAt, hasLength, bodied, fromBody, asked, resolved};
 use crate::scalar::index;
 use crate::scalar::scalar_at;

@@ -1,6 +1,6 @@
 // The fields of a message to records.
 ghost use mathlib.Core.Path.{_≡_};
-ghost use Prim.Native.Nat.{ℕ, _+_, _^_, _≤_, _<_};
+ghost use Prim.Native.Nat.{_+_, _^_, _≤_, _<_};
 ghost use lib.ListN.{length, drop};
 ghost use Rattle.spec.specs.Reading.{records, read};
 ghost use Rattle.schema.specs.Tables.{tableSays};

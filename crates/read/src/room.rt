@@ -1,6 +1,6 @@
 // Storing records: the one place that knows how a record stands in lent room.
 ghost use mathlib.Core.Path.{_≡_};
-ghost use Prim.Native.Nat.{_+_, _≤_, _<_};
+ghost use Prim.Native.Nat.{_+_, _≤_};
 ghost use lib.ListN.{length};
 ghost use Rattle.spec.specs.Record.{row};
 ghost use Rattle.read.specs.Emit.{placed};

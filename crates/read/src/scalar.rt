@@ -1,6 +1,6 @@
 // Values that are one number, at a place of a slice.
 ghost use mathlib.Core.Path.{_≡_};
-ghost use Prim.Native.Nat.{_+_, _≤_, _<_};
+ghost use Prim.Native.Nat.{_+_, _<_};
 ghost use lib.ListN.{length, drop};
 ghost use Rattle.spec.specs.Varint.{fixed};
 ghost use Rattle.spec.specs.Base.{if_then_else_, No, meaning};

@@ -9,7 +9,6 @@ ghost use Rattle.wire.specs.Answers.{told};
 ghost use Rattle.skip.specs.Passed.{behind};
 use wire::found::Found;
 use wire::varint::decode::decode_varint32;
-use wire::varint::decode::decode_varint64;
 
 // What skipping at a position of a slice comes to: the position behind what was skipped, or the number of the refusal.
 pub enum Past {

@@ -18,7 +18,8 @@ use Rattle.spec.proofs.RoundTrip.{hasContent, shape-11, shape-20}
 use Rattle.spec.proofs.Laws.{both}
 use Rattle.spec.proofs.RunLaws.{Fit, kind-small as kind-below, is-number, is-content}
 use Rattle.write.specs.Backward.{at, kindAt, plain, lead, isHead, Here, leadOf}
-use Rattle.write.proofs.KindLaws.{Head, of-message, of-packed, head, type-of, type-small}
+use Rattle.list.proofs.FitLaws.{type-of, type-small}
+use Rattle.write.proofs.KindLaws.{Head, of-message, of-packed, head}
 use Rattle.write.proofs.SpanLaws.{from}
 use Rattle.write.proofs.CheckedLaws.{fit-at, lies-at}
 

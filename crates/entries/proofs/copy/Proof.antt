@@ -7,8 +7,7 @@
 -- Assumes nothing.
 mod Facts
 use mathlib.Core.Path.{_≡_, refl, sym, ap}
-use Prim.Native.Nat.{ℕ, _<_, _≤_, _*_, _+_, _-_, _^_, zero-le}
-use native.Mathlib.Nat.{lt-of-le-of-lt}
+use Prim.Native.Nat.{ℕ, _<_, _*_, _+_, _-_, _^_}
 use native.Mathlib.Omega.{arith}
 use mathlib.Core.WellFounded.{WellFounded, InvImage·wf}
 use mathlib.Core.List.{List, [], _∷_}

@@ -3,7 +3,7 @@
 -- Assumes nothing.
 mod Facts
 use mathlib.Core.Path.{_≡_, refl, sym, subst}
-use Prim.Native.Nat.{ℕ, _≤_, _<_, _*_, _^_, min}
+use Prim.Native.Nat.{ℕ, _≤_, _<_, _*_, _^_}
 use native.Mathlib.Omega.{arith}
 use mathlib.Core.List.{List, [], _∷_}
 use lib.Dec.{T as True}

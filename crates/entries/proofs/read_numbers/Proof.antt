@@ -1,11 +1,11 @@
 -- `entries::read_numbers` meets its contract. Assumes nothing.
 use Prim.Native.Nat.{ℕ, _/_}
-use mathlib.Core.Path.{_≡_, ap, ap₂, _∙_}
+use mathlib.Core.Path.{ap, ap₂, _∙_}
 use mathlib.Core.List.{List}
 use borrow.Author.Needs.{needs}
 use lib.ListN.{length}
 use Rattle.spec.specs.Record.{stride}
-use Rattle.spec.specs.Schema.{Schema, entriesOf, schemaOf}
+use Rattle.spec.specs.Schema.{entriesOf}
 use Rattle.spec.specs.Reading.{Reading, number, place, listed, roomAfter, reading}
 use Rattle.spec.specs.declared.Entry.{Entry}
 use Rattle.entries.proofs.LentLaws.{alike-reading}

@@ -16,7 +16,7 @@ use Rattle.write.specs.Backward.{Stored, Room, depthAt, kindAt, at, span
 use Rattle.write.proofs.StoreLaws.{stored-then, stored-as, stored-none, stored-length}
 use Rattle.write.proofs.SpanLaws.{bytes-none, bytes-at, bytes-from}
 use Rattle.write.proofs.CheckedLaws.{fit-at}
-use Rattle.write.proofs.KindLaws.{type-of}
+use Rattle.list.proofs.FitLaws.{type-of}
 use Rattle.write.proofs.bytes.put_values.Statement.{statement}
 use Rattle.write.proofs.bytes.put_values.Tie as tie
 

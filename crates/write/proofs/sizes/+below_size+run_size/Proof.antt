@@ -12,7 +12,8 @@ use Rattle.spec.specs.Varint.{size, tagSize}
 use Rattle.spec.specs.Kind.{wire}
 use Rattle.spec.proofs.RunLaws.{kind-small}
 use Rattle.rt.proofs.ValueSizes.{size-most}
-use Rattle.write.proofs.KindLaws.{head, type-of}
+use Rattle.list.proofs.FitLaws.{type-of}
+use Rattle.write.proofs.KindLaws.{head}
 use Rattle.write.proofs.Turn.{Here, start, ended, stopped, whole, fit, number-turn, content-turn, head-turn, below, is-scalar, content}
 use borrow.Fn.Kinds.{In}
 use borrow.Fn.PlainCycle.{Measures, is, falls, and}

@@ -8,7 +8,7 @@ use mathlib.Core.List.{List}
 use lib.ListN.{length, getD}
 use Rattle.spec.proofs.RunLaws.{Row, kind-small}
 use Rattle.write.specs.Summing.{recordsFrom, Elements}
-use Rattle.write.proofs.KindLaws.{type-of}
+use Rattle.list.proofs.FitLaws.{type-of}
 use Rattle.write.proofs.Turn.{Here, values-start, fit, ended, stopped, whole, rest-values, value-turn}
 use Rattle.write.proofs.sizes.elements_size.Statement.{statement}
 use Rattle.write.proofs.sizes.elements_size.Tie as tie
