@@ -1,6 +1,7 @@
 // Answers case lines: one answer line for each line of standard input, written before the next line is waited for. docs/PROTOCOL.md has the lines.
 mod input;
 mod leaves;
+mod pulls;
 mod readings;
 mod schemas;
 mod signs;
@@ -71,6 +72,7 @@ fn call(
         20 => schemas::lookup(line, at, list, numbers, out),
         21 => readings::read(line, at, bytes, list, numbers, room, out),
         22 => readings::records(line, at, bytes, list, numbers, room, out),
+        25 => pulls::pull(line, at, bytes, out),
         _ => 0,
     }
 }
