@@ -25,6 +25,9 @@ from pathlib import Path
 ENTRIES = dict(elem=('spec', 'Entry'), copy='copy', array=1280)
 INSTANCES = {
     ('entries', 'read'): ENTRIES | dict(core='read_copied', result=('struct', 'read', 'Answer'), params=[('s', '&', 8), ('room', '&mut', 64)]),
+    ('entries', 'check'): ENTRIES | dict(core='check_copied', result=('enum', 'list', 'Verdict'), params=[('list', '&', 64), ('payload', '&', 8)]),
+    ('entries', 'size'): ENTRIES | dict(core='size_copied', result=('struct', 'write', 'Answer'), params=[('list', '&', 64), ('payload', '&', 8)]),
+    ('entries', 'write'): ENTRIES | dict(core='write_copied', result=('struct', 'write', 'Answer'), params=[('list', '&', 64), ('payload', '&', 8), ('out', '&mut', 8)]),
 }
 UINT = {8: 'u8', 16: 'u16', 32: 'u32', 64: 'u64'}
 
@@ -404,8 +407,8 @@ use contract.Lifetimes.{{Lfts}}
 use contract.Monad.{{Fun, fact}}
 use contract.Running.{{givenOf, tables, tablesOf}}
 use types.Kit.{{Given, Item, Sq, runs, atRet, ‵, raw, _⊛_, ⋆, some, later, cut, _$_, _∵_, !, qed, by, move, keep, use1, use2, use3, split, join, pick, rewrite, fsplit, fjoin, feqL, feqI, suffices, frame, await, done}}
-use types.Part.{{agg, rep, whole, sub, look-in}}
-use types.Run.{{look, init, forget, stop, hop, fld, from, load, addr, lit, and-then, no-more, assigns, land, returns, enter, alloc1, alloc0, params1, pass1, pass0, free1, free0}}
+use types.Part.{{agg, rep{', whole, sub, look-in' if muts else ''}}}
+use types.Run.{{look, init, forget, stop, {'hop, fld, ' if muts else ''}from, load, addr, lit, and-then, no-more, assigns, land, returns, enter, alloc1, alloc0, params1, pass1, pass0, free1, free0}}
 use types.SemTy.{{Body}}
 use types.Share.{{arr-parts}}
 use types.Tokens.{{lft-new, lft-end, lent-back}}

@@ -10,9 +10,11 @@ use lib.ListN.{length, take, drop, length-take}
 use lib.Seq.{take-append-seam}
 use lib.Dec.{leb, ltb}
 use borrow.Author.Tests.{lt-ltb, le-ltb, lt-leb}
-use Rattle.spec.specs.Base.{if_then_else_, between, filled}
+use Rattle.spec.specs.Base.{if_then_else_, between, filled, limit}
 use Rattle.spec.specs.Schema.{Schema, badEntry, badSchema, schemaOf, copied}
 use Rattle.spec.specs.Reading.{Reading, Refused, reading, refusedOr}
+use Rattle.spec.specs.Record.{Record}
+use Rattle.spec.specs.Writing.{Verdict, written, listCheck, schemaFirst, judged, sized, writing, sizing}
 use Rattle.spec.specs.declared.Entry.{Entry}
 use Rattle.spec.proofs.SchemaLaws.{length-copied, schema-back, rest-bad}
 use Rattle.spec.proofs.VarintLaws.{lower-or-not}
@@ -59,3 +61,16 @@ pub alike-reading : {a b : Schema} → Alike a b → (n : ℕ) (s : List ℕ) �
 unfolding reading refusedOr
 alike-reading (one e) n s = ap (λ (x : Schema). reading x n s) e
 alike-reading (bad p q) n s = rw (p, q)
+
+pub alike-check : {a b : Schema} → Alike a b → (payload : List ℕ) (rs : List Record) → listCheck a payload rs ≡ listCheck b payload rs
+unfolding listCheck schemaFirst
+alike-check (one e) payload rs = ap (λ (x : Schema). listCheck x payload rs) e
+alike-check (bad p q) payload rs = rw (p, q)
+
+pub alike-writing : {a b : Schema} → Alike a b → (room : ℕ) (payload : List ℕ) (rs : List Record) → writing a room payload rs ≡ writing b room payload rs
+unfolding writing
+alike-writing same room payload rs = ap (λ (v : Verdict). judged v (sized room (written payload rs))) (alike-check same payload rs)
+
+pub alike-sizing : {a b : Schema} → Alike a b → (payload : List ℕ) (rs : List Record) → sizing a payload rs ≡ sizing b payload rs
+unfolding sizing
+alike-sizing same payload rs = alike-writing same limit payload rs

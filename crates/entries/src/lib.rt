@@ -3,11 +3,15 @@
 ghost use mathlib.Core.Path.{_≡_};
 ghost use Prim.Native.Nat.{_+_, _*_, _/_, _<_, _≤_};
 ghost use lib.ListN.{length, take};
-ghost use Rattle.spec.specs.Record.{stride};
+ghost use Rattle.spec.specs.Record.{recordsOf, stride};
 ghost use Rattle.spec.specs.Reading.{reading, number, place, listed, roomAfter};
 ghost use Rattle.spec.specs.Schema.{entriesOf, schemaOf, placeOf};
+ghost use Rattle.spec.specs.Writing.{listCheck, writing, sizing, output};
+ghost use Rattle.list.specs.Told.{told as verdict};
 ghost use Rattle.schema.specs.Told.{place as told};
+ghost use Rattle.write.specs.Answers.{told as answer};
 ghost use Rattle.entries.specs.Copied.{nextPlace, fewOf, fiveAt, copiedTo, lentOf, entryAt, countOf, typesOf, firstEntries};
+use list::Verdict;
 use read::Answer;
 use schema::Place;
 use spec::Entry;
@@ -112,6 +116,125 @@ pub fn read(types: u32, entries: &[Entry], s: &[u8], room: &mut [u64]) -> Answer
     let mut numbers: [u32; 1280] = [0; 1280];
     let count = copy(entries, &mut numbers);
     read_copied(types, count, &numbers, s, room)
+}
+
+// The same under the numbers that a copy of so many entries left.
+fn check_copied(types: u32, count: usize, numbers: &[u32], list: &[u64], payload: &[u8]) -> Verdict
+    requires { ⌜ 1280 ≤ length (now numbers) ⌝ }
+    ensures { λ r. ⌜ verdict r ≡ listCheck (schemaOf types (take (lentOf count) (now (numbers .entry)))) (now (payload .entry)) (recordsOf (now (list .entry))) ⌝ }
+{
+    let k = prefix(count);
+    list::check(types, &numbers[..k], list, payload)
+}
+
+// Checks a list of six numbers a record, whose contents lie in `payload`, under a schema of these entries.
+pub fn check(types: u32, entries: &[Entry], list: &[u64], payload: &[u8]) -> Verdict
+    ensures { λ r. ⌜ verdict r ≡ listCheck (record { types = types; entries = now (entries .entry) }) (now (payload .entry)) (recordsOf (now (list .entry))) ⌝ }
+{
+    let mut numbers: [u32; 1280] = [0; 1280];
+    let count = copy(entries, &mut numbers);
+    check_copied(types, count, &numbers, list, payload)
+}
+
+// The same under the numbers that a copy of so many entries left.
+fn size_copied(
+    types: u32,
+    count: usize,
+    numbers: &[u32],
+    list: &[u64],
+    payload: &[u8],
+) -> write::Answer
+    requires { ⌜ 1280 ≤ length (now numbers) ⌝ }
+    ensures { λ r. ⌜ r ≡ answer (sizing (schemaOf types (take (lentOf count) (now (numbers .entry)))) (now (payload .entry)) (recordsOf (now (list .entry)))) ⌝ }
+{
+    let k = prefix(count);
+    write::size(types, &numbers[..k], list, payload)
+}
+
+// How many bytes a list takes, under a schema of these entries.
+pub fn size(types: u32, entries: &[Entry], list: &[u64], payload: &[u8]) -> write::Answer
+    ensures { λ r. ⌜ r ≡ answer (sizing (record { types = types; entries = now (entries .entry) }) (now (payload .entry)) (recordsOf (now (list .entry)))) ⌝ }
+{
+    let mut numbers: [u32; 1280] = [0; 1280];
+    let count = copy(entries, &mut numbers);
+    size_copied(types, count, &numbers, list, payload)
+}
+
+// The same under the numbers that a copy of so many entries left.
+fn write_copied(
+    types: u32,
+    count: usize,
+    numbers: &[u32],
+    list: &[u64],
+    payload: &[u8],
+    out: &mut [u8],
+) -> write::Answer
+    requires { ⌜ 1280 ≤ length (now numbers) ⌝ }
+    ensures { λ r. ⌜ (r ≡ answer (writing (schemaOf types (take (lentOf count) (now (numbers .entry)))) (length (now (out .entry))) (now (payload .entry)) (recordsOf (now (list .entry)))))
+        × (now (out .exit) ≡ output (writing (schemaOf types (take (lentOf count) (now (numbers .entry)))) (length (now (out .entry))) (now (payload .entry)) (recordsOf (now (list .entry)))) (now (out .entry))) ⌝ }
+{
+    let k = prefix(count);
+    write::write(types, &numbers[..k], list, payload, out)
+}
+
+// Writes a list to `out`, under a schema of these entries.
+pub fn write(
+    types: u32,
+    entries: &[Entry],
+    list: &[u64],
+    payload: &[u8],
+    out: &mut [u8],
+) -> write::Answer
+    ensures { λ r. ⌜ (r ≡ answer (writing (record { types = types; entries = now (entries .entry) }) (length (now (out .entry))) (now (payload .entry)) (recordsOf (now (list .entry)))))
+        × (now (out .exit) ≡ output (writing (record { types = types; entries = now (entries .entry) }) (length (now (out .entry))) (now (payload .entry)) (recordsOf (now (list .entry)))) (now (out .entry))) ⌝ }
+{
+    let mut numbers: [u32; 1280] = [0; 1280];
+    let count = copy(entries, &mut numbers);
+    write_copied(types, count, &numbers, list, payload, out)
+}
+
+// Lends the first of these entries to `check`.
+fn lend_check(
+    types: u32,
+    entries: [Entry; 257],
+    count: usize,
+    list: &[u64],
+    payload: &[u8],
+) -> Verdict
+    requires { ⌜ count ≤ 257 ⌝ }
+    ensures { λ r. ⌜ verdict r ≡ listCheck (record { types = types; entries = take count entries }) (now (payload .entry)) (recordsOf (now (list .entry))) ⌝ }
+{
+    check(types, &entries[..count], list, payload)
+}
+
+// Lends the first of these entries to `size`.
+fn lend_size(
+    types: u32,
+    entries: [Entry; 257],
+    count: usize,
+    list: &[u64],
+    payload: &[u8],
+) -> write::Answer
+    requires { ⌜ count ≤ 257 ⌝ }
+    ensures { λ r. ⌜ r ≡ answer (sizing (record { types = types; entries = take count entries }) (now (payload .entry)) (recordsOf (now (list .entry)))) ⌝ }
+{
+    size(types, &entries[..count], list, payload)
+}
+
+// Lends the first of these entries to `write`.
+fn lend_write(
+    types: u32,
+    entries: [Entry; 257],
+    count: usize,
+    list: &[u64],
+    payload: &[u8],
+    out: &mut [u8],
+) -> write::Answer
+    requires { ⌜ count ≤ 257 ⌝ }
+    ensures { λ r. ⌜ (r ≡ answer (writing (record { types = types; entries = take count entries }) (length (now (out .entry))) (now (payload .entry)) (recordsOf (now (list .entry)))))
+        × (now (out .exit) ≡ output (writing (record { types = types; entries = take count entries }) (length (now (out .entry))) (now (payload .entry)) (recordsOf (now (list .entry)))) (now (out .entry))) ⌝ }
+{
+    write(types, &entries[..count], list, payload, out)
 }
 
 // Lends the first of these entries to `read`.
@@ -224,4 +347,41 @@ pub fn lookup_numbers(numbers: &[u32], owner: u32, number: u32) -> Place
     let count = entry_count(numbers.len());
     let entries = entries_from(numbers, count);
     lend_lookup(entries, count, owner, number)
+}
+
+// Checks a list of six numbers a record, whose contents lie in `payload`, under a schema of five numbers an entry.
+pub fn check_numbers(types: u32, numbers: &[u32], list: &[u64], payload: &[u8]) -> Verdict
+    ensures { λ r. ⌜ verdict r ≡ listCheck (schemaOf types (now (numbers .entry))) (now (payload .entry)) (recordsOf (now (list .entry))) ⌝ }
+{
+    let count = entry_count(numbers.len());
+    let entries = entries_from(numbers, count);
+    let known = type_count(types, numbers.len());
+    lend_check(known, entries, count, list, payload)
+}
+
+// How many bytes a list takes, under a schema of five numbers an entry.
+pub fn size_numbers(types: u32, numbers: &[u32], list: &[u64], payload: &[u8]) -> write::Answer
+    ensures { λ r. ⌜ r ≡ answer (sizing (schemaOf types (now (numbers .entry))) (now (payload .entry)) (recordsOf (now (list .entry)))) ⌝ }
+{
+    let count = entry_count(numbers.len());
+    let entries = entries_from(numbers, count);
+    let known = type_count(types, numbers.len());
+    lend_size(known, entries, count, list, payload)
+}
+
+// Writes a list to `out`, under a schema of five numbers an entry.
+pub fn write_numbers(
+    types: u32,
+    numbers: &[u32],
+    list: &[u64],
+    payload: &[u8],
+    out: &mut [u8],
+) -> write::Answer
+    ensures { λ r. ⌜ (r ≡ answer (writing (schemaOf types (now (numbers .entry))) (length (now (out .entry))) (now (payload .entry)) (recordsOf (now (list .entry)))))
+        × (now (out .exit) ≡ output (writing (schemaOf types (now (numbers .entry))) (length (now (out .entry))) (now (payload .entry)) (recordsOf (now (list .entry)))) (now (out .entry))) ⌝ }
+{
+    let count = entry_count(numbers.len());
+    let entries = entries_from(numbers, count);
+    let known = type_count(types, numbers.len());
+    lend_write(known, entries, count, list, payload, out)
 }
