@@ -9,6 +9,7 @@ mod sizes;
 mod skips;
 mod told;
 mod words;
+mod writings;
 
 use crate::input::Line;
 use crate::input::behind;
@@ -72,6 +73,8 @@ fn call(
         20 => schemas::lookup(line, at, list, numbers, out),
         21 => readings::read(line, at, bytes, list, numbers, room, out),
         22 => readings::records(line, at, bytes, list, numbers, room, out),
+        23 => writings::size(line, at, bytes, list, numbers, out),
+        24 => writings::write(line, at, bytes, list, numbers, output, out),
         25 => pulls::pull(line, at, bytes, out),
         _ => 0,
     }
@@ -184,6 +187,7 @@ fn main() {
     let mut output = [0u8; 65600];
     let mut out = [0u8; 262145];
     readings::fill(&mut room);
+    writings::fill(&mut output);
     serve(
         &mut buf,
         &mut bytes,

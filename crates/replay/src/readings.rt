@@ -53,7 +53,7 @@ fn changed(part: &[u64]) -> bool {
 // Reads into the first `n` numbers of the room.
 fn read_into(types: u32, numbers: &[u32], s: &[u8], n: usize, room: &mut [u64]) -> Answer {
     if n <= room.len() {
-        return read::read(types, numbers, s, &mut room[0..n]);
+        return entries::read_numbers(types, numbers, s, &mut room[0..n]);
     }
     Answer {
         number: 0,

@@ -105,7 +105,7 @@ pub fn lookup(
         return 0;
     }
     let count = s.count;
-    match schema::find(&numbers[0..count], o.value, n.value) {
+    match entries::lookup_numbers(&numbers[0..count], o.value, n.value) {
         Place::At(i) => one(i as u64, out),
         Place::Nothing => put_text(b"none", 0, out),
     }
