@@ -63,7 +63,7 @@ pub fn vsize(line: &[u8], at: usize, out: &mut [u8]) -> usize {
     if !done(line, v.next) {
         return 0;
     }
-    one(wire::rt::compute_raw_varint64_size(v.value), out)
+    one(rt::compute_raw_varint64_size(v.value), out)
 }
 
 // `tagsize NUMBER`: how many bytes a tag takes.
@@ -72,7 +72,7 @@ pub fn tagsize(line: &[u8], at: usize, out: &mut [u8]) -> usize {
     if !done(line, n.next) {
         return 0;
     }
-    one(wire::rt::tag_size(n.value), out)
+    one(rt::tag_size(n.value), out)
 }
 
 // `zdec32 N`: the pattern of the number that N stands for.
@@ -182,5 +182,5 @@ pub fn utf8(line: &[u8], at: usize, bytes: &mut [u8], out: &mut [u8]) -> usize {
         return 0;
     }
     let n = h.count;
-    ok_or(wire::utf8::is_utf8(&bytes[0..n]), b"refused 6", out)
+    ok_or(utf8::is_utf8(&bytes[0..n]), b"refused 6", out)
 }
