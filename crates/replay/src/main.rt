@@ -1,4 +1,4 @@
-// Answers case lines: one answer line for each line of standard input, written before the next line is waited for. docs/PROTOCOL.md has the lines.
+// Answers case lines: one answer line for each line of standard input, written before the next line is waited for. docs/CASES.md has the lines.
 mod input;
 mod leaves;
 mod pulls;
