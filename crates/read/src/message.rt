@@ -27,7 +27,7 @@ enum Kind {
     Other,
 }
 
-// The kind of the field whose tag is the one byte c, of wire type 0.
+// The kind of the field whose tag is the one byte c, of wire type 0. Number 0 is asked for last: no table of a schema has a key for it.
 fn int_kind(keys: &[u64; 256], info: &[u8; 1024], c: u8, ty: u32) -> Kind
     requires { ⌜ ty < 32 ⌝ }
     ensures { λ r. ⌜ Tells (tableSays (now (keys .entry)) (now (info .entry)) ty) c r ⌝ }
@@ -35,9 +35,9 @@ fn int_kind(keys: &[u64; 256], info: &[u8; 1024], c: u8, ty: u32) -> Kind
     if c % 8 == 0 {
         if c < 128 {
             let number = c / 8;
-            if 0 < number {
-                let i = index(info[ty as usize * 16 + number as usize]);
-                if keys[i] == ty as u64 * 0x1_0000_0000 + c as u64 {
+            let i = index(info[ty as usize * 16 + number as usize]);
+            if keys[i] == ty as u64 * 0x1_0000_0000 + c as u64 {
+                if 0 < number {
                     return Kind::Of(wide(info[512 + i]));
                 }
             }
@@ -64,7 +64,15 @@ fn short_ints(
     let mut at = from.at;
     let mut to = from.to;
     let last = s.len() - 1;
+    if room.len() < 6 {
+        return Spot { at, to };
+    }
+    // the last place where a record has room: one bound for the whole loop, which keeps a register free
+    let most = room.len() - 6;
     while at < last {
+        if most < to {
+            return Spot { at, to };
+        }
         let c = s[at];
         let Kind::Of(kind) = int_kind(keys, info, c, ty) else {
             return Spot { at, to };
@@ -75,9 +83,6 @@ fn short_ints(
         let Meant::Is(v) = meaning_of(kind, value) else {
             return Spot { at, to };
         };
-        if room.len() - to < 6 {
-            return Spot { at, to };
-        }
         let start = off + at + 1;
         to = put(
             room,

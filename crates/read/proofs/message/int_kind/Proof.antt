@@ -11,9 +11,9 @@ use Rattle.read.proofs.message.int_kind.Tie as tie
 returns : tie.Need-returns
 returns c =
     let a = c .before .before .before .before .before .before .before .before .before .args in
-    let i = c .before .before .before .before .index .ensures in
-    let right : Right (a .keys .now) (a .info .now) (a .ty) (a .c) = (c .before .before .before .before .before .before .before .if2 .taken, c .before .before .before .before .before .before .before .before .before .pre, rw (i .0) at (c .before .before .if4 .taken)) in
-    tells (omega arith) (c .before .before .before .before .before .before .before .if2 .taken) (c .before .before .before .before .before .before .before .before .if1 .taken)
+    let i = c .before .before .before .before .before .index .ensures in
+    let right : Right (a .keys .now) (a .info .now) (a .ty) (a .c) = (c .before .before .before .before .before .before .before .if2 .taken, c .before .before .before .before .before .before .before .before .before .pre, rw (i .0) at (c .before .before .before .if3 .taken)) in
+    tells (omega (arith, c .before .before .if4 .taken)) (c .before .before .before .before .before .before .before .if2 .taken) (c .before .before .before .before .before .before .before .before .if1 .taken)
     (ap (λ (x : Says). x .kind) (says-guessed (a .keys .now) (a .info .now) (a .ty) (a .c) right (rw (i .0) at (i .1))) ∙ sym (rw (i .0) at (c .wide .ensures .0)))
 
 returns-2 : tie.Need-returns-2

@@ -5,40 +5,41 @@ use borrow.Author.Needs.{needs}
 use lib.ListN.{length}
 use Rattle.spec.specs.Reading.{read}
 use Rattle.schema.specs.Tables.{tableSays}
-use Rattle.read.proofs.Turn.{Here, here}
+use Rattle.read.proofs.Turn.{Here, here, start}
 use Rattle.read.proofs.FieldTurn.{int-within, int-stored}
 use Rattle.read.proofs.message.short_ints.Statement.{statement}
 use Rattle.read.proofs.message.short_ints.Tie as tie
 
 abbrev Inv-loop : tie.InvT-loop
-Inv-loop keys info s off ty depth room₀ at₀ to₀ last room at to = Here (read (tableSays keys info) depth ty) s off room₀ at₀ to₀ room at to
+Inv-loop keys info s off ty depth room₀ at₀ to₀ last most room at to = Here (read (tableSays keys info) depth ty) s off room₀ at₀ to₀ room at to
 
 abbrev μ-loop : tie.MeasureT-loop
-μ-loop keys info s off ty depth room₀ at₀ to₀ last room at to = length s - at
+μ-loop keys info s off ty depth room₀ at₀ to₀ last most room at to = length s - at
 
 loop-holds : tie.Need-loop-holds Inv-loop μ-loop
 loop-holds c = here _ _ _ _ _ _ (omega arith) (omega arith)
 
 short-at-requires : tie.Need-short-at-requires Inv-loop μ-loop
-short-at-requires c κs = omega (arith, c .before .before .before .before .before .loop-test .taken)
+short-at-requires c κs = omega (arith, c .before .before .before .before .before .before .loop-test .taken)
 
 add-short-at : tie.Need-add-short-at Inv-loop μ-loop
-add-short-at c = omega (arith, c .before .before .before .before .before .loop-test .taken)
+add-short-at c = omega (arith, c .before .before .before .before .before .before .loop-test .taken)
 
+-- where the room has no place for a record, before the loop and in it
 returns : tie.Need-returns Inv-loop μ-loop
-returns c = c .before .before .before .before .before .loop .inv .further
+returns c = start _ _ _ _ (omega arith) (omega arith)
 
 returns-2 : tie.Need-returns-2 Inv-loop μ-loop
-returns-2 c = c .before .before .before .before .before .before .before .before .before .loop .inv .further
+returns-2 c = c .before .before .loop .inv .further
 
 returns-3 : tie.Need-returns-3 Inv-loop μ-loop
-returns-3 c = c .before .before .before .before .before .before .before .before .before .before .before .before .before .loop .inv .further
-
-sub-if1 : tie.Need-sub-if1 Inv-loop μ-loop
-sub-if1 c = omega (arith, c .before .before .before .before .before .before .before .before .before .before .before .before .before .before .loop .inv .further .fits)
+returns-3 c = c .before .before .before .before .before .before .loop .inv .further
 
 returns-4 : tie.Need-returns-4 Inv-loop μ-loop
-returns-4 c = c .before .before .before .before .before .before .before .before .before .before .before .before .before .before .before .loop .inv .further
+returns-4 c = c .before .before .before .before .before .before .before .before .before .before .loop .inv .further
+
+returns-5 : tie.Need-returns-5 Inv-loop μ-loop
+returns-5 c = c .before .before .before .before .before .before .before .before .before .before .before .before .before .before .loop .inv .further
 
 add-start : tie.Need-add-start Inv-loop μ-loop
 add-start c = omega (arith, c .before .before .before .before .before .before .before .before .before .before .before .before .before .before .loop-test .taken)
@@ -48,59 +49,62 @@ add-start-2 c = omega (arith, c .before .before .before .before .before .before 
 
 cast-put : tie.Need-cast-put Inv-loop μ-loop
 cast-put c =
-    let m = c .before .before .before in
+    let m = c .before .before in
     let v = m .before .before .before .before in
     let k = v .before .before .before .before in
-    let i = k .before .before .before .before in
+    let i = k .before .before .before .before .before in
     omega (arith, int-within _ _ _ (i .before .loop .inv) (omega (arith, i .loop-test .taken)) (k .before .before .int-kind .ensures) (k .kind .given .1) (v .before .before .short-at .ensures) (v .value .given .1) (m .before .before .meaning-of .ensures) (m .v .given .1))
 
 add-put : tie.Need-add-put Inv-loop μ-loop
 add-put c =
-    let m = c .before .before .before in
+    let m = c .before .before in
     let v = m .before .before .before .before in
     let k = v .before .before .before .before in
-    let i = k .before .before .before .before in
+    let i = k .before .before .before .before .before in
     omega (arith, int-within _ _ _ (i .before .loop .inv) (omega (arith, i .loop-test .taken)) (k .before .before .int-kind .ensures) (k .kind .given .1) (v .before .before .short-at .ensures) (v .value .given .1) (m .before .before .meaning-of .ensures) (m .v .given .1))
 
 put-requires : tie.Need-put-requires Inv-loop μ-loop
-put-requires c κs = omega (arith, c .before .if1 .left, c .before .before .before .before .before .before .before .before .before .before .before .before .before .before .before .before .loop .inv .further .fits)
+put-requires c κs =
+    let e = c .before .before .before .before .before .before .before .before .before .before .before .before .before .before in
+    let l = e .before .before in
+    omega (arith, e .if2 .left, l .before .if1 .left, l .loop .inv .further .kept)
 
 add-at : tie.Need-add-at Inv-loop μ-loop
 add-at c =
-    let m = c .before .before .before .before .before .before in
+    let m = c .before .before .before .before .before in
     let v = m .before .before .before .before in
     let k = v .before .before .before .before in
-    let i = k .before .before .before .before in
+    let i = k .before .before .before .before .before in
     omega (arith, int-within _ _ _ (i .before .loop .inv) (omega (arith, i .loop-test .taken)) (k .before .before .int-kind .ensures) (k .kind .given .1) (v .before .before .short-at .ensures) (v .value .given .1) (m .before .before .meaning-of .ensures) (m .v .given .1))
 
 add-at-2 : tie.Need-add-at-2 Inv-loop μ-loop
 add-at-2 c =
-    let m = c .before .before .before .before .before .before in
+    let m = c .before .before .before .before .before in
     let v = m .before .before .before .before in
     let k = v .before .before .before .before in
-    let i = k .before .before .before .before in
+    let i = k .before .before .before .before .before in
     omega (arith, int-within _ _ _ (i .before .loop .inv) (omega (arith, i .loop-test .taken)) (k .before .before .int-kind .ensures) (k .kind .given .1) (v .before .before .short-at .ensures) (v .value .given .1) (m .before .before .meaning-of .ensures) (m .v .given .1))
 
 loop-less : tie.Need-loop-less Inv-loop μ-loop
 loop-less c =
-    let m = c .before .before .before .before .before .before in
+    let m = c .before .before .before .before .before in
     let v = m .before .before .before .before in
     let k = v .before .before .before .before in
-    let i = k .before .before .before .before in
+    let i = k .before .before .before .before .before in
     omega (arith, int-within _ _ _ (i .before .loop .inv) (omega (arith, i .loop-test .taken)) (k .before .before .int-kind .ensures) (k .kind .given .1) (v .before .before .short-at .ensures) (v .value .given .1) (m .before .before .meaning-of .ensures) (m .v .given .1))
 
 loop-again : tie.Need-loop-again Inv-loop μ-loop
 loop-again c =
     let p = c .before .before in
-    let m = c .before .before .before .before .before .before in
+    let m = c .before .before .before .before .before in
     let v = m .before .before .before .before in
     let k = v .before .before .before .before in
-    let i = k .before .before .before .before in
+    let i = k .before .before .before .before .before in
     int-stored _ _ _ (i .before .loop .inv) (omega (arith, i .loop-test .taken)) (k .before .before .int-kind .ensures) (k .kind .given .1) (v .before .before .short-at .ensures) (v .value .given .1) (m .before .before .meaning-of .ensures) (m .v .given .1)
-    (omega (arith, p .before .before .if1 .left, i .before .loop .inv .further .fits)) (p .put .ensures .0) (p .put .ensures .1)
+    (omega (arith, k .before .before .before .before .if2 .left, i .before .before .if1 .left, i .before .loop .inv .further .kept)) (p .put .ensures .0) (p .put .ensures .1)
 
-returns-5 : tie.Need-returns-5 Inv-loop μ-loop
-returns-5 c = c .before .loop .inv .further
+returns-6 : tie.Need-returns-6 Inv-loop μ-loop
+returns-6 c = c .before .loop .inv .further
 
 pub short-ints-spec : {M : Type 1} → statement M
 short-ints-spec =
@@ -109,27 +113,28 @@ short-ints-spec =
     Inv-loop
     μ-loop
     (λ c. search needs)
+    returns
+    (λ c. search needs)
     loop-holds
     (λ c. search needs)
-    (λ c κs. search needs)
-    (λ c. search needs)
-    (λ c. search needs)
-    (λ c. search needs)
-    returns
-    add-short-at
-    short-at-requires
-    (λ c. search needs)
-    (λ c. search needs)
-    (λ c. search needs)
     returns-2
+    (λ c. search needs)
     (λ c κs. search needs)
     (λ c. search needs)
     (λ c. search needs)
     (λ c. search needs)
     returns-3
-    sub-if1
+    add-short-at
+    short-at-requires
+    (λ c. search needs)
+    (λ c. search needs)
     (λ c. search needs)
     returns-4
+    (λ c κs. search needs)
+    (λ c. search needs)
+    (λ c. search needs)
+    (λ c. search needs)
+    returns-5
     add-start
     add-start-2
     cast-put
@@ -140,4 +145,4 @@ short-ints-spec =
     loop-less
     loop-again
     (λ c. search needs)
-    returns-5)
+    returns-6)
