@@ -1,0 +1,2 @@
+pub mod SkipNumbers
+pub mod StepLaws

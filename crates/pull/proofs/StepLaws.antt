@@ -1,0 +1,167 @@
+-- Laws of the steps: each says an answer of the code in the definitions' terms; and that any two answers to a call are equal.
+-- Assumes nothing.
+use Prim.Native.Nat.{ℕ, _+_, _-_, _≤_, _<_}
+use native.Mathlib.Omega.{arith}
+use mathlib.Core.Path.{_≡_, refl, sym, ap, ap₂, _∙_}
+use mathlib.Core.Bool.{Bool, true, false}
+use mathlib.Core.List.{List, []}
+use lib.ListN.{length, take, drop, length-drop}
+use lib.Seq.{drop-drop}
+use borrow.Author.Tests.{le-leb}
+use Rattle.spec.specs.Base.{if_then_else_, part, Read, Took, No, longer, _>>=_}
+use Rattle.spec.specs.Varint.{varint32, varint64}
+use Rattle.spec.specs.Utf8.{utf8}
+use Rattle.spec.specs.Skip.{content}
+use Rattle.spec.specs.Pull as spec
+use Rattle.spec.specs.Pull.{says, moved, numbered, bounded, spelled, reader, innerOf, enterAt}
+use Rattle.spec.proofs.Laws.{Takes, took, takes-varint, Holds, holds, content-holds}
+use Rattle.spec.proofs.PullLaws.{enter-too-deep, enter-content}
+use Rattle.skip.proofs.PastLaws.{content-short, content-refused}
+use Rattle.wire.specs.Answers as wire
+use Rattle.wire.specs.Reached.{varintOf}
+use Rattle.wire.specs.declared.found.Found.{Found}
+use Rattle.wire.specs.declared.found.Found.the-variants as found
+use Rattle.wire.proofs.FoundLaws.{varint-placed}
+use Rattle.pull.specs.declared.value.Span.{Span}
+use Rattle.pull.specs.declared.value.Span.the-variants as span
+use Rattle.pull.specs.declared.step.Said.{Said}
+use Rattle.pull.specs.declared.step.Said.the-variants as said
+use Rattle.pull.specs.declared.step.Moved.{Moved}
+use Rattle.pull.specs.declared.step.Gate.{Gate}
+use Rattle.pull.specs.Told.{saidTold, told, numberOf, spanAt, contentOf, shutAt, Gated}
+
+-- ---- numbers
+
+least : {l most v n : ℕ} → Takes l most (Took v n) → l ≤ n
+least (took h j) = h
+
+pub number-told : (at : ℕ) {most : ℕ} (f : Found) {r : Read} → Takes 1 most r → wire.told at f ≡ r → told (numberOf at f) ≡ numbered at r
+unfolding moved
+number-told at (found.Value v n) t e = rw (← e) (ap (λ (x : ℕ). says (spec.Number v) x) (omega (arith, least (rw (← e) at t))))
+number-told at (found.Refused k) t e = rw (← e) refl
+
+-- ---- contents
+
+pub width-placed : (narrow : Bool) (s : List ℕ) (at : ℕ) {v next : ℕ} → wire.told at (found.Value v next) ≡ varintOf narrow (drop at s) → (at < next) × (next ≤ length s)
+width-placed true s at e = let p = varint-placed 4 15 s at e refl in (p .past, p .inside)
+width-placed false s at e = let p = varint-placed 9 1 s at e refl in (p .past, p .inside)
+
+content-took : (len : List ℕ → Read) (s : List ℕ) {m n : ℕ} → len s ≡ Took m n → n + m ≤ length s → content len s ≡ Took n (n + m)
+unfolding content _>>=_ longer
+content-took len s {m} {n} e h = rw (e, le-leb (n + m) (length s) h)
+
+module _ (len : List ℕ → Read) (at : ℕ) (s : List ℕ) where
+  pub span-refused : {k : ℕ} → len (drop at s) ≡ No k → span.Bad k ≡ spanAt at (content len (drop at s))
+  unfolding spanAt
+  span-refused e = rw (content-refused len (drop at s) e)
+
+  module _ {m n : ℕ} (e : len (drop at s) ≡ Took m n) where
+    pub span-short : at ≤ length s → length s < at + n + m → span.Bad 1 ≡ spanAt at (content len (drop at s))
+    unfolding spanAt
+    span-short l h = rw (content-short len (drop at s) e (omega (arith, length-drop at s)))
+
+    pub span-of : at + n + m ≤ length s → {a z : ℕ} → a ≡ at + n → z ≡ at + n + m → span.Of a z ≡ spanAt at (content len (drop at s))
+    unfolding spanAt
+    span-of h p q = rw (content-took len (drop at s) e (omega (arith, length-drop at s))) (ap₂ span.Of p (q ∙ omega arith))
+
+takes-length : (narrow : Bool) (s : List ℕ) → Takes 1 (length s) (varintOf narrow s)
+takes-length true s = takes-varint 4 15 s
+takes-length false s = takes-varint 9 1 s
+
+-- a content lies in the slice
+pub span-in : (narrow : Bool) (at : ℕ) (s : List ℕ) {a e : ℕ} → span.Of a e ≡ spanAt at (content (varintOf narrow) (drop at s)) → (at ≤ a) × (a ≤ e) × (e ≤ length s)
+unfolding spanAt
+span-in narrow at s {a} {e} h =
+    go (content (varintOf narrow) (drop at s)) (content-holds (varintOf narrow) (drop at s) (takes-length narrow (drop at s))) h
+  where
+    go : (r : Read) → Holds (length (drop at s)) r → span.Of a e ≡ spanAt at r → (at ≤ a) × (a ≤ e) × (e ≤ length s)
+    go (Took m n) (holds i j l) q =
+        let x : a ≡ at + m = cc in
+        let y : e ≡ at + n = cc in
+        (omega arith, omega arith, omega (arith, length-drop at s))
+    go (No k) Holds.none q = let z : _≡_ {A = ℕ} 0 1 = cc in absurd (omega arith)
+
+pub content-told : (at : ℕ) (r : Read) → told (contentOf at (spanAt at r)) ≡ bounded at r
+unfolding spanAt moved
+content-told at (Took a z) = refl
+content-told at (No k) = refl
+
+-- a string, by what the check said of it
+module _ (at : ℕ) (s : List ℕ) where
+  pub text-told : (r : Read) {a e : ℕ} → span.Of a e ≡ spanAt at r → (b : Bool) → b ≡ utf8 (take (e - a) (drop a s))
+      → (if b then says (spec.Content a e) e else says (spec.Refused 6 at) at) ≡ spelled at (drop at s) r
+  unfolding spanAt spelled moved
+  text-told (Took m n) {a} {e} q b u =
+      let x : a ≡ at + m = cc in
+      let y : e ≡ at + n = cc in
+      let w : e - a ≡ n - m = omega arith in
+      let same : take (e - a) (drop a s) ≡ part m n (drop at s) = rw (w, x, ← drop-drop m at s) refl in
+      rw (u, same, x, y) refl
+  text-told (No k) q b u = let z : _≡_ {A = ℕ} 0 1 = cc in absurd (omega arith)
+
+  pub text-refused : (r : Read) {k : ℕ} → span.Bad k ≡ spanAt at r → says (spec.Refused k at) at ≡ spelled at (drop at s) r
+  unfolding spanAt spelled moved
+  text-refused (Took m n) q = let z : _≡_ {A = ℕ} 0 1 = cc in absurd (omega arith)
+  text-refused (No j) {k} q = let x : k ≡ j = cc in ap (λ (i : ℕ). says (spec.Refused i at) at) x
+
+-- ---- entering
+
+module _ (s : List ℕ) (at level : ℕ) where
+  shut-gated : (k : ℕ) → enterAt s at level ≡ says (spec.Refused k at) at → Gated s at level (shutAt k at level)
+  unfolding innerOf
+  shut-gated k e = record { moves = sym e; inner = rw e refl; ordered = omega arith; inside = omega arith }
+
+  pub deep-gated : 100 ≤ level → Gated s at level (shutAt 7 at level)
+  deep-gated h = shut-gated 7 (enter-too-deep s at level h)
+
+  module _ (h : level < 100) where
+    entered-as : (r : Read) → r ≡ content varint64 (drop at s) → enterAt s at level ≡ bounded at r
+    entered-as r e = enter-content s at level h ∙ ap (bounded at) (sym e)
+
+    pub bad-gated : {k : ℕ} → span.Bad k ≡ spanAt at (content varint64 (drop at s)) → Gated s at level (shutAt k at level)
+    unfolding spanAt moved
+    bad-gated {k} q = go (content varint64 (drop at s)) refl q
+      where
+        go : (r : Read) → r ≡ content varint64 (drop at s) → span.Bad k ≡ spanAt at r → Gated s at level (shutAt k at level)
+        go (Took m n) e p = let z : _≡_ {A = ℕ} 0 1 = cc in absurd (omega arith)
+        go (No j) e p = let x : k ≡ j = cc in shut-gated k (entered-as (No j) e ∙ ap (λ (i : ℕ). says (spec.Refused i at) at) (sym x))
+
+    pub content-gated : {a z : ℕ} → span.Of a z ≡ spanAt at (content varint64 (drop at s))
+        → Gated s at level (record { said = said.Content a z; start = a; end = z; level = level + 1; at = z })
+    unfolding spanAt moved innerOf
+    content-gated {a} {z} q =
+        let b = span-in false at s q in
+        let e : enterAt s at level ≡ says (spec.Content a z) z = go (content varint64 (drop at s)) refl q in
+        record { moves = sym e; inner = rw e refl; ordered = b .1; inside = b .2 }
+      where
+        go : (r : Read) → r ≡ content varint64 (drop at s) → span.Of a z ≡ spanAt at r → enterAt s at level ≡ says (spec.Content a z) z
+        go (Took m n) e p =
+            let x : at + m ≡ a = cc in
+            let y : at + n ≡ z = cc in
+            entered-as (Took m n) e ∙ ap₂ (λ (i j : ℕ). says (spec.Content i j) j) x y
+        go (No j) e p = let w : _≡_ {A = ℕ} 0 1 = cc in absurd (omega arith)
+
+-- ---- one answer
+
+-- what is told says what was said
+untold : spec.Said → Said
+untold (spec.Number v) = said.Number v
+untold (spec.Content a z) = said.Content a z
+untold spec.End = said.End
+untold (spec.Refused k p) = said.Refused k p
+
+pub one-said : {x y : Said} → saidTold x ≡ saidTold y → x ≡ y
+unfolding untold
+one-said {x} {y} e = sym (back x) ∙ ap untold e ∙ back y
+  where
+    back : (x : Said) → untold (saidTold x) ≡ x
+    back (said.Number v) = refl
+    back (said.Content a z) = refl
+    back said.End = refl
+    back (said.Refused k p) = refl
+
+-- every call that ends in a `Moved`: each of these promises names what its answer tells
+pub one-move : {x y : Moved} {m : spec.Moved} → told x ≡ m → told y ≡ m → x ≡ y
+one-move {x} {y} e f =
+    let h : told x ≡ told y = e ∙ sym f in
+    ap₂ (λ (a : Said) (b : ℕ). record { said = a; at = b }) (one-said (ap (λ (m : spec.Moved). m .said) h)) (ap (λ (m : spec.Moved). m .at) h)

@@ -1,0 +1,21 @@
+-- `pull::step::uint32_at` meets its contract: the number that was found. Assumes nothing.
+use mathlib.Core.Path.{ap, _∙_}
+use lib.ListN.{drop}
+use Rattle.spec.specs.Kind.{uint32, scalar}
+use Rattle.spec.specs.Pull.{stepAt}
+use Rattle.spec.proofs.Laws.{takes-scalar}
+use Rattle.pull.specs.Told.{told}
+use Rattle.pull.proofs.StepLaws.{number-told}
+use borrow.Author.Needs.{needs}
+use Rattle.pull.proofs.step.uint32_at.Statement.{statement}
+use Rattle.pull.proofs.step.uint32_at.Tie as tie
+
+returns : tie.Need-returns
+unfolding stepAt scalar
+returns c =
+    let d = c .before in
+    let a = d .before .before .args in
+    ap told (c .number-of .ensures) ∙ number-told (a .at) (d .decode-varint32 .result) (takes-scalar uint32 (drop (a .at) (a .s .now))) (d .decode-varint32 .ensures)
+
+pub uint32-at-spec : {M : Type 1} → statement M
+uint32-at-spec = tie.close (tie.spec (λ c κs. search needs) (λ c κs. search needs) returns)

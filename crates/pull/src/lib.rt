@@ -1,0 +1,3 @@
+// The pull reader over a slice: coded_input_stream/mod.rs of rust-protobuf.
+pub mod step;
+pub mod value;

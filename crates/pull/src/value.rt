@@ -1,0 +1,108 @@
+// What stands at a position of a slice: a value that is one number, or a content behind its length.
+ghost use mathlib.Core.Path.{_≡_};
+ghost use lib.ListN.{drop};
+ghost use Rattle.spec.specs.Base.{meaning};
+ghost use Rattle.spec.specs.Varint as spec;
+ghost use Rattle.spec.specs.Kind.{scalar, int32, bool, sfixed32};
+ghost use Rattle.spec.specs.Skip.{content};
+ghost use Rattle.wire.specs.Answers.{told};
+ghost use Rattle.wire.specs.Reached.{varintOf};
+ghost use Rattle.pull.specs.Told.{spanAt};
+use wire::fixed::decode_fixed32;
+use wire::fixed::extend32;
+use wire::found::Found;
+use wire::varint::decode::decode_varint32;
+use wire::varint::decode::decode_varint64;
+use wire::zigzag::unzigzag;
+
+// ---- numbers
+
+// An int32: a varint64 whose signed number has 32 bits.
+pub fn int32_found(s: &[u8], at: usize) -> Found
+    ensures { λ r. ⌜ told at r ≡ scalar int32 (drop at (now (s .entry))) ⌝ }
+{
+    match decode_varint64(s, at) {
+        Found::Value { value, next } => {
+            if value < 0x8000_0000 {
+                return Found::Value { value, next };
+            }
+            if 0xffff_ffff_8000_0000 <= value {
+                return Found::Value { value, next };
+            }
+            Found::Refused(5)
+        }
+        Found::Refused(k) => Found::Refused(k),
+    }
+}
+
+pub fn bool_found(s: &[u8], at: usize) -> Found
+    ensures { λ r. ⌜ told at r ≡ scalar bool (drop at (now (s .entry))) ⌝ }
+{
+    match decode_varint64(s, at) {
+        Found::Value { value, next } => {
+            if value == 0 {
+                return Found::Value { value: 0, next };
+            }
+            Found::Value { value: 1, next }
+        }
+        Found::Refused(k) => Found::Refused(k),
+    }
+}
+
+pub(crate) fn varint_found(s: &[u8], at: usize, narrow: bool) -> Found
+    ensures { λ r. ⌜ told at r ≡ varintOf narrow (drop at (now (s .entry))) ⌝ }
+{
+    if narrow {
+        return decode_varint32(s, at);
+    }
+    decode_varint64(s, at)
+}
+
+// A zigzag value of either width.
+pub fn sint_found(s: &[u8], at: usize, narrow: bool) -> Found
+    ensures { λ r. ⌜ told at r ≡ meaning spec.unzigzag (varintOf narrow (drop at (now (s .entry)))) ⌝ }
+{
+    match varint_found(s, at, narrow) {
+        Found::Value { value, next } => {
+            let v = unzigzag(value);
+            Found::Value { value: v, next }
+        }
+        Found::Refused(k) => Found::Refused(k),
+    }
+}
+
+pub fn sfixed32_found(s: &[u8], at: usize) -> Found
+    ensures { λ r. ⌜ told at r ≡ scalar sfixed32 (drop at (now (s .entry))) ⌝ }
+{
+    match decode_fixed32(s, at) {
+        Found::Value { value, next } => {
+            let v = extend32(value as u32);
+            Found::Value { value: v, next }
+        }
+        Found::Refused(k) => Found::Refused(k),
+    }
+}
+
+// ---- contents
+
+// A content: where it starts and ends, or the number of the refusal.
+pub enum Span {
+    Of { start: usize, end: usize },
+    Bad(u32),
+}
+
+// The content behind a length, which is a varint32 or a varint64.
+pub fn span_at(s: &[u8], at: usize, narrow: bool) -> Span
+    ensures { λ r. ⌜ r ≡ spanAt at (content (varintOf narrow) (drop at (now (s .entry)))) ⌝ }
+{
+    match varint_found(s, at, narrow) {
+        Found::Value { value, next } => {
+            if ((s.len() - next) as u64) < value {
+                return Span::Bad(1);
+            }
+            let end = next + value as usize;
+            Span::Of { start: next, end }
+        }
+        Found::Refused(k) => Span::Bad(k),
+    }
+}
