@@ -211,7 +211,7 @@ static void compare_reading(void)
         for (size_t j = k * sizeof *room; j < sizeof room; j++) if (((uint8_t *)room)[j] != 0xee) fail("the room behind the records is touched");
     }
     uint64_t fields = 0;
-    for (size_t i = 0; i < there; i++) fields += room2[i].depth == 0 ? room2[i].kind != 20 : room2[i].kind == 17;
+    for (size_t i = 0; i < (uint32_t)there; i++) fields += room2[i].depth == 0 ? room2[i].kind != 20 : room2[i].kind == 17;
     for (size_t i = 0; i < sizeof parsers / sizeof *parsers; i++) {
         uint64_t got = parsers[i].reads();
         if (got != (there >> 32 ? -1 : fields)) fprintf(stderr, "bench: %s: %s has another answer: %lld\n", input, parsers[i].who, (long long)got);
@@ -234,6 +234,7 @@ int main(int argc, char **argv)
     static const char *messages[] = { "ints", "intmix", "packed", "nested", "strings", "station", "letters", "deep", "flat", "deep100", "cut", "bad", "tiny",
                                       "ints.1M", "intmix.1M", "packed.1M", "nested.1M", "strings.1M", "station.1M", "letters.1M" };
     if (argc < 3) return 2;
+    setlinebuf(stdout);
     reps = atoi(argv[2]);
     only_input = argc > 3 ? argv[3] : NULL;
     only_who = argc > 4 ? argv[4] : NULL;
