@@ -4,16 +4,16 @@ use Prim.Native.Nat.{ℕ, _+_, _-_, _≤_, _<_}
 use native.Mathlib.Omega.{arith}
 use mathlib.Core.Path.{_≡_, refl, sym, ap, ap₂, _∙_}
 use mathlib.Core.Bool.{Bool, true, false}
-use mathlib.Core.List.{List, []}
+use mathlib.Core.List.{List}
 use lib.ListN.{length, take, drop, length-drop}
 use lib.Seq.{drop-drop}
 use borrow.Author.Tests.{le-leb}
 use Rattle.spec.specs.Base.{if_then_else_, part, Read, Took, No, longer, _>>=_}
-use Rattle.spec.specs.Varint.{varint32, varint64}
+use Rattle.spec.specs.Varint.{varint64}
 use Rattle.spec.specs.Utf8.{utf8}
 use Rattle.spec.specs.Skip.{content}
 use Rattle.spec.specs.Pull as spec
-use Rattle.spec.specs.Pull.{says, moved, numbered, bounded, spelled, reader, innerOf, enterAt}
+use Rattle.spec.specs.Pull.{says, moved, numbered, bounded, spelled, innerOf, enterAt}
 use Rattle.spec.proofs.Laws.{Takes, took, takes-varint, Holds, holds, content-holds}
 use Rattle.spec.proofs.PullLaws.{enter-too-deep, enter-content}
 use Rattle.skip.proofs.PastLaws.{content-short, content-refused}
@@ -22,12 +22,10 @@ use Rattle.wire.specs.Reached.{varintOf}
 use Rattle.wire.specs.declared.found.Found.{Found}
 use Rattle.wire.specs.declared.found.Found.the-variants as found
 use Rattle.wire.proofs.FoundLaws.{varint-placed}
-use Rattle.pull.specs.declared.value.Span.{Span}
 use Rattle.pull.specs.declared.value.Span.the-variants as span
 use Rattle.pull.specs.declared.step.Said.{Said}
 use Rattle.pull.specs.declared.step.Said.the-variants as said
 use Rattle.pull.specs.declared.step.Moved.{Moved}
-use Rattle.pull.specs.declared.step.Gate.{Gate}
 use Rattle.pull.specs.Told.{saidTold, told, numberOf, spanAt, contentOf, shutAt, Gated}
 
 -- ---- numbers

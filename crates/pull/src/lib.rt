@@ -1,3 +1,4 @@
 // The pull reader over a slice: coded_input_stream/mod.rs of rust-protobuf.
+pub mod reader;
 pub mod step;
 pub mod value;

@@ -2,7 +2,7 @@
 use native.Mathlib.Omega.{arith}
 use Prim.Native.Nat.{ℕ, _-_}
 use mathlib.Core.Path.{ap}
-use Rattle.spec.specs.Base.{Read, Took, meaning}
+use Rattle.spec.specs.Base.{Took, meaning}
 use Rattle.spec.specs.Kind.{scalar}
 use borrow.Author.Needs.{needs}
 use Rattle.pull.proofs.value.bool_found.Statement.{statement}
