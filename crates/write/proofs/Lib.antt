@@ -1,5 +1,6 @@
 pub mod BackTurn
 pub mod BodyLaws
+pub mod CallLaws
 pub mod CheckedLaws
 pub mod EncodeLaws
 pub mod HereLaws

@@ -275,7 +275,7 @@ fn put_run(
 }
 
 // The bytes of a list that the check found without fault, at the front of the output: `size` is how many they are.
-fn put_list(table: &[u8; 25], list: &[u64], payload: &[u8], out: &mut [u8], size: usize)
+pub(crate) fn put_list(table: &[u8; 25], list: &[u64], payload: &[u8], out: &mut [u8], size: usize)
     requires { ⌜ (now table ≡ take 25 wires) × Given (now list) (now payload) × (size ≡ length (written (now payload) (recordsOf (now list)))) × (size ≤ length (now out)) ⌝ }
     ensures { λ r. ⌜ now (out .exit) ≡ filled (written (now (payload .entry)) (recordsOf (now (list .entry)))) (now (out .entry)) ⌝ }
 {

@@ -27,7 +27,7 @@ struct Sum {
 }
 
 // The wire types of all kinds that a record has, as a table for many lookups.
-fn wire_types() -> [u8; 25]
+pub(crate) fn wire_types() -> [u8; 25]
     ensures { λ r. ⌜ r ≡ take 25 wires ⌝ }
 {
     let k = kind_wires();
@@ -172,7 +172,7 @@ fn run_size(table: &[u8; 25], list: &[u64], from: usize, depth: u64) -> Sum
 }
 
 // The size of a list that the check found without fault, cut off above the limit.
-fn list_size(list: &[u64]) -> u64
+pub(crate) fn list_size(list: &[u64]) -> u64
     requires { ⌜ Passed (recordsOf (now list)) ⌝ }
     ensures { λ r. ⌜ r ≡ capped (sizeOf (recordsOf (now (list .entry)))) ⌝ }
 {

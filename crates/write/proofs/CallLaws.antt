@@ -1,0 +1,158 @@
+-- Laws of the two calls: what the check says of a list, what the answer for a list without fault is by its size, and what a caller may rely on.
+-- Assumes nothing.
+use Prim.Native.Nat.{ℕ, _≤_, _<_}
+use native.Mathlib.Omega.{arith}
+use mathlib.Core.Path.{_≡_, refl, sym, ap, _∙_}
+use mathlib.Core.Logic.{_≢_}
+use mathlib.Core.Option.{Option, none, some}
+use mathlib.Core.Bool.{true}
+use mathlib.Core.List.{List, [], _∷_}
+use lib.ListN.{length}
+use borrow.Author.Tests.{lt-ltb, le-ltb}
+use Rattle.spec.specs.Base.{filled, limit}
+use Rattle.spec.specs.Schema.{Schema, badSchema}
+use Rattle.spec.specs.Record.{Record, recordsOf}
+use Rattle.spec.specs.Sizes.{sizeOf}
+use Rattle.spec.specs.Writing.{Fields, written, Verdict, Fine, Faulty, listFault, schemaFirst, listCheck, Writing, Wrote, Failed, number, size, index, output, judged, sized, writing, sizing}
+use Rattle.spec.proofs.VarintLaws.{lower-or-not}
+use Rattle.spec.proofs.SizeLaws.{Held, size-bytes, fine-held, Answered, wrote, short, above, faulty, writing-answered, output-refused}
+use Rattle.spec.proofs.RunLaws.{fine-passed}
+use Rattle.wire.specs.SizeParts.{capped}
+use Rattle.write.specs.Answers.{told, bySize}
+use Rattle.write.specs.Backward.{Given}
+use Rattle.write.specs.declared.Answer.{Answer}
+
+-- ---- what a caller may rely on
+
+-- the answer and the output that a writing leaves
+abbrev pub Answers : Writing → Answer → (out out′ : List ℕ) → Type 0
+Answers w a out out′ = (a ≡ told w) × (out′ ≡ output w out)
+
+-- any two answers to a call, and any two outputs, are equal
+pub one-answer : (w : Writing) (a b : Answer) (out x y : List ℕ) → Answers w a out x → Answers w b out y → (a ≡ b) × (x ≡ y)
+one-answer w a b out x y h g = (h .0 ∙ sym (g .0), h .1 ∙ sym (g .1))
+
+-- where no refusal is told, the bytes of the list stand at the front of the output, the size is how many they are, and what is behind them stays
+pub told-written : (sch : Schema) (room : ℕ) (payload : List ℕ) (rs : List Record) (out : List ℕ) → told (writing sch room payload rs) .number ≡ 0
+    → (told (writing sch room payload rs) .size ≡ length (written payload rs)) × (output (writing sch room payload rs) out ≡ filled (written payload rs) out)
+unfolding told number size output
+told-written sch room payload rs out e = go (writing-answered sch room payload rs) e
+  where
+    go : {w : Writing} → Answered room (written payload rs) w → number w ≡ 0 → (size w ≡ length (written payload rs)) × (output w out ≡ filled (written payload rs) out)
+    go (wrote h j) e = (refl, refl)
+    go (short h j) e = absurd (omega arith)
+    go (above h) e = absurd (omega arith)
+    go (faulty h j) e = absurd (omega arith)
+
+-- ---- what the check says
+
+pub check-fine : (sch : Schema) (payload : List ℕ) (rs : List Record) → listCheck sch payload rs ≡ Fine
+    → (badSchema sch ≡ none) × (listFault sch payload 0 (Fields 0 ∷ []) rs ≡ Fine)
+unfolding listCheck schemaFirst
+check-fine sch payload rs e = go (badSchema sch) (listFault sch payload 0 (Fields 0 ∷ []) rs) e
+  where
+    go : (bad : Option ℕ) (v : Verdict) → schemaFirst bad v ≡ Fine → (bad ≡ none) × (v ≡ Fine)
+    go none v e = (refl, e)
+    go (some i) v e = let z : _≡_ {A = ℕ} 0 1 = cc in absurd (omega arith)
+
+pub check-given : (sch : Schema) (payload list : List ℕ) → listCheck sch payload (recordsOf list) ≡ Fine → Given list payload
+check-given sch payload list e =
+    let f = check-fine sch payload (recordsOf list) e in
+    record { passed = fine-passed sch payload (recordsOf list) (f .0) (f .1); held = fine-held sch payload 0 (Fields 0 ∷ []) (recordsOf list) (f .1) }
+
+module _ (sch : Schema) (room : ℕ) (payload : List ℕ) (rs : List Record) where
+  pub writing-fine : listCheck sch payload rs ≡ Fine → writing sch room payload rs ≡ sized room (written payload rs)
+  unfolding writing judged
+  writing-fine e = ap (λ (v : Verdict). judged v (sized room (written payload rs))) e
+
+  pub writing-faulty : {k i : ℕ} → listCheck sch payload rs ≡ Faulty k i → writing sch room payload rs ≡ Failed k 0 i
+  unfolding writing judged
+  writing-faulty e = ap (λ (v : Verdict). judged v (sized room (written payload rs))) e
+
+  pub told-faulty : {k i : ℕ} → listCheck sch payload rs ≡ Faulty k i → told (writing sch room payload rs) ≡ record { number = k; size = 0; index = i }
+  unfolding told number size index
+  told-faulty e = ap told (writing-faulty e)
+
+  pub output-faulty : {k i : ℕ} (out : List ℕ) → listCheck sch payload rs ≡ Faulty k i → output (writing sch room payload rs) out ≡ out
+  unfolding output
+  output-faulty out e = ap (λ (w : Writing). output w out) (writing-faulty e)
+
+-- ---- by its size
+
+module _ (room n : ℕ) where
+  pub by-above : limit < n → bySize room n ≡ record { number = 11; size = 0; index = 0 }
+  unfolding bySize
+  by-above h = rw (lt-ltb limit n h)
+
+  pub by-short : n ≤ limit → room < n → bySize room n ≡ record { number = 12; size = n; index = 0 }
+  unfolding bySize
+  by-short h m = rw (le-ltb limit n h, lt-ltb room n m)
+
+  pub by-fits : n ≤ limit → n ≤ room → bySize room n ≡ record { number = 0; size = n; index = 0 }
+  unfolding bySize
+  by-fits h m = rw (le-ltb limit n h, le-ltb room n m)
+
+-- a size that is cut off above the limit gives the same answer
+by-cut : (room n : ℕ) → bySize room (capped n) ≡ bySize room n
+by-cut room n =
+    lower-or-not limit n
+    (λ l. by-above room (capped n) (omega arith) ∙ sym (by-above room n l))
+    (λ l. let same : capped n ≡ n = omega arith in ap (bySize room) same)
+
+module _ (room : ℕ) (b : List ℕ) where
+  sized-above : limit < length b → sized room b ≡ Failed 11 0 0
+  unfolding sized
+  sized-above h = rw (lt-ltb limit (length b) h)
+
+  sized-short : length b ≤ limit → room < length b → sized room b ≡ Failed 12 (length b) 0
+  unfolding sized
+  sized-short h m = rw (le-ltb limit (length b) h, lt-ltb room (length b) m)
+
+  sized-fits : length b ≤ limit → length b ≤ room → sized room b ≡ Wrote b
+  unfolding sized
+  sized-fits h m = rw (le-ltb limit (length b) h, le-ltb room (length b) m)
+
+  told-sized : bySize room (length b) ≡ told (sized room b)
+  unfolding told number size index
+  told-sized =
+      lower-or-not limit (length b)
+      (λ l. by-above room (length b) l ∙ sym (ap told (sized-above l)))
+      (λ l. lower-or-not room (length b)
+      (λ m. by-short room (length b) l m ∙ sym (ap told (sized-short l m)))
+      (λ m. by-fits room (length b) l m ∙ sym (ap told (sized-fits l m))))
+
+  -- what the answer says of the output then
+  pub sized-zero : {r : Answer} (out : List ℕ) → r ≡ told (sized room b) → r .number ≡ 0
+      → (r .size ≡ length b) × (length b ≤ room) × (output (sized room b) out ≡ filled b out)
+  unfolding told number size output
+  sized-zero {r} out e z =
+      let tells : number (sized room b) ≡ 0 = sym (ap (λ (a : Answer). a .number) e) ∙ z in
+      lower-or-not limit (length b)
+      (λ l. absurd (omega (arith, sym (ap number (sized-above l)) ∙ tells)))
+      (λ l. lower-or-not room (length b)
+      (λ m. absurd (omega (arith, sym (ap number (sized-short l m)) ∙ tells)))
+      (λ m. (ap (λ (a : Answer). a .size) e ∙ ap size (sized-fits l m), m, ap (λ (w : Writing). output w out) (sized-fits l m))))
+
+  pub sized-refused : {r : Answer} (out : List ℕ) → r ≡ told (sized room b) → r .number ≢ 0 → output (sized room b) out ≡ out
+  unfolding told
+  sized-refused out e n = output-refused (sized room b) out (λ z. n (ap (λ (a : Answer). a .number) e ∙ z))
+
+-- the answer from the size of a list whose contents lie in the payload, which is how many bytes it is written as
+pub by-written : (room : ℕ) (payload : List ℕ) (rs : List Record) {r : Answer} {n : ℕ} → Held payload rs → r ≡ bySize room n → n ≡ capped (sizeOf rs)
+    → r ≡ told (sized room (written payload rs))
+unfolding sizeOf written
+by-written room payload rs h e is =
+    e ∙ ap (bySize room) is ∙ by-cut room (sizeOf rs) ∙ ap (bySize room) (size-bytes (length rs) true payload rs h) ∙ told-sized room (written payload rs)
+
+-- ---- the size call
+
+module _ (sch : Schema) (payload : List ℕ) (rs : List Record) where
+  pub size-faulty : {k i : ℕ} → listCheck sch payload rs ≡ Faulty k i → record { number = k; size = 0; index = i } ≡ told (sizing sch payload rs)
+  unfolding sizing
+  size-faulty e = sym (told-faulty sch limit payload rs e)
+
+  pub size-fine : {r : Answer} {n : ℕ} → listCheck sch payload rs ≡ Fine → r ≡ bySize limit n → n ≡ capped (sizeOf rs) → r ≡ told (sizing sch payload rs)
+  unfolding sizing
+  size-fine e is cut =
+      by-written limit payload rs (fine-held sch payload 0 (Fields 0 ∷ []) rs (check-fine sch payload rs e .1)) is cut
+      ∙ sym (ap told (writing-fine sch limit payload rs e))
