@@ -1,0 +1,4 @@
+pub mod CopyLaws
+pub mod LentLaws
+pub mod Locals
+pub mod Pieces

@@ -1,0 +1,41 @@
+-- What the functions of this crate compute on the list of entries. Assumes nothing: these are definitions.
+use Prim.Native.Nat.{ℕ, _+_, _*_}
+use mathlib.Core.Bool.{_&&_}
+use mathlib.Core.List.{List, [], _∷_}
+use lib.ListN.{length, set}
+use lib.Dec.{ltb, eqb}
+use Rattle.spec.specs.Base.{if_then_else_}
+use Rattle.spec.specs.Schema.{bit}
+use Rattle.spec.specs.declared.Entry.{Entry}
+use Rattle.schema.specs.declared.Place.{Place}
+use Rattle.schema.specs.declared.Place.the-variants.{At, Nothing}
+
+-- the place that is found so far, after one more entry, which is the one at i
+unfoldable pub nextPlace : Place → ℕ → Entry → ℕ → ℕ → Place
+nextPlace (At j) i e owner number = At j
+nextPlace Nothing i e owner number = if eqb (e .owner) owner && eqb (e .number) number then At i else Nothing
+
+-- how many of so many entries are copied: all of at most 256, else none
+unfoldable pub fewOf : ℕ → ℕ
+fewOf n = if ltb 256 n then 0 else n
+
+unfoldable pub few : List Entry → List Entry
+few es = if ltb 256 (length es) then [] else es
+
+-- an array in which the numbers of an entry were stored at the five places of entry i
+unfoldable pub fiveAt : List ℕ → ℕ → Entry → List ℕ
+fiveAt a i e =
+    set (set (set (set (set a (i * 5) (e .owner)) (i * 5 + 1) (e .number)) (i * 5 + 2) (e .kind)) (i * 5 + 3) (bit (e .repeated))) (i * 5 + 4) (e .child)
+
+-- the same of the entries from place i on
+unfoldable pub storedFrom : List ℕ → ℕ → List Entry → List ℕ
+storedFrom a i [] = a
+storedFrom a i (e ∷ es) = storedFrom (fiveAt a i e) (i + 1) es
+
+-- An array that the entries were copied to. Where it has room for them it begins with their numbers, and is else as it was (proofs/CopyLaws).
+unfoldable pub copiedTo : List Entry → List ℕ → List ℕ
+copiedTo es a = storedFrom a 0 (few es)
+
+-- How many numbers of the copy are a schema of so many entries. Of more than 256 it is one number, which is no whole entry: a wrong count of entries.
+unfoldable pub lentOf : ℕ → ℕ
+lentOf n = if ltb 256 n then 1 else n * 5

@@ -1,0 +1,115 @@
+// The calls over a schema that is lent as a slice of entry structs. The borrow checker covers no function with a `&[Entry]`, so `lookup`,
+// `copy` and the calls are proved by hand; each copies the entries once into numbers, and a covered function does the work.
+ghost use mathlib.Core.Path.{_≡_};
+ghost use Prim.Native.Nat.{_+_, _/_, _<_, _≤_};
+ghost use lib.ListN.{length, take};
+ghost use Rattle.spec.specs.Record.{stride};
+ghost use Rattle.spec.specs.Reading.{reading, number, place, listed, roomAfter};
+ghost use Rattle.spec.specs.Schema.{schemaOf, placeOf};
+ghost use Rattle.schema.specs.Told.{place as told};
+ghost use Rattle.entries.specs.Copied.{nextPlace, fewOf, fiveAt, copiedTo, lentOf};
+use read::Answer;
+use schema::Place;
+use spec::Entry;
+
+fn nothing() -> Place
+    ensures { λ r. ⌜ r ≡ Place.Nothing ⌝ }
+{
+    Place::Nothing
+}
+
+// The first entry that has the owner and the number is kept.
+fn seen(found: Place, i: usize, e: Entry, owner: u32, number: u32) -> Place
+    ensures { λ r. ⌜ r ≡ nextPlace found i e owner number ⌝ }
+{
+    match found {
+        Place::At(_) => found,
+        Place::Nothing => {
+            if e.owner == owner {
+                if e.number == number {
+                    return Place::At(i);
+                }
+            }
+            found
+        }
+    }
+}
+
+// The place of the first entry of this owner and number.
+pub fn lookup(entries: &[Entry], owner: u32, number: u32) -> Place
+    ensures { λ r. ⌜ told r ≡ placeOf 0 (now (entries .entry)) owner number ⌝ }
+{
+    let mut found = nothing();
+    let mut i: usize = 0;
+    while i < entries.len() {
+        found = seen(found, i, entries[i], owner, number);
+        i += 1;
+    }
+    found
+}
+
+fn counted(count: usize) -> usize
+    ensures { λ r. ⌜ r ≡ fewOf count ⌝ }
+{
+    if 256 < count {
+        return 0;
+    }
+    count
+}
+
+fn put(numbers: &mut [u32; 1280], i: usize, e: Entry) -> usize
+    requires { ⌜ i < 256 ⌝ }
+    ensures { λ r. ⌜ (r ≡ i + 1) × (now (numbers .exit) ≡ fiveAt (now (numbers .entry)) i e) ⌝ }
+{
+    let k = i * 5;
+    numbers[k] = e.owner;
+    numbers[k + 1] = e.number;
+    numbers[k + 2] = e.kind;
+    numbers[k + 3] = e.repeated as u32;
+    numbers[k + 4] = e.child;
+    i + 1
+}
+
+pub fn copy(entries: &[Entry], numbers: &mut [u32; 1280]) -> usize
+    ensures { λ r. ⌜ (r ≡ length (now (entries .entry))) × (now (numbers .exit) ≡ copiedTo (now (entries .entry)) (now (numbers .entry))) ⌝ }
+{
+    let n = counted(entries.len());
+    let mut i: usize = 0;
+    while i < n {
+        i = put(numbers, i, entries[i]);
+    }
+    entries.len()
+}
+
+fn prefix(count: usize) -> usize
+    ensures { λ r. ⌜ r ≡ lentOf count ⌝ }
+{
+    if 256 < count {
+        return 1;
+    }
+    count * 5
+}
+
+// Reads under the numbers that a copy of so many entries left.
+fn read_copied(types: u32, count: usize, numbers: &[u32], s: &[u8], room: &mut [u64]) -> Answer
+    requires { ⌜ 1280 ≤ length (now numbers) ⌝ }
+    ensures { λ r. ⌜ (r .number ≡ number (reading (schemaOf types (take (lentOf count) (now (numbers .entry)))) (length (now (room .entry)) / stride) (now (s .entry))))
+        × (r .place ≡ place (reading (schemaOf types (take (lentOf count) (now (numbers .entry)))) (length (now (room .entry)) / stride) (now (s .entry))))
+        × (r .count ≡ length (listed (reading (schemaOf types (take (lentOf count) (now (numbers .entry)))) (length (now (room .entry)) / stride) (now (s .entry)))))
+        × (now (room .exit) ≡ roomAfter (reading (schemaOf types (take (lentOf count) (now (numbers .entry)))) (length (now (room .entry)) / stride) (now (s .entry))) (now (room .entry))) ⌝ }
+{
+    let k = prefix(count);
+    read::read(types, &numbers[..k], s, room)
+}
+
+// Reads the message `s` under a schema of these entries.
+pub fn read(types: u32, entries: &[Entry], s: &[u8], room: &mut [u64]) -> Answer
+    ensures { λ r. ⌜ (r .number ≡ number (reading (record { types = types; entries = now (entries .entry) }) (length (now (room .entry)) / stride) (now (s .entry))))
+        × (r .place ≡ place (reading (record { types = types; entries = now (entries .entry) }) (length (now (room .entry)) / stride) (now (s .entry))))
+        × (r .count ≡ length (listed (reading (record { types = types; entries = now (entries .entry) }) (length (now (room .entry)) / stride) (now (s .entry)))))
+        × (now (room .exit) ≡ roomAfter (reading (record { types = types; entries = now (entries .entry) }) (length (now (room .entry)) / stride) (now (s .entry))) (now (room .entry))) ⌝ }
+{
+    let mut numbers: [u32; 1280] = [0; 1280];
+    let count = copy(entries, &mut numbers);
+    read_copied(types, count, &numbers, s, room)
+}
