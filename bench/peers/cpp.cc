@@ -1,6 +1,10 @@
 /* C++ protobuf: it allocates each message, string and list; with an arena, from blocks that are freed at once. */
 #include "bench.pb.h"
 #include <google/protobuf/arena.h>
+#include <google/protobuf/stubs/logging.h>
+
+/* it would print a line for a string that is no UTF-8 */
+static auto *silent = google::protobuf::SetLogHandler(nullptr);
 
 static uint64_t sum(const bench::Root &m) { return m.i_size() + m.s_size() + m.m_size() + m.p_size() + m.f_size() + m.t_size(); }
 
