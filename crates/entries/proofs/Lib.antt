@@ -1,4 +1,5 @@
 pub mod CopyLaws
 pub mod LentLaws
 pub mod Locals
+pub mod NumbersLaws
 pub mod Pieces

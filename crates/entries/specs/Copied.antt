@@ -1,11 +1,11 @@
 -- What the functions of this crate compute on the list of entries. Assumes nothing: these are definitions.
-use Prim.Native.Nat.{ℕ, _+_, _*_}
+use Prim.Native.Nat.{ℕ, _+_, _*_, _/_, _%_}
 use mathlib.Core.Bool.{_&&_}
 use mathlib.Core.List.{List, [], _∷_}
-use lib.ListN.{length, set}
+use lib.ListN.{length, take, getD, set}
 use lib.Dec.{ltb, eqb}
 use Rattle.spec.specs.Base.{if_then_else_}
-use Rattle.spec.specs.Schema.{bit}
+use Rattle.spec.specs.Schema.{bit, entryOf, schemaOf}
 use Rattle.spec.specs.declared.Entry.{Entry}
 use Rattle.schema.specs.declared.Place.{Place}
 use Rattle.schema.specs.declared.Place.the-variants.{At, Nothing}
@@ -39,3 +39,20 @@ copiedTo es a = storedFrom a 0 (few es)
 -- How many numbers of the copy are a schema of so many entries. Of more than 256 it is one number, which is no whole entry: a wrong count of entries.
 unfoldable pub lentOf : ℕ → ℕ
 lentOf n = if ltb 256 n then 1 else n * 5
+
+-- ---- entries of numbers
+
+-- the entry of the five numbers from place i on
+abbrev pub entryAt : List ℕ → ℕ → Entry
+entryAt ns i = entryOf (getD ns i 0) (getD ns (i + 1) 0) (getD ns (i + 2) 0) (getD ns (i + 3) 0) (getD ns (i + 4) 0)
+
+-- how many entries are made of so many numbers, and the type count that stands for them: of numbers with a rest it is a schema of no types
+unfoldable pub countOf : ℕ → ℕ
+countOf n = if eqb (n % 5) 0 then (if ltb 257 (n / 5) then 257 else n / 5) else 0
+
+unfoldable pub typesOf : ℕ → ℕ → ℕ
+typesOf types n = if eqb (n % 5) 0 then types else 0
+
+-- the entries of some numbers, of which a lookup sees the first 257
+unfoldable pub firstEntries : List ℕ → List Entry
+firstEntries ns = take 257 (schemaOf 0 ns .entries)

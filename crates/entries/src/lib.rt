@@ -1,13 +1,13 @@
 // The calls over a schema that is lent as a slice of entry structs. The borrow checker covers no function with a `&[Entry]`, so `lookup`,
 // `copy` and the calls are proved by hand; each copies the entries once into numbers, and a covered function does the work.
 ghost use mathlib.Core.Path.{_≡_};
-ghost use Prim.Native.Nat.{_+_, _/_, _<_, _≤_};
+ghost use Prim.Native.Nat.{_+_, _*_, _/_, _<_, _≤_};
 ghost use lib.ListN.{length, take};
 ghost use Rattle.spec.specs.Record.{stride};
 ghost use Rattle.spec.specs.Reading.{reading, number, place, listed, roomAfter};
-ghost use Rattle.spec.specs.Schema.{schemaOf, placeOf};
+ghost use Rattle.spec.specs.Schema.{entriesOf, schemaOf, placeOf};
 ghost use Rattle.schema.specs.Told.{place as told};
-ghost use Rattle.entries.specs.Copied.{nextPlace, fewOf, fiveAt, copiedTo, lentOf};
+ghost use Rattle.entries.specs.Copied.{nextPlace, fewOf, fiveAt, copiedTo, lentOf, entryAt, countOf, typesOf, firstEntries};
 use read::Answer;
 use schema::Place;
 use spec::Entry;
@@ -112,4 +112,116 @@ pub fn read(types: u32, entries: &[Entry], s: &[u8], room: &mut [u64]) -> Answer
     let mut numbers: [u32; 1280] = [0; 1280];
     let count = copy(entries, &mut numbers);
     read_copied(types, count, &numbers, s, room)
+}
+
+// Lends the first of these entries to `read`.
+fn lend_read(types: u32, entries: [Entry; 257], count: usize, s: &[u8], room: &mut [u64]) -> Answer
+    requires { ⌜ count ≤ 257 ⌝ }
+    ensures { λ r. ⌜ (r .number ≡ number (reading (record { types = types; entries = take count entries }) (length (now (room .entry)) / stride) (now (s .entry))))
+        × (r .place ≡ place (reading (record { types = types; entries = take count entries }) (length (now (room .entry)) / stride) (now (s .entry))))
+        × (r .count ≡ length (listed (reading (record { types = types; entries = take count entries }) (length (now (room .entry)) / stride) (now (s .entry)))))
+        × (now (room .exit) ≡ roomAfter (reading (record { types = types; entries = take count entries }) (length (now (room .entry)) / stride) (now (s .entry))) (now (room .entry))) ⌝ }
+{
+    read(types, &entries[..count], s, room)
+}
+
+// Lends the first of these entries to `lookup`.
+fn lend_lookup(entries: [Entry; 257], count: usize, owner: u32, number: u32) -> Place
+    requires { ⌜ count ≤ 257 ⌝ }
+    ensures { λ r. ⌜ told r ≡ placeOf 0 (take count entries) owner number ⌝ }
+{
+    lookup(&entries[..count], owner, number)
+}
+
+// ---- the same calls over five numbers an entry, for a caller that has no slice of entries to lend: the entries are made of the numbers, and lent
+
+// The entry of the five numbers from place i on.
+fn entry_at(numbers: &[u32], i: usize) -> Entry
+    requires { ⌜ i + 4 < length (now numbers) ⌝ }
+    ensures { λ r. ⌜ r ≡ entryAt (now (numbers .entry)) i ⌝ }
+{
+    let repeated = numbers[i + 3];
+    if 1 < repeated {
+        return Entry {
+            owner: 0,
+            number: 0,
+            kind: 0,
+            repeated: false,
+            child: 0,
+        };
+    }
+    Entry {
+        owner: numbers[i],
+        number: numbers[i + 1],
+        kind: numbers[i + 2],
+        repeated: repeated == 1,
+        child: numbers[i + 4],
+    }
+}
+
+// The first so many entries.
+fn entries_from(numbers: &[u32], count: usize) -> [Entry; 257]
+    requires { ⌜ (count ≤ 257) × (count * 5 ≤ length (now numbers)) ⌝ }
+    ensures { λ r. ⌜ take count r ≡ entriesOf count (now (numbers .entry)) ⌝ }
+{
+    let none = Entry {
+        owner: 0,
+        number: 0,
+        kind: 0,
+        repeated: false,
+        child: 0,
+    };
+    let mut entries = [none; 257];
+    let mut i: usize = 0;
+    while i < count {
+        let e = entry_at(numbers, i * 5);
+        entries[i] = e;
+        i += 1;
+    }
+    entries
+}
+
+// How many entries are made of so many numbers: none where a rest is behind them, and of more than 257 the first 257, which are as bad.
+fn entry_count(length: usize) -> usize
+    ensures { λ r. ⌜ r ≡ countOf length ⌝ }
+{
+    if length % 5 != 0 {
+        return 0;
+    }
+    let n = length / 5;
+    if 257 < n {
+        return 257;
+    }
+    n
+}
+
+fn type_count(types: u32, length: usize) -> u32
+    ensures { λ r. ⌜ r ≡ typesOf types length ⌝ }
+{
+    if length % 5 != 0 {
+        return 0;
+    }
+    types
+}
+
+// Reads the message `s` under a schema of five numbers an entry.
+pub fn read_numbers(types: u32, numbers: &[u32], s: &[u8], room: &mut [u64]) -> Answer
+    ensures { λ r. ⌜ (r .number ≡ number (reading (schemaOf types (now (numbers .entry))) (length (now (room .entry)) / stride) (now (s .entry))))
+        × (r .place ≡ place (reading (schemaOf types (now (numbers .entry))) (length (now (room .entry)) / stride) (now (s .entry))))
+        × (r .count ≡ length (listed (reading (schemaOf types (now (numbers .entry))) (length (now (room .entry)) / stride) (now (s .entry)))))
+        × (now (room .exit) ≡ roomAfter (reading (schemaOf types (now (numbers .entry))) (length (now (room .entry)) / stride) (now (s .entry))) (now (room .entry))) ⌝ }
+{
+    let count = entry_count(numbers.len());
+    let entries = entries_from(numbers, count);
+    let known = type_count(types, numbers.len());
+    lend_read(known, entries, count, s, room)
+}
+
+// The place of the first entry of this owner and number, among the first 257.
+pub fn lookup_numbers(numbers: &[u32], owner: u32, number: u32) -> Place
+    ensures { λ r. ⌜ told r ≡ placeOf 0 (firstEntries (now (numbers .entry))) owner number ⌝ }
+{
+    let count = entry_count(numbers.len());
+    let entries = entries_from(numbers, count);
+    lend_lookup(entries, count, owner, number)
 }

@@ -1,10 +1,10 @@
 // Wire types, tags and the size limit: src/wire_format.rs of rust-protobuf.
 ghost use mathlib.Core.Path.{_≡_};
-ghost use lib.ListN.{getD};
+ghost use lib.ListN.{getD, take};
 ghost use lib.Dec.{leb};
 ghost use Rattle.spec.specs.Base.{if_then_else_, Took, require, limited};
 ghost use Rattle.spec.specs.Varint.{goodTag, makeTag};
-ghost use Rattle.spec.specs.Kind.{kindWires, wire};
+ghost use Rattle.spec.specs.Kind.{kindWires, wires, wire};
 ghost use Rattle.wire.specs.FormatTold.{wireNumber, wireTold, tagValue, tagTold, sizeTold};
 
 // The largest field number, and the most bytes of a message.
@@ -23,6 +23,40 @@ pub fn kind_wires() -> [u8; 19]
     ensures { λ r. ⌜ r ≡ kindWires ⌝ }
 {
     KIND_WIRES
+}
+
+// The wire types of all kinds that a record has, as a table for many lookups.
+pub fn record_wires() -> [u8; 25]
+    ensures { λ r. ⌜ r ≡ take 25 wires ⌝ }
+{
+    let k = KIND_WIRES;
+    [
+        k[0],
+        k[1],
+        k[2],
+        k[3],
+        k[4],
+        k[5],
+        k[6],
+        k[7],
+        k[8],
+        k[9],
+        k[10],
+        k[11],
+        k[12],
+        k[13],
+        k[14],
+        k[15],
+        k[16],
+        k[17],
+        k[18],
+        7,
+        2,
+        0,
+        1,
+        2,
+        5,
+    ]
 }
 
 // The wire type of any kind, also of our own (20 packed head, 21 to 24 unknown, 25 and 26 the ends of a group); 7 where there is no such kind.

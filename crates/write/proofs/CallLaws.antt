@@ -46,6 +46,7 @@ told-written sch room payload rs out e = go (writing-answered sch room payload r
 
 -- ---- what the check says
 
+-- the schema is valid, and so is every record
 pub check-fine : (sch : Schema) (payload : List ℕ) (rs : List Record) → listCheck sch payload rs ≡ Fine
     → (badSchema sch ≡ none) × (listFault sch payload 0 (Fields 0 ∷ []) rs ≡ Fine)
 unfolding listCheck schemaFirst
@@ -65,7 +66,7 @@ module _ (sch : Schema) (room : ℕ) (payload : List ℕ) (rs : List Record) whe
   unfolding writing judged
   writing-fine e = ap (λ (v : Verdict). judged v (sized room (written payload rs))) e
 
-  pub writing-faulty : {k i : ℕ} → listCheck sch payload rs ≡ Faulty k i → writing sch room payload rs ≡ Failed k 0 i
+  writing-faulty : {k i : ℕ} → listCheck sch payload rs ≡ Faulty k i → writing sch room payload rs ≡ Failed k 0 i
   unfolding writing judged
   writing-faulty e = ap (λ (v : Verdict). judged v (sized room (written payload rs))) e
 

@@ -1,8 +1,9 @@
 // The list writer: the size of a list, and its bytes in a lent output.
 ghost use mathlib.Core.Path.{_≡_};
 ghost use lib.ListN.{length};
+ghost use Rattle.spec.specs.Schema.{schemaOf};
 ghost use Rattle.spec.specs.Record.{recordsOf};
-ghost use Rattle.spec.specs.Writing.{written, sized, output};
+ghost use Rattle.spec.specs.Writing.{written, sized, sizing, writing, output};
 ghost use Rattle.write.specs.Answers.{told, bySize};
 ghost use Rattle.write.specs.Backward.{Given};
 
@@ -11,8 +12,10 @@ mod sizes;
 
 use crate::bytes::put_list;
 use crate::sizes::list_size;
-use crate::sizes::wire_types;
+use list::Verdict;
+use list::check;
 use wire::wire_format::MAX_MESSAGE_SIZE;
+use wire::wire_format::record_wires;
 
 // What a writing comes to: the refusal's number, 0 for none; the size, 0 on refusal, but for 12 the size that is needed; the index of the bad
 // record, or of the bad entry of the schema.
@@ -56,9 +59,38 @@ fn write_checked(list: &[u64], payload: &[u8], out: &mut [u8]) -> Answer
 {
     let r = by_size(out.len() as u64, list_size(list));
     if r.number == 0 {
-        let table = wire_types();
+        let table = record_wires();
         let size = r.size;
         put_list(&table, list, payload, out, size);
     }
     r
+}
+
+// The size of a list under a schema of five numbers an entry: as `write` answers where there is all the room that can be needed.
+pub fn size(types: u32, numbers: &[u32], list: &[u64], payload: &[u8]) -> Answer
+    ensures { λ r. ⌜ r ≡ told (sizing (schemaOf types (now (numbers .entry))) (now (payload .entry)) (recordsOf (now (list .entry)))) ⌝ }
+{
+    match check(types, numbers, list, payload) {
+        Verdict::Faulty { number, index } => Answer {
+            number,
+            size: 0,
+            index,
+        },
+        Verdict::Fine => by_size(MAX_MESSAGE_SIZE, list_size(list)),
+    }
+}
+
+// Writes a list under a schema of five numbers an entry to the front of the output, whole or not at all.
+pub fn write(types: u32, numbers: &[u32], list: &[u64], payload: &[u8], out: &mut [u8]) -> Answer
+    ensures { λ r. ⌜ (r ≡ told (writing (schemaOf types (now (numbers .entry))) (length (now (out .entry))) (now (payload .entry)) (recordsOf (now (list .entry)))))
+        × (now (out .exit) ≡ output (writing (schemaOf types (now (numbers .entry))) (length (now (out .entry))) (now (payload .entry)) (recordsOf (now (list .entry)))) (now (out .entry))) ⌝ }
+{
+    match check(types, numbers, list, payload) {
+        Verdict::Faulty { number, index } => Answer {
+            number,
+            size: 0,
+            index,
+        },
+        Verdict::Fine => write_checked(list, payload, out),
+    }
 }

@@ -3,10 +3,9 @@
 ghost use mathlib.Core.Path.{_≡_};
 ghost use mathlib.Core.Bool.{true, false, not, _||_};
 ghost use Prim.Native.Nat.{_≤_};
-ghost use lib.ListN.{take};
 ghost use lib.Dec.{eqb};
 ghost use Rattle.spec.specs.Varint.{tagSize};
-ghost use Rattle.spec.specs.Kind.{shape, wire, wires, isScalar};
+ghost use Rattle.spec.specs.Kind.{shape, wire, isScalar};
 ghost use Rattle.spec.specs.Record.{recordsOf};
 ghost use Rattle.spec.specs.Sizes.{valueSize, sizeOf};
 ghost use Rattle.spec.proofs.RunLaws.{Passed};
@@ -14,7 +13,7 @@ ghost use Rattle.wire.specs.SizeParts.{capped};
 ghost use Rattle.write.specs.Summing.{Run, Elements, Below, Summed};
 use wire::rt::compute_raw_varint64_size;
 use wire::wire_format::MAX_MESSAGE_SIZE;
-use wire::wire_format::kind_wires;
+use wire::wire_format::record_wires;
 use wire::zigzag::zigzag;
 
 // The most numbers of a list whose size is within the limit: six to a record, of which each takes at least a byte.
@@ -24,40 +23,6 @@ const NUMBERS_MAX: usize = 12_884_901_882;
 struct Sum {
     at: usize,
     size: u64,
-}
-
-// The wire types of all kinds that a record has, as a table for many lookups.
-pub(crate) fn wire_types() -> [u8; 25]
-    ensures { λ r. ⌜ r ≡ take 25 wires ⌝ }
-{
-    let k = kind_wires();
-    [
-        k[0],
-        k[1],
-        k[2],
-        k[3],
-        k[4],
-        k[5],
-        k[6],
-        k[7],
-        k[8],
-        k[9],
-        k[10],
-        k[11],
-        k[12],
-        k[13],
-        k[14],
-        k[15],
-        k[16],
-        k[17],
-        k[18],
-        7,
-        2,
-        0,
-        1,
-        2,
-        5,
-    ]
 }
 
 fn tag_size(number: u64) -> u64
@@ -179,7 +144,7 @@ pub(crate) fn list_size(list: &[u64]) -> u64
     if NUMBERS_MAX < list.len() {
         return MAX_MESSAGE_SIZE + 1;
     }
-    let table = wire_types();
+    let table = record_wires();
     let r = run_size(&table, list, 0, 0);
     cut(r.size)
 }

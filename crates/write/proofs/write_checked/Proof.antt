@@ -19,7 +19,7 @@ put-list-requires c κs =
     let payload = o .args .payload .now in
     let rs = recordsOf (o .args .list .now) in
     let h = sized-zero (length out) (written payload rs) out (by-written (length out) payload rs (o .pre .held) (b .by-size .ensures) (b .before .list-size .ensures)) (t .if1 .taken) in
-    (w .wire-types .ensures, o .pre, h .0, omega (arith, h .0, h .1))
+    (w .record-wires .ensures, o .pre, h .0, omega (arith, h .0, h .1))
 
 returns : tie.Need-returns
 returns c =

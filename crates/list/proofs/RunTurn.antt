@@ -1,0 +1,297 @@
+-- One turn of the loop over the records of a list. Assumes nothing.
+use Prim.Native.Nat.{ℕ, _+_, _-_, _/_, _%_, _≤_, _<_}
+use native.Mathlib.Omega.{arith}
+use mathlib.Core.Path.{_≡_, refl, sym, ap, ap₂, _∙_, subst}
+use mathlib.Core.Logic.{_≢_}
+use mathlib.Core.Bool.{Bool, true, false}
+use mathlib.Core.List.{List, [], _∷_}
+use lib.ListN.{length, drop, getD, set, length-set}
+use lib.Seq.{getD-set-same, getD-set-other}
+use borrow.Author.Tests.{eq-eqb, ne-eqb}
+use Rattle.spec.specs.Base.{if_then_else_}
+use Rattle.spec.specs.Kind.{Scalar, one, shape, kindWires, ownWires, wires, wire, fits}
+use Rattle.spec.specs.Schema.{Schema, lookup}
+use Rattle.spec.specs.Record.{Record, broken, recordsOf}
+use Rattle.spec.specs.Writing.{Place, Fields, Elements, around, inside, expected, recordFault, Verdict, Fine, Faulty, listFault}
+use Rattle.spec.proofs.VarintLaws.{lower-or-not}
+use Rattle.spec.proofs.RunLaws.{records-at}
+use Rattle.list.specs.Checking.{Made, rowAt, restFault, named, Suits, Answers, suits, differs, Elapsed, passed, faulty, fieldsTo}
+use Rattle.list.specs.declared.record.Asked.the-variants.{Expected, Other}
+use Rattle.list.specs.declared.run.Behind.the-variants.{To, Bad}
+use Rattle.list.proofs.FitLaws.{one-number}
+use Rattle.list.proofs.RecordLaws.{expects, fault-other, fault-rest, rest-number, rest-low}
+use Rattle.list.proofs.OpenLaws.{outer, fields-cons, length-fields, fields-set, fields-more, around-fields, first-good, first-bad, first-deep, first-out, none-left}
+use Rattle.list.proofs.ElementTurn.{recordsFrom, records-end, records-rest}
+
+-- What the whole list comes to is what the records from `at` on come to, in the messages that are open down to `depth`; `type` is the last one's.
+pub record Here (sch : Schema) (payload list open-types : List ℕ) (at depth type : ℕ) : Type 0 where
+  pub same : listFault sch payload 0 (Fields 0 ∷ []) (recordsOf list) ≡ listFault sch payload (at / 6) (fieldsTo open-types depth) (recordsFrom list at)
+  pub is : type ≡ getD open-types depth 0
+  pub few : (d : ℕ) → d ≤ depth → getD open-types d 0 < 32
+
+pub here : (sch : Schema) (payload list open-types : List ℕ) → getD open-types 0 0 ≡ 0 → Here sch payload list open-types 0 0 0
+unfolding fieldsTo
+here sch payload list open-types e = record {
+  same = ap (λ (t : ℕ). listFault sch payload 0 (Fields t ∷ []) (recordsOf list)) (sym e);
+  is = sym e;
+  few = λ d l. let z : d ≡ 0 = omega arith in rw (z, e) (omega arith);
+}
+
+module _ {sch : Schema} {payload list open-types : List ℕ} {at depth type : ℕ} (h : Here sch payload list open-types at depth type) where
+  -- the end of the list, and a rest that is no record
+  pub run-end : length list ≤ at → Fine ≡ listFault sch payload 0 (Fields 0 ∷ []) (recordsOf list)
+  run-end l =
+      sym (h .same ∙ ap (listFault sch payload (at / 6) (fieldsTo open-types depth)) (records-end list at l) ∙ none-left sch payload (at / 6) (fieldsTo open-types depth))
+
+  pub run-rest : at < length list → length list - at < 6 → Faulty 10 (at / 6) ≡ listFault sch payload 0 (Fields 0 ∷ []) (recordsOf list)
+  unfolding fieldsTo expected recordFault
+  run-rest l t =
+      sym (h .same ∙ ap (listFault sch payload (at / 6) (fieldsTo open-types depth)) (records-rest list at l (omega arith))
+      ∙ first-bad sch payload (at / 6) (fieldsTo open-types depth) (fieldsTo open-types 0) broken [] (around-fields sch payload open-types 0 depth (omega arith)) (λ e. omega arith) refl)
+
+  module _ (l : at ≤ length list) (t : 6 ≤ length list - at) where
+    split : recordsFrom list at ≡ rowAt list at ∷ recordsFrom list (at + 6)
+    split = records-at list at (omega arith)
+
+    pub run-deep : depth < getD list at 0 → Faulty 10 (at / 6) ≡ listFault sch payload 0 (Fields 0 ∷ []) (recordsOf list)
+    run-deep d =
+        sym (h .same ∙ ap (listFault sch payload (at / 6) (fieldsTo open-types depth)) split
+        ∙ first-deep sch payload (at / 6) (fieldsTo open-types depth) (rowAt list at) (recordsFrom list (at + 6)) (omega (arith, length-fields open-types depth)))
+
+    pub run-out : {d : ℕ} → getD list at 0 ≡ d → d ≤ depth → Here sch payload list open-types at d (getD open-types d 0)
+    run-out {d} e m = record {
+      same = h .same ∙ ap (listFault sch payload (at / 6) (fieldsTo open-types depth)) split
+          ∙ first-out sch payload (at / 6) open-types d depth (rowAt list at) (recordsFrom list (at + 6)) e m
+          ∙ sym (ap (listFault sch payload (at / 6) (fieldsTo open-types d)) split);
+      is = refl;
+      few = λ k n. h .few k (omega arith);
+    }
+
+    -- a record of the innermost message
+    module _ (own : getD list at 0 ≡ depth) where
+      in-message : (sch′ : Schema) (payload′ : List ℕ) → around (getD list at 0) (fieldsTo open-types depth) ≡ Fields type ∷ outer open-types depth
+      in-message sch′ payload′ =
+          ap (λ (d : ℕ). around d (fieldsTo open-types depth)) own ∙ around-fields sch′ payload′ open-types depth depth (omega arith) ∙ fields-cons open-types depth
+          ∙ ap (λ (x : ℕ). Fields x ∷ outer open-types depth) (sym (h .is))
+
+      abbrev fault : ℕ
+      fault = recordFault sch payload (Fields type ∷ outer open-types depth) (rowAt list at) (recordsFrom list (at + 6))
+
+      refused : {k : ℕ} → k ≢ 0 → fault ≡ k → Faulty k (at / 6) ≡ listFault sch payload 0 (Fields 0 ∷ []) (recordsOf list)
+      refused n e =
+          sym (h .same ∙ ap (listFault sch payload (at / 6) (fieldsTo open-types depth)) split
+          ∙ first-bad sch payload (at / 6) (fieldsTo open-types depth) (Fields type ∷ outer open-types depth) (rowAt list at) (recordsFrom list (at + 6)) (in-message sch payload) n e)
+
+      went : fault ≡ 0 → listFault sch payload 0 (Fields 0 ∷ []) (recordsOf list)
+          ≡ listFault sch payload ((at + 6) / 6) (inside sch (Fields type ∷ outer open-types depth) (rowAt list at)) (recordsFrom list (at + 6))
+      went e =
+          let next : at / 6 + 1 ≡ (at + 6) / 6 = omega arith in
+          h .same ∙ ap (listFault sch payload (at / 6) (fieldsTo open-types depth)) split
+          ∙ first-good sch payload (at / 6) (fieldsTo open-types depth) (Fields type ∷ outer open-types depth) (rowAt list at) (recordsFrom list (at + 6)) (in-message sch payload) e
+          ∙ ap (λ (i : ℕ). listFault sch payload i (inside sch (Fields type ∷ outer open-types depth) (rowAt list at)) (recordsFrom list (at + 6))) next
+
+      pub run-other : expected sch (Fields type) (named (getD list (at + 1) 0) (getD list (at + 2) 0)) ≡ false
+          → Faulty 10 (at / 6) ≡ listFault sch payload 0 (Fields 0 ∷ []) (recordsOf list)
+      unfolding expected
+      run-other e = refused (λ z. omega arith) (fault-other sch payload (Fields type) (outer open-types depth) (rowAt list at) (recordsFrom list (at + 6)) e)
+
+      module _ {inner : ℕ} (s : Suits sch type (getD list (at + 1) 0) (getD list (at + 2) 0) inner) where
+        rest-is : fault ≡ restFault payload (rowAt list at) (recordsFrom list (at + 6))
+        unfolding expected
+        rest-is = fault-rest sch payload (Fields type) (outer open-types depth) (rowAt list at) (recordsFrom list (at + 6)) (s .is)
+
+        -- one that opens nothing
+        stays : fault ≡ 0 → getD list (at + 2) 0 ≢ 11 → getD list (at + 2) 0 ≢ 20 → Here sch payload list open-types (at + 6) depth type
+        unfolding inside
+        stays e m p = record {
+          same = went e
+              ∙ ap (λ (o : List Place). listFault sch payload ((at + 6) / 6) o (recordsFrom list (at + 6)))
+              (rw (ne-eqb (getD list (at + 2) 0) 11 m, ne-eqb (getD list (at + 2) 0) 20 p)
+              (ap (λ (x : ℕ). Fields x ∷ outer open-types depth) (h .is) ∙ sym (fields-cons open-types depth)));
+          is = h .is;
+          few = h .few;
+        }
+
+        -- of a kind that is one number
+        module _ (w : wire (getD list (at + 2) 0) ≢ 2) {b : Bool} (value : (c : Scalar) → shape (getD list (at + 2) 0) ≡ one c → b ≡ fits c (getD list (at + 3) 0)) where
+          number : (c : Scalar) × (shape (getD list (at + 2) 0) ≡ one c)
+          number = one-number (getD list (at + 2) 0) (expects sch type (getD list (at + 1) 0) (getD list (at + 2) 0) (s .is) .given) w
+
+          number-fault : fault ≡ (if b then 0 else 10)
+          number-fault =
+              rest-is ∙ rest-number payload (rowAt list at) (recordsFrom list (at + 6)) (number .0) (number .1)
+              ∙ sym (ap (λ (x : Bool). if x then 0 else 10) (value (number .0) (number .1)))
+
+          pub run-value-bad : b ≡ false → Faulty 10 (at / 6) ≡ listFault sch payload 0 (Fields 0 ∷ []) (recordsOf list)
+          run-value-bad e = refused (λ z. omega arith) (number-fault ∙ ap (λ (x : Bool). if x then 0 else 10) e)
+
+          pub run-value : b ≡ true → Here sch payload list open-types (at + 6) depth type
+          unfolding wire wires kindWires ownWires
+          run-value e = stays (number-fault ∙ ap (λ (x : Bool). if x then 0 else 10) e) (λ z. w (ap wire z)) (λ z. w (ap wire z))
+
+        -- of wire type 2
+        module _ {k : ℕ} (is : k ≡ restFault payload (rowAt list at) (recordsFrom list (at + 6))) where
+          pub run-fault : k ≢ 0 → Faulty k (at / 6) ≡ listFault sch payload 0 (Fields 0 ∷ []) (recordsOf list)
+          run-fault n = refused n (rest-is ∙ sym is)
+
+          module _ (none : k ≡ 0) where
+            pub run-content : getD list (at + 2) 0 ≢ 11 → getD list (at + 2) 0 ≢ 20 → Here sch payload list open-types (at + 6) depth type
+            run-content m p = stays (rest-is ∙ sym is ∙ none) m p
+
+            pub run-message : getD list (at + 2) 0 ≡ 11 → depth + 1 < length open-types → Here sch payload list (set open-types (depth + 1) inner) (at + 6) (depth + 1) inner
+            unfolding inside
+            run-message e room = record {
+              same = went (rest-is ∙ sym is ∙ none)
+                  ∙ ap (λ (o : List Place). listFault sch payload ((at + 6) / 6) o (recordsFrom list (at + 6)))
+                  (rw (eq-eqb (getD list (at + 2) 0) 11 e)
+                  (ap₂ (λ (x y : ℕ). Fields x ∷ Fields y ∷ outer open-types depth) (sym (s .fields e .0)) (h .is)
+                  ∙ ap (λ (o : List Place). Fields inner ∷ o) (sym (fields-cons open-types depth)) ∙ sym (fields-more open-types depth inner room)));
+              is = sym (getD-set-same open-types (depth + 1) inner 0 room);
+              few = λ d l. lower-or-not d (depth + 1)
+                  (λ m. subst (λ (x : ℕ). x < 32) (sym (getD-set-other open-types (depth + 1) d inner 0 (λ z. omega arith))) (h .few d (omega arith)))
+                  (λ m. let z : d ≡ depth + 1 = omega arith in
+                  subst (λ (x : ℕ). x < 32) (sym (ap (λ (n : ℕ). getD (set open-types (depth + 1) inner) n 0) z ∙ getD-set-same open-types (depth + 1) inner 0 room)) (s .fields e .1));
+            }
+
+            module _ (e : getD list (at + 2) 0 ≡ 20) where
+              opens : inside sch (Fields type ∷ outer open-types depth) (rowAt list at) ≡ Elements (getD list (at + 1) 0) inner ∷ fieldsTo open-types depth
+              unfolding inside
+              opens = rw e
+                  (ap₂ (λ (x y : ℕ). Elements (getD list (at + 1) 0) x ∷ Fields y ∷ outer open-types depth) (sym (s .elements e .0)) (h .is)
+                  ∙ ap (λ (o : List Place). Elements (getD list (at + 1) 0) inner ∷ o) (sym (fields-cons open-types depth)))
+
+              starts : listFault sch payload 0 (Fields 0 ∷ []) (recordsOf list)
+                  ≡ listFault sch payload ((at + 6) / 6) (Elements (getD list (at + 1) 0) inner ∷ fieldsTo open-types depth) (recordsFrom list (at + 6))
+              starts = went (rest-is ∙ sym is ∙ none) ∙ ap (λ (o : List Place). listFault sch payload ((at + 6) / 6) o (recordsFrom list (at + 6))) opens
+
+              pub run-elements : {to : ℕ} → Elapsed list (at + 6) (depth + 1) (getD list (at + 1) 0) inner (To to) → Here sch payload list open-types to depth type
+              run-elements (passed a b d f) = record {
+                same = starts ∙ f sch payload (fieldsTo open-types depth) (s .elements e .1 .0) (length-fields open-types depth) (omega arith) (s .elements e .1 .1);
+                is = h .is;
+                few = h .few;
+              }
+
+              pub run-bad-element : {to : ℕ} → Elapsed list (at + 6) (depth + 1) (getD list (at + 1) 0) inner (Bad to)
+                  → Faulty 10 (to / 6) ≡ listFault sch payload 0 (Fields 0 ∷ []) (recordsOf list)
+              run-bad-element (faulty f) =
+                  sym (starts ∙ f sch payload (fieldsTo open-types depth) (s .elements e .1 .0) (length-fields open-types depth) (omega arith) (s .elements e .1 .1))
+
+-- ---- the loop, under the tables of any schema
+
+pub record Going (keys info list payload open-types : List ℕ) (type depth at : ℕ) : Type 0 where
+  pub inside : at ≤ length list
+  pub whole : at % 6 ≡ 0
+  pub shallow : depth ≤ 100
+  pub long : length open-types ≡ 101
+  pub lies : (sch : Schema) → Made sch keys info → Here sch payload list open-types at depth type
+
+-- the same, at a record of this depth
+pub record Standing (keys info list payload open-types : List ℕ) (type depth at : ℕ) : Type 0 where
+  pub going : Going keys info list payload open-types type depth at
+  pub more : 6 ≤ length list - at
+  pub own : getD list at 0 ≡ depth
+
+-- the verdict on the list, by every schema that has these tables
+abbrev pub Verdicts : (keys info list payload : List ℕ) → Verdict → Type 0
+Verdicts keys info list payload v = (sch : Schema) → Made sch keys info → v ≡ listFault sch payload 0 (Fields 0 ∷ []) (recordsOf list)
+
+module _ {keys info list payload open-types : List ℕ} {type depth at : ℕ} (g : Going keys info list payload open-types type depth at) where
+  pub go-end : length list ≤ at → Verdicts keys info list payload Fine
+  go-end l sch m = run-end (g .lies sch m) l
+
+  pub go-rest : at < length list → length list - at < 6 → Verdicts keys info list payload (Faulty 10 (at / 6))
+  go-rest l t sch m = run-rest (g .lies sch m) l t
+
+  pub go-deep : 6 ≤ length list - at → depth < getD list at 0 → Verdicts keys info list payload (Faulty 10 (at / 6))
+  go-deep t l sch m = run-deep (g .lies sch m) (g .inside) t l
+
+  pub go-same : 6 ≤ length list - at → {x d : ℕ} → getD list at 0 ≡ depth → x ≡ type → d ≡ depth → Standing keys info list payload open-types x d at
+  go-same t e p q = record { going = rw (p, q) g; more = t; own = e ∙ sym q }
+
+  pub go-out : 6 ≤ length list - at → {x d : ℕ} → getD list at 0 ≤ depth → x ≡ getD open-types (getD list at 0) 0 → d ≡ getD list at 0 → Standing keys info list payload open-types x d at
+  go-out t l p q = record {
+    going = record {
+      inside = g .inside;
+      whole = g .whole;
+      shallow = omega (arith, g .shallow);
+      long = g .long;
+      lies = λ sch m. rw (p, q) (run-out (g .lies sch m) (g .inside) t refl l);
+    };
+    more = t;
+    own = sym q;
+  }
+
+module _ {keys info list payload open-types : List ℕ} {type depth at : ℕ} (s : Standing keys info list payload open-types type depth at) where
+  few : (sch : Schema) → Made sch keys info → type < 32
+  few sch m = let h = s .going .lies sch m in subst (λ (x : ℕ). x < 32) (sym (h .is)) (h .few depth (omega arith))
+
+  pub stand-other : Answers keys info type (getD list (at + 1) 0) (getD list (at + 2) 0) Other → Verdicts keys info list payload (Faulty 10 (at / 6))
+  stand-other (differs f) sch m = run-other (s .going .lies sch m) (s .going .inside) (s .more) (s .own) (f sch m (few sch m))
+
+  module _ {w inner : ℕ} (a : Answers keys info type (getD list (at + 1) 0) (getD list (at + 2) 0) (Expected w inner)) where
+    pub wire-is : w ≡ wire (getD list (at + 2) 0)
+    wire-is = go a
+      where
+        go : Answers keys info type (getD list (at + 1) 0) (getD list (at + 2) 0) (Expected w inner) → w ≡ wire (getD list (at + 2) 0)
+        go (suits e f) = e
+
+    so : (sch : Schema) → Made sch keys info → Suits sch type (getD list (at + 1) 0) (getD list (at + 2) 0) inner
+    so sch m = go a
+      where
+        go : Answers keys info type (getD list (at + 1) 0) (getD list (at + 2) 0) (Expected w inner) → Suits sch type (getD list (at + 1) 0) (getD list (at + 2) 0) inner
+        go (suits e f) = f sch m (few sch m)
+
+    -- the next place, where what is open stays so
+    onward : ((sch : Schema) → Made sch keys info → Here sch payload list open-types (at + 6) depth type) → Going keys info list payload open-types type depth (at + 6)
+    onward f = record {
+      inside = omega (arith, s .more, s .going .inside);
+      whole = omega (arith, s .going .whole);
+      shallow = s .going .shallow;
+      long = s .going .long;
+      lies = f;
+    }
+
+    module _ (n : w ≢ 2) {b : Bool} (value : (c : Scalar) → shape (getD list (at + 2) 0) ≡ one c → b ≡ fits c (getD list (at + 3) 0)) where
+      pub stand-value-bad : b ≡ false → Verdicts keys info list payload (Faulty 10 (at / 6))
+      stand-value-bad e sch m =
+          run-value-bad (s .going .lies sch m) (s .going .inside) (s .more) (s .own) (so sch m) (λ z. n (wire-is ∙ z)) value e
+
+      pub stand-value : b ≡ true → Going keys info list payload open-types type depth (at + 6)
+      stand-value e =
+          onward (λ sch m. run-value (s .going .lies sch m) (s .going .inside) (s .more) (s .own) (so sch m) (λ z. n (wire-is ∙ z)) value e)
+
+    module _ {k : ℕ} (is : k ≡ restFault payload (rowAt list at) (recordsFrom list (at + 6))) where
+      pub stand-fault : k ≢ 0 → Verdicts keys info list payload (Faulty k (at / 6))
+      stand-fault n sch m = run-fault (s .going .lies sch m) (s .going .inside) (s .more) (s .own) (so sch m) is n
+
+      module _ (none : k ≡ 0) where
+        pub stand-low : getD list (at + 2) 0 ≡ 11 → depth < 100
+        stand-low e = omega (arith, rest-low payload (rowAt list at) (recordsFrom list (at + 6)) e (sym is ∙ none), s .own)
+
+        pub stand-content : getD list (at + 2) 0 ≢ 11 → getD list (at + 2) 0 ≢ 20 → Going keys info list payload open-types type depth (at + 6)
+        stand-content x y = onward (λ sch m. run-content (s .going .lies sch m) (s .going .inside) (s .more) (s .own) (so sch m) is none x y)
+
+        pub stand-message : getD list (at + 2) 0 ≡ 11 → Going keys info list payload (set open-types (depth + 1) inner) inner (depth + 1) (at + 6)
+        stand-message e = record {
+          inside = omega (arith, s .more, s .going .inside);
+          whole = omega (arith, s .going .whole);
+          shallow = omega (arith, stand-low e);
+          long = length-set open-types (depth + 1) inner ∙ s .going .long;
+          lies = λ sch m. run-message (s .going .lies sch m) (s .going .inside) (s .more) (s .own) (so sch m) is none e (omega (arith, stand-low e, s .going .long));
+        }
+
+        module _ (e : getD list (at + 2) 0 ≡ 20) where
+          pub stand-elements : {to : ℕ} → Elapsed list (at + 6) (depth + 1) (getD list (at + 1) 0) inner (To to) → Going keys info list payload open-types type depth to
+          stand-elements (passed on within whole f) = record {
+            inside = within;
+            whole = whole;
+            shallow = s .going .shallow;
+            long = s .going .long;
+            lies = λ sch m. run-elements (s .going .lies sch m) (s .going .inside) (s .more) (s .own) (so sch m) is none e (passed on within whole f);
+          }
+
+          pub elements-on : {to : ℕ} → Elapsed list (at + 6) (depth + 1) (getD list (at + 1) 0) inner (To to) → at < to
+          elements-on (passed on within whole f) = omega arith
+
+          pub stand-bad-element : {to : ℕ} → Elapsed list (at + 6) (depth + 1) (getD list (at + 1) 0) inner (Bad to) → Verdicts keys info list payload (Faulty 10 (to / 6))
+          stand-bad-element x sch m = run-bad-element (s .going .lies sch m) (s .going .inside) (s .more) (s .own) (so sch m) is none e x

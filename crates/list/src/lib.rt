@@ -1,0 +1,33 @@
+// The list check: whether a list of records is what reading under a schema would give.
+ghost use mathlib.Core.Path.{_≡_};
+ghost use Rattle.spec.specs.Record.{recordsOf};
+ghost use Rattle.spec.specs.Schema.{schemaOf};
+ghost use Rattle.spec.specs.Writing.{listCheck};
+ghost use Rattle.list.specs.Told.{told};
+
+mod record;
+mod run;
+
+use crate::run::list_fault;
+use schema::tables;
+
+// Without fault, or a refusal's number and the index of its record; of the bad entry where the schema is not valid.
+pub enum Verdict {
+    Fine,
+    Faulty { number: u32, index: usize },
+}
+
+// Checks a list of six numbers a record, whose contents lie in `payload`, under a schema of five numbers an entry.
+pub fn check(types: u32, numbers: &[u32], list: &[u64], payload: &[u8]) -> Verdict
+    ensures { λ r. ⌜ told r ≡ listCheck (schemaOf types (now (numbers .entry))) (now (payload .entry)) (recordsOf (now (list .entry))) ⌝ }
+{
+    let mut keys: [u64; 256] = [0xffff_ffff_ffff_ffff; 256];
+    let mut info: [u8; 1024] = [0; 1024];
+    match tables(types, numbers, &mut keys, &mut info) {
+        schema::Verdict::Bad(i) => Verdict::Faulty {
+            number: 9,
+            index: i,
+        },
+        schema::Verdict::Valid => list_fault(&keys, &info, list, payload),
+    }
+}

@@ -1,0 +1,118 @@
+// The records in turn, with the types of the messages that are open.
+ghost use mathlib.Core.Path.{_≡_};
+ghost use mathlib.Core.List.{_∷_, []};
+ghost use Prim.Native.Nat.{_/_, _%_, _≤_};
+ghost use lib.ListN.{length};
+ghost use Rattle.spec.specs.Record.{recordsOf};
+ghost use Rattle.spec.specs.Schema.{Schema};
+ghost use Rattle.spec.specs.Writing.{Fields, Faulty, listFault};
+ghost use Rattle.list.specs.Told.{told};
+ghost use Rattle.list.specs.Checking.{Made, Elapsed};
+use crate::Verdict;
+use crate::record::Asked;
+use crate::record::ask;
+use crate::record::delimited_fault;
+use crate::record::value_fits;
+use crate::record::wide;
+use wire::wire_format::record_wires;
+
+// The elements of a packed field: the place behind them, or that of one with a fault.
+enum Behind {
+    To(usize),
+    Bad(usize),
+}
+
+// The records of this depth from a place on, which are to have this number and kind.
+fn elements(list: &[u64], from: usize, depth: u64, number: u64, kind: u64) -> Behind
+    requires { ⌜ (from ≤ length (now list)) × (from % 6 ≡ 0) ⌝ }
+    ensures { λ r. ⌜ Elapsed (now (list .entry)) from depth number kind r ⌝ }
+{
+    let mut at = from;
+    while 6 <= list.len() - at {
+        if list[at] != depth {
+            return Behind::To(at);
+        }
+        if list[at + 1] != number {
+            return Behind::Bad(at);
+        }
+        if list[at + 2] != kind {
+            return Behind::Bad(at);
+        }
+        if !value_fits(kind, list[at + 3]) {
+            return Behind::Bad(at);
+        }
+        at += 6;
+    }
+    Behind::To(at)
+}
+
+fn faulty(number: u32, at: usize) -> Verdict
+    ensures { λ r. ⌜ told r ≡ Faulty number (at / 6) ⌝ }
+{
+    Verdict::Faulty {
+        number,
+        index: at / 6,
+    }
+}
+
+// The first fault of a list under the tables of a schema.
+pub(crate) fn list_fault(
+    keys: &[u64; 256],
+    info: &[u8; 1024],
+    list: &[u64],
+    payload: &[u8],
+) -> Verdict
+    ensures { λ r. ⌜ ((sch : Schema) → Made sch (now (keys .entry)) (now (info .entry))
+        → told r ≡ listFault sch (now (payload .entry)) 0 (Fields 0 ∷ []) (recordsOf (now (list .entry)))) ⌝ }
+{
+    let table = record_wires();
+    let mut open: [u8; 101] = [0; 101];
+    let mut ty: u8 = 0;
+    let mut depth: u64 = 0;
+    let mut at: usize = 0;
+    while 6 <= list.len() - at {
+        let d = list[at];
+        if d != depth {
+            if depth < d {
+                return faulty(10, at);
+            }
+            depth = d;
+            ty = open[d as usize];
+        }
+        let number = list[at + 1];
+        let kind = list[at + 2];
+        let Asked::Expected { w, inner } = ask(&table, keys, info, ty, number, kind) else {
+            return faulty(10, at);
+        };
+        if w != 2 {
+            if !value_fits(kind, list[at + 3]) {
+                return faulty(10, at);
+            }
+            at += 6;
+        } else {
+            let k = delimited_fault(list, payload, at, kind, depth);
+            if k != 0 {
+                return faulty(k, at);
+            }
+            at += 6;
+            if kind == 11 {
+                depth += 1;
+                ty = inner;
+                open[depth as usize] = inner;
+            } else if kind == 20 {
+                match elements(list, at, depth + 1, number, wide(inner)) {
+                    Behind::To(e) => {
+                        at = e;
+                    }
+                    Behind::Bad(e) => {
+                        return faulty(10, e);
+                    }
+                }
+            }
+        }
+    }
+    if at < list.len() {
+        return faulty(10, at);
+    }
+    Verdict::Fine
+}
