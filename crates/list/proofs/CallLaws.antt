@@ -1,7 +1,7 @@
 -- Laws of the call: the tables that it makes, what it answers of a schema that is not valid, and that it has one answer. Assumes nothing.
 use Prim.Native.Nat.{ℕ, _+_, _-_, _*_, _/_, _%_, _^_, _≤_, _<_}
 use native.Mathlib.Omega.{arith}
-use mathlib.Core.Path.{_≡_, refl, sym, ap, _∙_, subst}
+use mathlib.Core.Path.{_≡_, refl, sym, ap, _∙_}
 use mathlib.Core.Option.{Option, none, some}
 use mathlib.Core.List.{List, [], _∷_}
 use lib.ListN.{length, getD, replicate, length-replicate, getD-replicate}
@@ -12,7 +12,7 @@ use Rattle.spec.specs.Writing.{Fields, listFault, schemaFirst, listCheck}
 use Rattle.spec.specs.declared.Entry.{Entry}
 use Rattle.spec.proofs.VarintLaws.{lower-or-not}
 use Rattle.spec.proofs.SchemaLaws.{Good, good-entry, at, valid-count, valid-good}
-use Rattle.schema.specs.Tables.{soundOf, keyOf, keysWith, infoWith}
+use Rattle.schema.specs.Tables.{soundOf, keysWith, infoWith}
 use Rattle.schema.proofs.MakingLaws.{wire-below}
 use Rattle.schema.proofs.StoredLaws.{keys-at, keys-else}
 use Rattle.schema.proofs.TableLaws.{sound-valid, made-says}

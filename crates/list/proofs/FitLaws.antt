@@ -1,5 +1,5 @@
 -- Laws of the kinds that a list may have: their wire types and shapes, and which values fit them. Assumes nothing.
-use Prim.Native.Nat.{ℕ, _+_, _-_, _^_, _≤_, _<_, min}
+use Prim.Native.Nat.{ℕ, _-_, _^_, _≤_, _<_, min}
 use native.Mathlib.Omega.{arith}
 use native.Mathlib.Decide.{decLt}
 use mathlib.Core.Path.{_≡_, refl, sym, ap, _∙_}
@@ -7,14 +7,14 @@ use mathlib.Core.Logic.{_≢_}
 use mathlib.Core.Bool.{Bool, true, false, _&&_, _||_, false≢true}
 use mathlib.Core.List.{List}
 use lib.ListN.{take, getD, List·getD-eq-default}
-use lib.Dec.{T, leb, ltb, eqb}
+use lib.Dec.{leb, ltb, eqb}
 use borrow.Author.Tests.{lt-ltb, le-ltb, le-leb, lt-leb, ne-eqb, leb-true}
-use Rattle.spec.specs.Base.{if_then_else_, between}
+use Rattle.spec.specs.Base.{if_then_else_}
 use Rattle.spec.specs.Kind.{Scalar, int32, uint32, uint64, bool, sint32, sint64, fixed32, sfixed32, fixed64, Shape, one, other, string, bytes, message, packed, startGroup, endGroup, nothing, kindWires, ownWires, wires, wire, shapes, shape, signed32, fits}
 use Rattle.spec.specs.Writing.{recorded}
 use Rattle.spec.proofs.Laws.{either-way, by-test}
 use Rattle.spec.proofs.KindLaws.{wireOne, wireOf, wire-shape}
-use Rattle.wire.proofs.Below.{agree, equal-below}
+use Rattle.wire.proofs.Below.{equal-below}
 use Rattle.list.specs.Checking.{signedKind, narrowKind}
 
 -- ---- wire types and shapes

@@ -13,7 +13,7 @@ use Rattle.spec.specs.Base.{if_then_else_, between, part}
 use Rattle.spec.specs.Utf8.{utf8}
 use Rattle.spec.specs.Kind.{Scalar, Shape, one, other, nothing, shapes, shape, isScalar, wire, fits}
 use Rattle.spec.specs.Schema.{Schema, lookup, kindOf, Says, insideOf, saysOf, says}
-use Rattle.spec.specs.Record.{Record, stride, recordsOf}
+use Rattle.spec.specs.Record.{Record, recordsOf}
 use Rattle.spec.specs.Writing.{Place, Fields, recorded, expected, lies, fitting, nextDeeper, recordFault}
 use Rattle.spec.specs.declared.Entry.{Entry}
 use Rattle.spec.proofs.Laws.{both, both-true, by-test}

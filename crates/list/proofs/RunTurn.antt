@@ -5,13 +5,13 @@ use mathlib.Core.Path.{_≡_, refl, sym, ap, ap₂, _∙_, subst}
 use mathlib.Core.Logic.{_≢_}
 use mathlib.Core.Bool.{Bool, true, false}
 use mathlib.Core.List.{List, [], _∷_}
-use lib.ListN.{length, drop, getD, set, length-set}
+use lib.ListN.{length, getD, set, length-set}
 use lib.Seq.{getD-set-same, getD-set-other}
 use borrow.Author.Tests.{eq-eqb, ne-eqb}
 use Rattle.spec.specs.Base.{if_then_else_}
 use Rattle.spec.specs.Kind.{Scalar, one, shape, kindWires, ownWires, wires, wire, fits}
-use Rattle.spec.specs.Schema.{Schema, lookup}
-use Rattle.spec.specs.Record.{Record, broken, recordsOf}
+use Rattle.spec.specs.Schema.{Schema}
+use Rattle.spec.specs.Record.{broken, recordsOf}
 use Rattle.spec.specs.Writing.{Place, Fields, Elements, around, inside, expected, recordFault, Verdict, Fine, Faulty, listFault}
 use Rattle.spec.proofs.VarintLaws.{lower-or-not}
 use Rattle.spec.proofs.RunLaws.{records-at}
@@ -20,7 +20,7 @@ use Rattle.list.specs.declared.record.Asked.the-variants.{Expected, Othe
 use Rattle.list.specs.declared.run.Behind.the-variants.{To, Bad}
 use Rattle.list.proofs.FitLaws.{one-number}
 use Rattle.list.proofs.RecordLaws.{expects, fault-other, fault-rest, rest-number, rest-low}
-use Rattle.list.proofs.OpenLaws.{outer, fields-cons, length-fields, fields-set, fields-more, around-fields, first-good, first-bad, first-deep, first-out, none-left}
+use Rattle.list.proofs.OpenLaws.{outer, fields-cons, length-fields, fields-more, around-fields, first-good, first-bad, first-deep, first-out, none-left}
 use Rattle.list.proofs.ElementTurn.{recordsFrom, records-end, records-rest}
 
 -- What the whole list comes to is what the records from `at` on come to, in the messages that are open down to `depth`; `type` is the last one's.

@@ -63,6 +63,11 @@ pub record Suits (sch : Schema) (type number kind inner : ℕ) : Type 0 where
   pub fields : kind ≡ 11 → (inner ≡ lookup (sch .entries) type number .child) × (inner < 32)
   pub elements : kind ≡ 20 → (inner ≡ lookup (sch .entries) type number .kind) × ((c : Scalar) × (shape inner ≡ one c))
 
+-- a type, the number at which the keys of its entries start, and the place of its guesses
+pub record Typed (type owner guesses : ℕ) : Type 0 where
+  pub keys-from : owner ≡ type * 2 ^ 32
+  pub guesses-from : guesses ≡ type % 32 * 16
+
 pub data Answers (keys info : List ℕ) (type number kind : ℕ) : Asked → Type 0 where
   suits : {w inner : ℕ} → w ≡ wire kind → ((sch : Schema) → Made sch keys info → type < 32 → Suits sch type number kind inner)
       → Answers keys info type number kind (Expected w inner)

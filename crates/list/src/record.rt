@@ -1,12 +1,10 @@
 // One record in its place: its number and kind, its value, and what only records of wire type 2 have.
 ghost use mathlib.Core.Path.{_≡_};
-ghost use mathlib.Core.List.{_∷_, []};
-ghost use Prim.Native.Nat.{_+_, _≤_, _<_};
+ghost use Prim.Native.Nat.{_+_, _*_, _%_, _^_, _≤_, _<_};
 ghost use lib.ListN.{length, drop, take, getD};
 ghost use Rattle.spec.specs.Kind.{Scalar, one, shape, fits, wires, wire};
 ghost use Rattle.spec.specs.Record.{recordsOf};
-ghost use Rattle.spec.specs.Schema.{Schema};
-ghost use Rattle.list.specs.Checking.{rowAt, rangeFault, restFault, signedKind, narrowKind, Answers};
+ghost use Rattle.list.specs.Checking.{rowAt, rangeFault, restFault, signedKind, narrowKind, Typed, Answers};
 use schema::says;
 use wire::utf8::is_utf8;
 
@@ -28,6 +26,19 @@ pub(crate) fn wide(byte: u8) -> u64
     ensures { λ r. ⌜ (r ≡ byte) × (r < 256) ⌝ }
 {
     byte as u64
+}
+
+// The keys of a type's entries start at this number, and its guesses at this place. There are no more than 32 types.
+pub(crate) fn owner_of(ty: u8) -> u64
+    ensures { λ r. ⌜ r ≡ ty * 2 ^ 32 ⌝ }
+{
+    ty as u64 * 0x1_0000_0000
+}
+
+pub(crate) fn guesses_of(ty: u8) -> usize
+    ensures { λ r. ⌜ r ≡ ty % 32 * 16 ⌝ }
+{
+    (ty % 32) as usize * 16
 }
 
 // Of any number: by a search, where there is such a tag.
@@ -54,16 +65,19 @@ fn search(keys: &[u64; 256], info: &[u8; 1024], ty: u8, number: u64, kind: u64, 
     }
 }
 
-// Of a record in a message of this type: by a guess at its entry, which the keys say to be right or not.
+// Of a record in a message of this type: by a guess at its entry, which the keys say to be right or not. The keys of its type, and the place of
+// its guesses, are handed in, as they stay the same from record to record.
 pub(crate) fn ask(
     table: &[u8; 25],
     keys: &[u64; 256],
     info: &[u8; 1024],
     ty: u8,
+    owner: u64,
+    guesses: usize,
     number: u64,
     kind: u64,
 ) -> Asked
-    requires { ⌜ now table ≡ take 25 wires ⌝ }
+    requires { ⌜ (now table ≡ take 25 wires) × Typed ty owner guesses ⌝ }
     ensures { λ r. ⌜ Answers (now (keys .entry)) (now (info .entry)) ty number kind r ⌝ }
 {
     if 24 < kind {
@@ -72,8 +86,8 @@ pub(crate) fn ask(
     let k = kind as usize;
     let w = table[k];
     if number < 16 {
-        let i = index(info[(ty % 32) as usize * 16 + number as usize]);
-        if keys[i] == ty as u64 * 0x1_0000_0000 + number * 8 + wide(w) {
+        let i = index(info[guesses + number as usize]);
+        if keys[i] == owner + number * 8 + wide(w) {
             if wide(info[512 + i]) != kind {
                 return Asked::Other;
             }

@@ -12,6 +12,8 @@ use crate::Verdict;
 use crate::record::Asked;
 use crate::record::ask;
 use crate::record::delimited_fault;
+use crate::record::guesses_of;
+use crate::record::owner_of;
 use crate::record::value_fits;
 use crate::record::wide;
 use wire::wire_format::record_wires;
@@ -68,6 +70,8 @@ pub(crate) fn list_fault(
     let table = record_wires();
     let mut open: [u8; 101] = [0; 101];
     let mut ty: u8 = 0;
+    let mut owner: u64 = 0;
+    let mut guesses: usize = 0;
     let mut depth: u64 = 0;
     let mut at: usize = 0;
     while 6 <= list.len() - at {
@@ -78,10 +82,13 @@ pub(crate) fn list_fault(
             }
             depth = d;
             ty = open[d as usize];
+            owner = owner_of(ty);
+            guesses = guesses_of(ty);
         }
         let number = list[at + 1];
         let kind = list[at + 2];
-        let Asked::Expected { w, inner } = ask(&table, keys, info, ty, number, kind) else {
+        let Asked::Expected { w, inner } = ask(&table, keys, info, ty, owner, guesses, number, kind)
+        else {
             return faulty(10, at);
         };
         if w != 2 {
@@ -98,6 +105,8 @@ pub(crate) fn list_fault(
             if kind == 11 {
                 depth += 1;
                 ty = inner;
+                owner = owner_of(inner);
+                guesses = guesses_of(inner);
                 open[depth as usize] = inner;
             } else if kind == 20 {
                 match elements(list, at, depth + 1, number, wide(inner)) {

@@ -1,4 +1,5 @@
 -- `list::record::delimited_fault` meets its contract. Assumes nothing.
+use native.Mathlib.Omega.{arith}
 use mathlib.Core.Path.{_∙_}
 use borrow.Author.Needs.{needs}
 use Rattle.list.proofs.RecordLaws.{value-at, deep-at, shallow-at, last-at, jump-at, run-at, content-at}
@@ -14,13 +15,13 @@ returns-2 : tie.Need-returns-2
 returns-2 c =
     let i = c .before .before in
     let a = i .before .before .before .before in
-    deep-at (a .args .payload .now) (a .args .list .now) (a .args .at) (a .pre .0) (a .pre .1) (a .pre .2) (i .if1 .left) (c .before .if2 .taken) (c .if3 .taken)
+    deep-at (a .args .payload .now) (a .args .list .now) (a .args .at) (a .pre .0) (a .pre .1) (a .pre .2) (i .if1 .left) (c .before .if2 .taken) (omega (arith, c .if3 .taken))
 
 returns-3 : tie.Need-returns-3
 returns-3 c =
     let i = c .before .before in
     let a = i .before .before .before .before in
-    shallow-at (a .args .payload .now) (a .args .list .now) (a .args .at) (a .pre .0) (a .pre .1) (a .pre .2) (i .if1 .left) (c .before .if2 .taken) (c .if3 .left)
+    shallow-at (a .args .payload .now) (a .args .list .now) (a .args .at) (a .pre .0) (a .pre .1) (a .pre .2) (i .if1 .left) (c .before .if2 .taken) (omega (arith, c .if3 .left))
 
 returns-4 : tie.Need-returns-4
 returns-4 c =

@@ -1,5 +1,5 @@
 -- `list::run::list_fault` meets its contract. The loop's invariant: what the list comes to is what the records from here on come to. Assumes nothing.
-use Prim.Native.Nat.{ℕ, _+_, _-_, _<_}
+use Prim.Native.Nat.{ℕ, _+_, _-_, _*_, _%_, _^_}
 use native.Mathlib.Omega.{arith}
 use mathlib.Core.Path.{refl, sym, ap, _∙_, subst}
 use mathlib.Core.Logic.{⊎-elim}
@@ -7,26 +7,30 @@ use borrow.Author.Needs.{needs}
 use borrow.Author.Tests.{not-true, not-false}
 use lib.ListN.{length, getD, length-replicate, getD-replicate}
 use Rattle.list.specs.Told.{told}
-use Rattle.list.specs.Checking.{Answers, Elapsed}
+use Rattle.list.specs.Checking.{Typed, Answers, Elapsed}
 use Rattle.list.specs.declared.record.Asked.the-variants.{Expected}
 use Rattle.list.proofs.RunTurn.{Going, Standing, here, go-end, go-rest, go-deep, go-same, go-out, wire-is, stand-other, stand-value-bad, stand-value, stand-fault, stand-low, stand-content, stand-message, stand-elements, elements-on, stand-bad-element}
 use Rattle.list.proofs.run.list_fault.Statement.{statement}
 use Rattle.list.proofs.run.list_fault.Tie as tie
 
 abbrev Inv-loop : tie.InvT-loop
-Inv-loop keys info list payload table open₀ ty₀ depth₀ at₀ «open» ty depth at = Going keys info list payload «open» ty depth at
+Inv-loop keys info list payload table open₀ ty₀ owner₀ guesses₀ depth₀ at₀ «open» ty owner guesses depth at =
+    Going keys info list payload «open» ty depth at × Typed ty owner guesses
 
 abbrev μ-loop : tie.MeasureT-loop
-μ-loop keys info list payload table open₀ ty₀ depth₀ at₀ «open» ty depth at = length list - at
+μ-loop keys info list payload table open₀ ty₀ owner₀ guesses₀ depth₀ at₀ «open» ty owner guesses depth at = length list - at
 
 loop-holds : tie.Need-loop-holds Inv-loop μ-loop
-loop-holds c = record {
-  inside = omega arith;
-  whole = refl;
-  shallow = omega arith;
-  long = length-replicate {A = ℕ} 101 0;
-  lies = λ sch m. here sch _ _ _ (getD-replicate 101 0 0 0 (omega arith));
-}
+loop-holds c = (
+  record {
+    inside = omega arith;
+    whole = refl;
+    shallow = omega arith;
+    long = length-replicate {A = ℕ} 101 0;
+    lies = λ sch m. here sch _ _ _ (getD-replicate 101 0 0 0 (omega arith));
+  },
+  record { keys-from = refl; guesses-from = refl },
+)
 
 -- the record's place
 standing : (c : tie.Joined1 Inv-loop μ-loop) →
@@ -35,10 +39,22 @@ standing : (c : tie.Joined1 Inv-loop μ-loop) →
     Standing (a .keys .now) (a .info .now) (a .list .now) (a .payload .now) (l .loop .«open») (c .if1 .ty) (c .if1 .depth) (l .loop .at)
 standing c =
     let i = c .before .before in
-    let g = i .before .loop .inv in
+    let g = i .before .loop .inv .0 in
     ⊎-elim
-    (λ w. go-out g (i .loop-test .taken) (omega (arith, w .1 .left)) (w .2) (w .3))
-    (λ w. go-same g (i .loop-test .taken) (w .0 .left) (w .1) (w .2))
+    (λ w. go-out g (i .loop-test .taken) (omega (arith, w .1 .left)) (w .4) (w .7))
+    (λ w. go-same g (i .loop-test .taken) (w .0 .left) (w .1) (w .4))
+    (c .if1 .came)
+
+-- and its type
+typed : (c : tie.Joined1 Inv-loop μ-loop) → Typed (c .if1 .ty) (c .if1 .owner) (c .if1 .guesses)
+typed c =
+    let t = c .before .before .before .loop .inv .1 in
+    ⊎-elim
+    (λ w. record {
+      keys-from = w .5 ∙ w .2 .ensures ∙ ap (λ (x : ℕ). x * 2 ^ 32) (sym (w .4));
+      guesses-from = w .6 ∙ w .3 .ensures ∙ ap (λ (x : ℕ). x % 32 * 16) (sym (w .4));
+    })
+    (λ w. rw (w .1, w .2, w .3) t)
     (c .if1 .came)
 
 -- what was answered of it
@@ -54,13 +70,13 @@ returns : tie.Need-returns Inv-loop μ-loop
 returns c =
     let t = c .before in
     let i = t .before .before .before in
-    λ sch m. c .faulty .ensures ∙ go-deep (i .before .loop .inv) (i .loop-test .taken) (t .if2 .taken) sch m
+    λ sch m. c .faulty .ensures ∙ go-deep (i .before .loop .inv .0) (i .loop-test .taken) (t .if2 .taken) sch m
 
 array-read-ty : tie.Need-array-read-ty Inv-loop μ-loop
-array-read-ty c = omega (arith, c .before .before .before .before .loop .inv .shallow)
+array-read-ty c = omega (arith, c .before .before .before .before .loop .inv .0 .shallow)
 
 ask-requires : tie.Need-ask-requires Inv-loop μ-loop
-ask-requires c κs = c .before .before .before .before .before .before .before .record-wires .ensures
+ask-requires c κs = (c .before .before .before .before .before .before .before .record-wires .ensures, typed (c .before .before .before))
 
 returns-2 : tie.Need-returns-2 Inv-loop μ-loop
 returns-2 c =
@@ -82,7 +98,7 @@ loop-again c =
     let v = c .before in
     let t = v .before .before in
     let w = t .before .before in
-    stand-value (standing (w .before .before .before .before .before .before)) (asked w) (t .if3 .taken) (v .value-fits .ensures) (not-false (v .value-fits .result) (c .if4 .left))
+    (stand-value (standing (w .before .before .before .before .before .before)) (asked w) (t .if3 .taken) (v .value-fits .ensures) (not-false (v .value-fits .result) (c .if4 .left)), typed (w .before .before .before .before .before .before))
 
 delimited-fault-requires : tie.Need-delimited-fault-requires Inv-loop μ-loop
 delimited-fault-requires c κs =
@@ -104,17 +120,21 @@ add-depth c =
 
 array-write-open : tie.Need-array-write-open Inv-loop μ-loop
 array-write-open c =
-    let b = c .before .before in
+    let k = c .before .before .before in
+    let b = k .before in
     let f = b .before in
     let w = f .before .before .before in
-    omega (arith, stand-low (standing (w .before .before .before .before .before .before)) (asked w) (f .delimited-fault .ensures) (b .if5 .left) (c .before .if6 .taken))
+    omega (arith, stand-low (standing (w .before .before .before .before .before .before)) (asked w) (f .delimited-fault .ensures) (b .if5 .left) (k .if6 .taken))
 
 loop-again-2 : tie.Need-loop-again-2 Inv-loop μ-loop
 loop-again-2 c =
-    let b = c .before .before in
+    let k = c .before .before .before in
+    let b = k .before in
     let f = b .before in
-    let w = f .before .before .before in
-    stand-message (standing (w .before .before .before .before .before .before)) (asked w) (f .delimited-fault .ensures) (b .if5 .left) (c .before .if6 .taken)
+    let w = f .before .before .before in (
+      stand-message (standing (w .before .before .before .before .before .before)) (asked w) (f .delimited-fault .ensures) (b .if5 .left) (k .if6 .taken),
+      record { keys-from = c .before .owner-of2 .ensures; guesses-from = c .guesses-of2 .ensures },
+    )
 
 add-elements : tie.Need-add-elements Inv-loop μ-loop
 add-elements c =
@@ -158,9 +178,11 @@ loop-again-3 c =
     let t = e .before .before .before in
     let b = t .before .before in
     let f = b .before in
-    let w = f .before .before .before in
-    stand-elements (standing (w .before .before .before .before .before .before)) (asked w) (f .delimited-fault .ensures) (b .if5 .left) (t .if7 .taken)
-    (subst (Elapsed _ _ _ _ _) (c .before .e .given .1) (elapsed e))
+    let w = f .before .before .before in (
+      stand-elements (standing (w .before .before .before .before .before .before)) (asked w) (f .delimited-fault .ensures) (b .if5 .left) (t .if7 .taken)
+          (subst (Elapsed _ _ _ _ _) (c .before .e .given .1) (elapsed e)),
+      typed (w .before .before .before .before .before .before),
+    )
 
 returns-5 : tie.Need-returns-5 Inv-loop μ-loop
 returns-5 c =
@@ -178,17 +200,19 @@ loop-again-4 : tie.Need-loop-again-4 Inv-loop μ-loop
 loop-again-4 c =
     let b = c .before .before in
     let f = b .before in
-    let w = f .before .before .before in
-    stand-content (standing (w .before .before .before .before .before .before)) (asked w) (f .delimited-fault .ensures) (b .if5 .left) (c .before .if6 .left) (c .if7 .left)
+    let w = f .before .before .before in (
+      stand-content (standing (w .before .before .before .before .before .before)) (asked w) (f .delimited-fault .ensures) (b .if5 .left) (c .before .if6 .left) (c .if7 .left),
+      typed (w .before .before .before .before .before .before),
+    )
 
 returns-6 : tie.Need-returns-6 Inv-loop μ-loop
 returns-6 c =
     let i = c .before .before in
-    λ sch m. c .faulty6 .ensures ∙ go-rest (i .before .loop .inv) (c .before .if8 .taken) (i .loop-test .left) sch m
+    λ sch m. c .faulty6 .ensures ∙ go-rest (i .before .loop .inv .0) (c .before .if8 .taken) (i .loop-test .left) sch m
 
 returns-7 : tie.Need-returns-7 Inv-loop μ-loop
 unfolding told
-returns-7 c = λ sch m. go-end (c .before .before .loop .inv) (c .if8 .left) sch m
+returns-7 c = λ sch m. go-end (c .before .before .loop .inv .0) (c .if8 .left) sch m
 
 pub list-fault-spec : {M : Type 1} → statement M
 list-fault-spec =
@@ -198,12 +222,14 @@ list-fault-spec =
     μ-loop
     (λ c κs. search needs)
     loop-holds
-    (λ c. c .loop .inv .inside)
+    (λ c. c .loop .inv .0 .inside)
     (λ c. search needs)
     (λ c. search needs)
     (λ c κs. search needs)
     returns
     array-read-ty
+    (λ c κs. search needs)
+    (λ c κs. search needs)
     (λ c. search needs)
     (λ c. search needs)
     (λ c. search needs)
@@ -229,6 +255,8 @@ list-fault-spec =
     returns-4
     (λ c. search needs)
     add-depth
+    (λ c κs. search needs)
+    (λ c κs. search needs)
     array-write-open
     (λ c. search needs)
     loop-again-2
