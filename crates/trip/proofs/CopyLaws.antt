@@ -1,0 +1,87 @@
+-- What the steps of a copy leave for one another: the bytes at the front of an output, and the records at the front of a room. Assumes nothing.
+use Prim.Native.Nat.{ℕ, _-_, _*_, _/_, _≤_}
+use native.Mathlib.Omega.{arith}
+use mathlib.Core.Path.{_≡_, refl, ap, ap₂, _∙_}
+use mathlib.Core.Bool.{Bool}
+use mathlib.Core.List.{List, [], _∷_, map}
+use mathlib.Core.Option.{Option, none, some}
+use lib.ListN.{length, take, drop, length-append, length-drop}
+use lib.Seq.{take-append-seam, take-at}
+use lib.Dec.{ltb}
+use borrow.Author.Tests.{ne-eqb}
+use Rattle.spec.specs.Base.{if_then_else_, part, filled, limit}
+use Rattle.spec.specs.Schema.{Schema, badSchema, says}
+use Rattle.spec.specs.Record.{Record, stride, stored, recordsOf}
+use Rattle.spec.specs.Reading.{Reading, read, within, refusedOr, reading, listed, roomAfter}
+use Rattle.spec.specs.Writing.{Writing, number, size, index, output, writing, written}
+use Rattle.spec.proofs.Laws.{either-way}
+use Rattle.spec.proofs.RecordLaws.{within-fits, stored-length, room-kept}
+use Rattle.spec.proofs.FlatLaws.{untagged, records-stored}
+use Rattle.spec.proofs.SizeLaws.{Answered, wrote, short, above, faulty, writing-answered}
+use Rattle.onward.specs.Onward.{seen}
+use Rattle.onward.proofs.OnwardLaws.{same-seen}
+use Rattle.write.specs.Answers.{told}
+use Rattle.trip.specs.Copy.{sent, sentSize, reads}
+
+-- a part that begins at the front
+pub part-front : (k : ℕ) (b : List ℕ) → part 0 k b ≡ take k b
+part-front k b = let all : k - 0 ≡ k = omega arith in ap (λ (n : ℕ). take n b) all
+
+-- ---- an output
+
+-- what a writing leaves in an output: the bytes that it sent, at the front
+pub record Leaves (w : Writing) (out : List ℕ) : Type 0 where
+  pub size-is : sentSize (told w) ≡ length (sent w)
+  pub fits : length (sent w) ≤ length out
+  pub kept : length (output w out) ≡ length out
+  pub front : take (length (sent w)) (output w out) ≡ sent w
+
+pub writing-leaves : (sch : Schema) (payload : List ℕ) (rs : List Record) (out : List ℕ) → Leaves (writing sch (length out) payload rs) out
+unfolding told number size index output sent
+writing-leaves sch payload rs out = go (writing-answered sch (length out) payload rs)
+  where
+    kept-length : length (written payload rs) ≤ length out → length (filled (written payload rs) out) ≡ length out
+    kept-length j =
+        omega (arith, length-append (written payload rs) (drop (length (written payload rs)) out), length-drop (length (written payload rs)) out)
+
+    go : {w : Writing} → Answered (length out) (written payload rs) w → Leaves w out
+    go (wrote h j) = record { size-is = refl; fits = j; kept = kept-length j; front = take-append-seam (written payload rs) (drop (length (written payload rs)) out) }
+    go (short h j) = record { size-is = refl; fits = omega arith; kept = refl; front = refl }
+    go (above h) = record { size-is = refl; fits = omega arith; kept = refl; front = refl }
+    go (faulty {k} h j) = record { size-is = ap (λ (b : Bool). if b then 0 else 0) (ne-eqb k 0 (λ e. omega arith)); fits = omega arith; kept = refl; front = refl }
+
+-- ---- a room
+
+reading-fits : (sch : Schema) (n : ℕ) (s : List ℕ) → length (listed (reading sch n s)) ≤ n
+unfolding reading refusedOr listed
+reading-fits sch n s = either-way (λ (q : Reading). length (listed q) ≤ n) (ltb limit (length s)) (omega arith) (go (badSchema sch))
+  where
+    go : (bad : Option ℕ) → length (listed (refusedOr bad (within n (read (says sch) 0 0 0 s)))) ≤ n
+    go none = within-fits n (read (says sch) 0 0 0 s)
+    go (some i) = omega arith
+
+-- what a reading answers, and the room that it leaves
+module _ (sch : Schema) (s room : List ℕ) {count : ℕ} {room′ : List ℕ} (counts : count ≡ length (listed (reads sch s room)))
+    (holds : room′ ≡ roomAfter (reads sch s room) room) where
+  pub count-fits : count ≤ length room / stride
+  count-fits = omega (arith, reading-fits sch (length room / stride) s)
+
+  pub room-same : length room′ ≡ length room
+  room-same = ap length holds ∙ room-kept (reads sch s room) room (reading-fits sch (length room / stride) s)
+
+  -- the records that were listed stand at its front
+  pub room-front : (k : ℕ) → k ≡ stride * count → take k room′ ≡ stored (listed (reads sch s room))
+  room-front k is =
+      let l : List Record = listed (reads sch s room) in
+      ap (take k) holds ∙ take-at (stored l) (drop (length (stored l)) room) k (omega (arith, stored-length l))
+
+-- and show what the records show: where a tag stood is not looked at
+seen-untagged : (s : List ℕ) (r : Record) → seen s (untagged r) ≡ seen s r
+seen-untagged s r = same-seen (record { depths = refl; numbers = refl; kinds = refl; values = refl; contents = λ c. refl })
+
+map-untagged : (s : List ℕ) (rs : List Record) → map (seen s) (map untagged rs) ≡ map (seen s) rs
+map-untagged s [] = refl
+map-untagged s (r ∷ rs) = ap₂ (_∷_) (seen-untagged s r) (map-untagged s rs)
+
+pub seen-stored : (s : List ℕ) (rs : List Record) → map (seen s) (recordsOf (stored rs)) ≡ map (seen s) rs
+seen-stored s rs = ap (map (seen s)) (records-stored rs) ∙ map-untagged s rs

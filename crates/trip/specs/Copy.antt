@@ -1,0 +1,89 @@
+-- A list that is copied by way of an older schema: what each of the three steps answers and leaves, and demand 3 about it.
+-- Assumes nothing: these are definitions.
+use Prim.Native.Nat.{ℕ, _*_, _/_, _≤_}
+use mathlib.Core.Path.{_≡_}
+use mathlib.Core.List.{List, [], map}
+use mathlib.Core.Option.{none}
+use lib.ListN.{length, take}
+use lib.Dec.{eqb}
+use Rattle.spec.specs.Base.{if_then_else_, limit}
+use Rattle.spec.specs.Schema.{Schema, badSchema}
+use Rattle.spec.specs.Record.{Record, stride, recordsOf}
+use Rattle.spec.specs.Reading.{Reading, reading, number, place, listed, roomAfter}
+use Rattle.spec.specs.Writing.{Fine, listCheck, written, Writing, Wrote, Failed, writing, output}
+use Rattle.write.specs.Answers.{told}
+use Rattle.write.specs.declared.Answer.{Answer}
+use Rattle.read.specs.declared.Answer as read
+use Rattle.onward.specs.Onward.{Older, seen, onward}
+use Rattle.trip.specs.declared.Trip.{Trip}
+
+-- ---- the three steps
+
+-- the bytes that a writing leaves to be read: none where it was refused
+unfoldable pub sent : Writing → List ℕ
+sent (Wrote s) = s
+sent (Failed k n i) = []
+
+-- how many they are, by the answer that tells it
+abbrev pub sentSize : Answer → ℕ
+sentSize a = if eqb (a .number) 0 then a .size else 0
+
+-- first, the list that the numbers are is written under the newer schema
+abbrev pub writes : (new : Schema) (list payload bytes : List ℕ) → Writing
+writes new list payload bytes = writing new (length bytes) payload (recordsOf list)
+
+-- then its bytes s are read under the older one
+abbrev pub reads : (old : Schema) (s room : List ℕ) → Reading
+reads old s room = reading old (length room / stride) s
+
+-- and the records that were read are written under the older one, with s for their payload
+abbrev pub rewrites : (old : Schema) (s room again : List ℕ) → Writing
+rewrites old s room again = writing old (length again) s (listed (reads old s room))
+
+-- What the last two of them answer, and what the room and the output then hold.
+pub record PassedOn (old : Schema) (s room again : List ℕ) (got : read.Answer) (rewrote : Answer) (room′ again′ : List ℕ) : Type 0 where
+  pub number-is : got .number ≡ number (reads old s room)
+  pub place-is : got .place ≡ place (reads old s room)
+  pub count-is : got .count ≡ length (listed (reads old s room))
+  pub room-holds : room′ ≡ roomAfter (reads old s room) room
+  pub rewrote-is : rewrote ≡ told (rewrites old s room again)
+  pub again-holds : again′ ≡ output (rewrites old s room again) again
+
+-- What all three answer, and what the three lent buffers then hold. The bytes that were written are what is read.
+pub record Copied (new old : Schema) (list payload bytes room again : List ℕ) (t : Trip) (bytes′ room′ again′ : List ℕ) : Type 0 where
+  pub wrote-is : t .wrote ≡ told (writes new list payload bytes)
+  pub bytes-hold : bytes′ ≡ output (writes new list payload bytes) bytes
+  pub passed : PassedOn old (sent (writes new list payload bytes)) room again (t .read) (t .again) room′ again′
+
+-- ---- demand 3
+
+-- What the demand asks for: the older schema is the newer one with some entries left out, and valid; the list is valid under the newer one, which
+-- is valid then too; its size is within the limit; there is room for its records once, and for its bytes twice.
+pub record Demanded (new old : Schema) (list payload bytes room again : List ℕ) : Type 0 where
+  pub older : Older old new
+  pub old-valid : badSchema old ≡ none
+  pub list-valid : listCheck new payload (recordsOf list) ≡ Fine
+  pub within-limit : length (written payload (recordsOf list)) ≤ limit
+  pub room-for-records : length (recordsOf list) ≤ length room / stride
+  pub room-for-bytes : length (written payload (recordsOf list)) ≤ length bytes
+  pub room-again : length (written payload (recordsOf list)) ≤ length again
+
+-- the bytes that were written, the records that were read, and the bytes that were written again
+abbrev pub message : Trip → List ℕ → List ℕ
+message t bytes = take (t .wrote .size) bytes
+
+abbrev pub listRead : Trip → List ℕ → List Record
+listRead t room = recordsOf (take (stride * t .read .count) room)
+
+abbrev pub messageAgain : Trip → List ℕ → List ℕ
+messageAgain t again = take (t .again .size) again
+
+-- What it promises: no step is refused; the list that was read shows what an older schema is to read of the list; and the bytes that were
+-- written again are the bytes that were written.
+pub record Unharmed (old : Schema) (list payload : List ℕ) (t : Trip) (bytes room again : List ℕ) : Type 0 where
+  pub writes-well : t .wrote .number ≡ 0
+  pub reads-well : t .read .number ≡ 0
+  pub rewrites-well : t .again .number ≡ 0
+  pub bytes-of-list : message t bytes ≡ written payload (recordsOf list)
+  pub shows : map (seen (message t bytes)) (listRead t room) ≡ onward old payload (recordsOf list)
+  pub same-bytes : messageAgain t again ≡ message t bytes
