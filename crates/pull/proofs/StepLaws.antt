@@ -1,22 +1,24 @@
 -- Laws of the steps: each says an answer of the code in the definitions' terms; and that any two answers to a call are equal.
 -- Assumes nothing.
-use Prim.Native.Nat.{ℕ, _+_, _-_, _≤_, _<_}
+use Prim.Native.Nat.{ℕ, suc, _+_, _-_, _*_, _%_, _≤_, _<_}
 use native.Mathlib.Omega.{arith}
 use mathlib.Core.Path.{_≡_, refl, sym, ap, ap₂, _∙_}
 use mathlib.Core.Bool.{Bool, true, false}
 use mathlib.Core.List.{List}
-use lib.ListN.{length, take, drop, length-drop}
-use lib.Seq.{drop-drop}
+use lib.ListN.{length, take, drop, getD, length-drop}
+use native.Mathlib.Numerals.{add-one}
+use lib.Seq.{drop-cons, drop-drop}
 use borrow.Author.Tests.{le-leb}
-use Rattle.spec.specs.Base.{if_then_else_, part, Read, Took, No, longer, _>>=_}
-use Rattle.spec.specs.Varint.{varint64}
+use Rattle.spec.specs.Base.{if_then_else_, part, Read, Took, No, digit, longer, _>>=_}
+use Rattle.spec.specs.Varint.{varint, varint64}
 use Rattle.spec.specs.Utf8.{utf8}
 use Rattle.spec.specs.Skip.{content}
 use Rattle.spec.specs.Pull as spec
 use Rattle.spec.specs.Pull.{says, moved, numbered, bounded, spelled, innerOf, enterAt}
 use Rattle.spec.proofs.Laws.{Takes, took, takes-varint, Holds, holds, content-holds}
+use Rattle.spec.proofs.VarintLaws.{varint-goes-on}
 use Rattle.spec.proofs.PullLaws.{enter-too-deep, enter-content}
-use Rattle.skip.proofs.PastLaws.{content-short, content-refused}
+use Rattle.skip.proofs.PastLaws.{one-byte, content-short, content-refused}
 use Rattle.wire.specs.Answers as wire
 use Rattle.wire.specs.Reached.{varintOf}
 use Rattle.wire.specs.declared.found.Found.{Found}
@@ -27,6 +29,27 @@ use Rattle.pull.specs.declared.step.Said.{Said}
 use Rattle.pull.specs.declared.step.Said.the-variants as said
 use Rattle.pull.specs.declared.step.Moved.{Moved}
 use Rattle.pull.specs.Told.{saidTold, told, numberOf, spanAt, contentOf, shutAt, Gated}
+
+-- ---- varints of few bytes, which are the same at both widths
+
+-- a byte that says that another follows
+later-byte : (k last at : ℕ) (s : List ℕ) {v n : ℕ} → at < length s → 128 ≤ getD s at 0 → varint k last (drop (at + 1) s) ≡ Took v n
+    → varint (suc k) last (drop at s) ≡ Took (getD s at 0 % 128 + 128 * v) (suc n)
+unfolding digit
+later-byte k last at s h l e = rw (drop-cons s at 0, varint-goes-on k last (getD s at 0) (drop (suc at) s) l, ← add-one at, e)
+
+at-width : (narrow : Bool) (at v n : ℕ) (s : List ℕ) → ((k last : ℕ) → varint (suc (suc (suc k))) last (drop at s) ≡ Took v n) → wire.told at (found.Value v (at + n)) ≡ varintOf narrow (drop at s)
+at-width true at v n s h = ap (Took v) (omega arith) ∙ sym (h 1 15)
+at-width false at v n s h = ap (Took v) (omega arith) ∙ sym (h 6 1)
+
+module _ (narrow : Bool) (at : ℕ) (s : List ℕ) (inside : at < length s) where
+  pub one-told : getD s at 0 < 128 → wire.told at (found.Value (getD s at 0) (at + 1)) ≡ varintOf narrow (drop at s)
+  one-told h = at-width narrow at (getD s at 0) 1 s (λ k last. one-byte (suc (suc k)) last at s inside h)
+
+  pub two-told : 128 ≤ getD s at 0 → at + 1 < length s → getD s (at + 1) 0 < 128 → {v : ℕ} → v ≡ getD s at 0 % 128 + getD s (at + 1) 0 * 128
+      → wire.told at (found.Value v (at + 2)) ≡ varintOf narrow (drop at s)
+  two-told b i h {v} e =
+      at-width narrow at v 2 s (λ k last. later-byte (suc (suc k)) last at s inside b (one-byte (suc k) last (at + 1) s i h) ∙ ap (λ (x : ℕ). Took x 2) (omega arith))
 
 -- ---- numbers
 

@@ -11,13 +11,12 @@ use crate::value::int32_found;
 use crate::value::sfixed32_found;
 use crate::value::sint_found;
 use crate::value::span_at;
+use crate::value::varint_found;
 use skip::unknown_or_group::skip_field_for_tag;
 use wire::fixed::decode_fixed32;
 use wire::fixed::decode_fixed64;
 use wire::found::Found;
 use wire::utf8::is_utf8;
-use wire::varint::decode::decode_varint32;
-use wire::varint::decode::decode_varint64;
 
 // What a step is asked for: the tag as it stands, a value of a kind, a content, or the field behind a tag skipped.
 pub enum Ask {
@@ -104,7 +103,7 @@ pub fn tag_at(s: &[u8], at: usize) -> Moved
             at,
         };
     }
-    number_of(decode_varint32(s, at), at)
+    number_of(varint_found(s, at, true), at)
 }
 
 pub fn int32_at(s: &[u8], at: usize) -> Moved
@@ -116,14 +115,14 @@ pub fn int32_at(s: &[u8], at: usize) -> Moved
 pub fn uint32_at(s: &[u8], at: usize) -> Moved
     ensures { λ r. ⌜ told r ≡ stepAt (now (s .entry)) at 0 (value kind.uint32) ⌝ }
 {
-    number_of(decode_varint32(s, at), at)
+    number_of(varint_found(s, at, true), at)
 }
 
 // An int64 too: a value is its pattern.
 pub fn uint64_at(s: &[u8], at: usize) -> Moved
     ensures { λ r. ⌜ told r ≡ stepAt (now (s .entry)) at 0 (value kind.uint64) ⌝ }
 {
-    number_of(decode_varint64(s, at), at)
+    number_of(varint_found(s, at, false), at)
 }
 
 pub fn bool_at(s: &[u8], at: usize) -> Moved

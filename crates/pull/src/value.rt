@@ -17,11 +17,43 @@ use wire::zigzag::unzigzag;
 
 // ---- numbers
 
+fn long_found(s: &[u8], at: usize, narrow: bool) -> Found
+    ensures { λ r. ⌜ told at r ≡ varintOf narrow (drop at (now (s .entry))) ⌝ }
+{
+    if narrow {
+        return decode_varint32(s, at);
+    }
+    decode_varint64(s, at)
+}
+
+// A varint of either width. Those of one or two bytes are read in place, as most are, and the others by a call.
+pub(crate) fn varint_found(s: &[u8], at: usize, narrow: bool) -> Found
+    ensures { λ r. ⌜ told at r ≡ varintOf narrow (drop at (now (s .entry))) ⌝ }
+{
+    if s.len() <= at {
+        return long_found(s, at, narrow);
+    }
+    let c = s[at] as u64;
+    if c < 128 {
+        let next = at + 1;
+        return Found::Value { value: c, next };
+    }
+    if 1 < s.len() - at {
+        let d = s[at + 1] as u64;
+        if d < 128 {
+            let v = c % 128 + d * 0x80;
+            let next = at + 2;
+            return Found::Value { value: v, next };
+        }
+    }
+    long_found(s, at, narrow)
+}
+
 // An int32: a varint64 whose signed number has 32 bits.
-pub fn int32_found(s: &[u8], at: usize) -> Found
+pub(crate) fn int32_found(s: &[u8], at: usize) -> Found
     ensures { λ r. ⌜ told at r ≡ scalar int32 (drop at (now (s .entry))) ⌝ }
 {
-    match decode_varint64(s, at) {
+    match varint_found(s, at, false) {
         Found::Value { value, next } => {
             if value < 0x8000_0000 {
                 return Found::Value { value, next };
@@ -35,10 +67,10 @@ pub fn int32_found(s: &[u8], at: usize) -> Found
     }
 }
 
-pub fn bool_found(s: &[u8], at: usize) -> Found
+pub(crate) fn bool_found(s: &[u8], at: usize) -> Found
     ensures { λ r. ⌜ told at r ≡ scalar bool (drop at (now (s .entry))) ⌝ }
 {
-    match decode_varint64(s, at) {
+    match varint_found(s, at, false) {
         Found::Value { value, next } => {
             if value == 0 {
                 return Found::Value { value: 0, next };
@@ -49,17 +81,8 @@ pub fn bool_found(s: &[u8], at: usize) -> Found
     }
 }
 
-pub(crate) fn varint_found(s: &[u8], at: usize, narrow: bool) -> Found
-    ensures { λ r. ⌜ told at r ≡ varintOf narrow (drop at (now (s .entry))) ⌝ }
-{
-    if narrow {
-        return decode_varint32(s, at);
-    }
-    decode_varint64(s, at)
-}
-
 // A zigzag value of either width.
-pub fn sint_found(s: &[u8], at: usize, narrow: bool) -> Found
+pub(crate) fn sint_found(s: &[u8], at: usize, narrow: bool) -> Found
     ensures { λ r. ⌜ told at r ≡ meaning spec.unzigzag (varintOf narrow (drop at (now (s .entry)))) ⌝ }
 {
     match varint_found(s, at, narrow) {
@@ -71,7 +94,7 @@ pub fn sint_found(s: &[u8], at: usize, narrow: bool) -> Found
     }
 }
 
-pub fn sfixed32_found(s: &[u8], at: usize) -> Found
+pub(crate) fn sfixed32_found(s: &[u8], at: usize) -> Found
     ensures { λ r. ⌜ told at r ≡ scalar sfixed32 (drop at (now (s .entry))) ⌝ }
 {
     match decode_fixed32(s, at) {
@@ -92,7 +115,7 @@ pub enum Span {
 }
 
 // The content behind a length, which is a varint32 or a varint64.
-pub fn span_at(s: &[u8], at: usize, narrow: bool) -> Span
+pub(crate) fn span_at(s: &[u8], at: usize, narrow: bool) -> Span
     ensures { λ r. ⌜ r ≡ spanAt at (content (varintOf narrow) (drop at (now (s .entry)))) ⌝ }
 {
     match varint_found(s, at, narrow) {
