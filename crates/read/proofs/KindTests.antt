@@ -1,21 +1,21 @@
 -- The table of kinds by tests on the kind, which is how code asks it. Assumes nothing.
-use Prim.Native.Nat.{ℕ, suc, _+_, _*_, _/_, _%_, _≤_, _<_, min}
+use Prim.Native.Nat.{ℕ, suc, _≤_, _<_, min}
 use native.Mathlib.Decide.{decLt}
 use native.Mathlib.Omega.{arith}
 use mathlib.Core.Path.{_≡_, refl, sym, ap, _∙_}
-use mathlib.Core.Bool.{Bool, true, false, not, _||_, false≢true}
+use mathlib.Core.Bool.{Bool, true, false, _||_, false≢true}
 use mathlib.Core.Logic.{_⊎_, inl, inr}
 use mathlib.Core.List.{List}
-use lib.ListN.{getD, List·getD-eq-default}
+use lib.ListN.{List·getD-eq-default}
 use lib.Dec.{T, leb, ltb, eqb}
-use borrow.Author.Tests.{eq-eqb, lt-ltb, le-ltb, le-leb, lt-leb, ne-eqb, eqb-true}
+use borrow.Author.Tests.{lt-ltb, le-ltb, le-leb, lt-leb, ne-eqb, eqb-true}
 use Rattle.spec.specs.Base.{if_then_else_, Read, Took, No, meaning, require}
 use Rattle.spec.specs.Varint.{varint32, varint64, unzigzag}
 use Rattle.spec.specs.Kind.{int32, uint32, uint64, bool, sint32, sint64, fixed32, sfixed32, fixed64, Shape, one, other, string, bytes, message, packed, startGroup, endGroup, nothing, shape, shapes, scalar, signed32}
 use Rattle.spec.specs.Schema.{bit}
 use Rattle.wire.specs.Reached.{varintOf}
 use Rattle.wire.proofs.Below.{agree, equal-below}
-use Rattle.read.specs.Answers.{Plain, hasLength, scalarOf, meantAs, meantBy, isInt, isSigned, isNarrow, intBy, sizeOne, sizeOf}
+use Rattle.read.specs.Answers.{hasLength, scalarOf, meantAs, meantBy, isInt, isSigned, isNarrow, intBy, sizeOne, sizeOf}
 use Rattle.read.specs.declared.scalar.Meant.{Meant}
 use Rattle.read.specs.declared.scalar.Meant.the-variants.{Is, Other}
 
@@ -312,20 +312,3 @@ int-shape (other x) s h = absurd (false≢true h)
 -- a varint read as a value of its kind is the definition's
 pub int-kind : (k : ℕ) (s : List ℕ) → isInt (shape k) ≡ true → intBy (shape k) (isSigned k) (varintOf (isNarrow k) s) ≡ scalarOf (shape k) s
 int-kind k s h = rw (signed-kind k, narrow-kind k) (int-shape (shape k) s h)
-
--- ---- the tag 0
-
-pub plain : {keys info : List ℕ} {ty : ℕ} → ty < 32 → not (eqb (getD keys (getD info (ty * 16) 0) 0) (ty * 4294967296)) ≡ true → Plain keys info ty
-plain {keys} {info} {ty} h e =
-    record { known = h; none = λ same. false≢true (sym (ap not (eq-eqb (getD keys (getD info (ty * 16) 0) 0) (ty * 4294967296) same)) ∙ e) }
-
--- where the tables claim nothing of it, a tag of wire type 0 whose entry is the guess has a number
-pub tag-above : {keys info : List ℕ} {ty c : ℕ} → Plain keys info ty → c % 8 ≡ 0 → getD keys (getD info (ty * 16 + c / 8) 0) 0 ≡ ty * 4294967296 + c → 8 ≤ c
-tag-above {keys} {info} {ty} {c} p d e =
-    elim (decLt c 8) [
-      | yes h ↦
-          let zero : c ≡ 0 = omega (arith, d, h) in
-          let guess : ty * 16 ≡ ty * 16 + c / 8 = omega (arith, zero) in
-          absurd (p .none (ap (λ (x : ℕ). getD keys (getD info x 0) 0) guess ∙ e ∙ omega (arith, zero)))
-      | no h ↦ omega (arith, h)
-    ]

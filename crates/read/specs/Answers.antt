@@ -1,6 +1,6 @@
 -- What the functions of this crate answer, by the definitions of reading. Assumes nothing: these are definitions. That a field which is asked
 -- for so is the field of the definition is a law (proofs/AskedLaws).
-use Prim.Native.Nat.{ℕ, suc, _+_, _-_, _*_, _/_, _%_, _≤_, _<_, min}
+use Prim.Native.Nat.{ℕ, suc, _+_, _-_, _/_, _%_, _≤_, _<_, min}
 use mathlib.Core.Path.{_≡_}
 use mathlib.Core.Bool.{Bool, true, false, not, _||_}
 use mathlib.Core.List.{List}
@@ -158,11 +158,6 @@ abbrev pub quickTag : List ℕ → (i c at : ℕ) → Tag
 quickTag info i c at =
     let kind = getD info (512 + i) 0 in
     tagged.Of (c / 8) kind (if eqb kind 11 then getD info (768 + i) 0 else 0) (at + 1)
-
--- tables that claim nothing of the tag 0 in messages of a type
-pub record Plain (keys info : List ℕ) (type : ℕ) : Type 0 where
-  pub known : type < 32
-  pub none : getD keys (getD info (type * 16) 0) 0 ≡ type * 4294967296 → ⊥
 
 -- the kind that is known of a tag
 pub data Tells (say : ℕ → Says) (c : ℕ) : Kind → Type 0 where

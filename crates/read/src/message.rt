@@ -1,11 +1,10 @@
 // The fields of a message to records.
 ghost use mathlib.Core.Path.{_≡_};
-ghost use mathlib.Core.Bool.{true};
 ghost use Prim.Native.Nat.{ℕ, _+_, _^_, _≤_, _<_};
 ghost use lib.ListN.{length, drop};
 ghost use Rattle.spec.specs.Reading.{records, read};
 ghost use Rattle.schema.specs.Tables.{tableSays};
-ghost use Rattle.read.specs.Answers.{Held, Plain, Tells, rowField};
+ghost use Rattle.read.specs.Answers.{Held, Tells, rowField};
 ghost use Rattle.read.specs.Emit.{left, emit, Further};
 use crate::classify::Field;
 use crate::classify::Row;
@@ -28,28 +27,19 @@ enum Kind {
     Other,
 }
 
-// Whether the tables claim nothing of the tag 0 in messages of this type, as those of a valid schema do: then no turn of `short_ints` asks.
-fn claims_no_zero(keys: &[u64; 256], info: &[u8; 1024], ty: u32) -> bool
-    ensures { λ r. ⌜ (r ≡ true → Plain (now (keys .entry)) (now (info .entry)) ty) ⌝ }
-{
-    if ty < 32 {
-        let i = index(info[ty as usize * 16]);
-        return keys[i] != ty as u64 * 0x1_0000_0000;
-    }
-    false
-}
-
 // The kind of the field whose tag is the one byte c, of wire type 0.
 fn int_kind(keys: &[u64; 256], info: &[u8; 1024], c: u8, ty: u32) -> Kind
-    requires { ⌜ Plain (now keys) (now info) ty ⌝ }
+    requires { ⌜ ty < 32 ⌝ }
     ensures { λ r. ⌜ Tells (tableSays (now (keys .entry)) (now (info .entry)) ty) c r ⌝ }
 {
     if c % 8 == 0 {
         if c < 128 {
             let number = c / 8;
-            let i = index(info[ty as usize * 16 + number as usize]);
-            if keys[i] == ty as u64 * 0x1_0000_0000 + c as u64 {
-                return Kind::Of(wide(info[512 + i]));
+            if 0 < number {
+                let i = index(info[ty as usize * 16 + number as usize]);
+                if keys[i] == ty as u64 * 0x1_0000_0000 + c as u64 {
+                    return Kind::Of(wide(info[512 + i]));
+                }
             }
         }
     }
@@ -67,7 +57,7 @@ fn short_ints(
     room: &mut [u64],
     from: Spot,
 ) -> Spot
-    requires { ⌜ (from .at < length (now s)) × (off + length (now s) < 2 ^ 64) × (from .to ≤ length (now room)) × Plain (now keys) (now info) ty ⌝ }
+    requires { ⌜ (from .at < length (now s)) × (off + length (now s) < 2 ^ 64) × (from .to ≤ length (now room)) × (ty < 32) ⌝ }
     ensures { λ r. ⌜ Further (length (now (s .entry))) (λ at. read (tableSays (now (keys .entry)) (now (info .entry))) depth ty (off + at) (drop at (now (s .entry))))
         (now (room .entry)) (from .at) (from .to) (now (room .exit)) (r .at) (r .to) ⌝ }
 {
@@ -189,7 +179,7 @@ pub(crate) fn message(
     let mut at: usize = 0;
     let mut to = from;
     while at < s.len() {
-        if claims_no_zero(keys, info, ty) {
+        if ty < 32 {
             let x = short_ints(keys, info, s, off, ty, depth, room, Spot { at, to });
             at = x.at;
             to = x.to;

@@ -21,7 +21,6 @@ use Rattle.read.proofs.message.store.Reads as store
 use Rattle.read.proofs.message.store.Kinds as store-kinds
 use Rattle.read.proofs.message.+message+store.Lts-store as store-lts
 use Rattle.read.proofs.classify.field_at.Reads as field-at-reads
-use Rattle.read.proofs.message.claims_no_zero.Reads as claims-no-zero-reads
 use Rattle.read.proofs.message.short_ints.Reads as short-ints-reads
 use Rattle.read.proofs.packed.packed.Reads as packed-reads
 use Rattle.read.proofs.room.put.Reads as put-reads
@@ -48,7 +47,7 @@ abbrev store-below : ℕ → In 4 store-kinds.ps
 store-below t = and 4 store-kinds.ps (falls 4 store-kinds.ps _<_ μ-store t) store.Pre
 
 abbrev message-claims : ℕ → message-lts.Claims
-message-claims t = (claims-no-zero-reads.Asked, claims-no-zero-reads.Learnt, short-ints-reads.Asked, short-ints-reads.Learnt, field-at-reads.Asked, field-at-reads.Learnt, store-below t, store.Post, skip-unknown-group-reads.Asked, skip-unknown-group-reads.Learnt)
+message-claims t = (short-ints-reads.Asked, short-ints-reads.Learnt, field-at-reads.Asked, field-at-reads.Learnt, store-below t, store.Post, skip-unknown-group-reads.Asked, skip-unknown-group-reads.Learnt)
 
 abbrev message-Inv-loop : message-lts.InvT-loop
 message-Inv-loop keys info s off ty depth room₀ from at₀ to₀ room at to = Here (read (tableSays keys info) depth ty) s off room₀ 0 from room at to
@@ -58,41 +57,35 @@ message-μ-loop keys info s off ty depth room₀ from at₀ to₀ room at to = l
 
 -- where the field stands that is asked for next: behind the short ones, if those were looked for
 joined : (t : ℕ) (c : message-lts.Joined1 (message-claims t) (message-at t) message.Post message-Inv-loop message-μ-loop) →
-    let a = c .before .before .before .before .before .before .args in
+    let a = c .before .before .before .before .before .args in
     Here (read (tableSays (a .keys .now) (a .info .now)) (a .depth) (a .ty)) (a .s .now) (a .off) (a .room .now) 0 (a .from) (c .if1 .room) (c .if1 .at) (c .if1 .to)
-    × (c .before .before .before .loop .at ≤ c .if1 .at) × (c .if1 .at < length (a .s .now))
+    × (c .before .before .loop .at ≤ c .if1 .at) × (c .if1 .at < length (a .s .now))
 joined t c =
     elim (c .if1 .came) [
-      | inl x ↦ (moved (here-by (c .before .before .before .loop .inv) (x .2 .ensures)) (x .6) (x .7) (x .8), omega (arith, x .2 .ensures .on, x .7), omega (arith, x .2 .ensures .inside, x .7, x .5 .left))
-      | inr y ↦ (moved (c .before .before .before .loop .inv) (y .1) (y .2) (y .3), omega (arith, y .2), omega (arith, y .2, c .before .before .loop-test .taken))
+      | inl x ↦ (moved (here-by (c .before .before .loop .inv) (x .2 .ensures)) (x .6) (x .7) (x .8), omega (arith, x .2 .ensures .on, x .7), omega (arith, x .2 .ensures .inside, x .7, x .5 .left))
+      | inr y ↦ (moved (c .before .before .loop .inv) (y .1) (y .2) (y .3), omega (arith, y .2), omega (arith, y .2, c .before .loop-test .taken))
     ]
 
 -- what may be relied on of its record
 held : (t : ℕ) (c : message-lts.After-f (message-claims t) (message-at t) message.Post message-Inv-loop message-μ-loop) →
     let j = c .before .before .before in
-    Held (j .before .before .before .before .before .before .args .depth) (j .if1 .at) (length (j .before .before .before .before .before .before .args .s .now)) (c .f .given .0 .0)
+    Held (j .before .before .before .before .before .args .depth) (j .if1 .at) (length (j .before .before .before .before .before .args .s .now)) (c .f .given .0 .0)
 held t c = asked-held _ _ _ _ _ _ (sym (c .before .before .field-at .ensures .1) ∙ c .f .given .1)
 
 message-loop-holds : (t : ℕ) → message-lts.Need-loop-holds (message-claims t) (message-at t) message.Post message-Inv-loop message-μ-loop
 message-loop-holds t c = here _ _ _ _ _ _ (omega arith) (omega arith)
 
 message-short-ints-requires : (t : ℕ) → message-lts.Need-short-ints-requires (message-claims t) (message-at t) message.Post message-Inv-loop message-μ-loop
-message-short-ints-requires t c κs =
-    let i = c .before .before .before in
-    (omega (arith, i .loop-test .taken), omega arith, omega (arith, i .before .loop .inv .further .fits), c .before .before .claims-no-zero .ensures (c .before .if1 .taken))
+message-short-ints-requires t c κs = omega (arith, c .before .if1 .taken, c .before .before .loop-test .taken, c .before .before .before .loop .inv .further .fits)
 
 message-same-length : (t : ℕ) → message-lts.Need-same-length (message-claims t) (message-at t) message.Post message-Inv-loop message-μ-loop
-message-same-length t c = let x = c .before .before .before in search (needs, here-by (x .before .before .before .before .before .loop .inv) (x .short-ints .ensures) .further .kept)
+message-same-length t c = let x = c .before .before .before in search (needs, here-by (x .before .before .before .before .loop .inv) (x .short-ints .ensures) .further .kept)
 
 message-returns : (t : ℕ) → message-lts.Need-returns (message-claims t) (message-at t) message.Post message-Inv-loop message-μ-loop
-message-returns t c = let x = c .before .before .before in fields-end _ _ _ (here-by (x .before .before .before .before .before .loop .inv) (x .short-ints .ensures)) (omega (arith, c .if2 .taken))
+message-returns t c = let x = c .before .before .before in fields-end _ _ _ (here-by (x .before .before .before .before .loop .inv) (x .short-ints .ensures)) (omega (arith, c .if2 .taken))
 
 message-store-requires : (t : ℕ) → message-lts.Need-store-requires (message-claims t) (message-at t) message.Post message-Inv-loop message-μ-loop
-message-store-requires t c κs =
-    let f = c .before .before in
-    let j = f .before .before .before in
-    let p = j .before .before .before .before .before .before .pre .1 in
-    (omega (arith, p .0), (omega (arith, p .0), omega (arith, p .1), omega (arith, joined t j .0 .further .fits), held t f))
+message-store-requires t c κs = let f = c .before .before in (omega arith, (omega arith, omega arith, omega (arith, joined t (f .before .before .before) .0 .further .fits), held t f))
 
 message-loop-less : (t : ℕ) → message-lts.Need-loop-less (message-claims t) (message-at t) message.Post message-Inv-loop message-μ-loop
 message-loop-less t c =
@@ -148,14 +141,14 @@ message-loop-again-2 t c =
     let j = joined t (a .before) in
     group-past _ _ _ (j .0) (j .2) (a .field-at .ensures .0) (n .next .given .1) (k .skip-unknown-group .ensures) (a .field-at .ensures .1) (e .e .given .1)
 
-message-add-t35 : (t : ℕ) → message-lts.Need-add-t35 (message-claims t) (message-at t) message.Post message-Inv-loop message-μ-loop
-message-add-t35 t c =
+message-add-t34 : (t : ℕ) → message-lts.Need-add-t34 (message-claims t) (message-at t) message.Post message-Inv-loop message-μ-loop
+message-add-t34 t c =
     let e = c .before .before in
     let k = e .before .before in
     let n = k .before .before in
     let a = n .before .before in
     let j = joined t (a .before) in
-    omega (arith, j .2, a .before .before .before .before .before .before .before .pre .1 .1)
+    omega (arith, j .2, a .before .before .before .before .before .before .pre .1 .1)
 
 message-same-length-3 : (t : ℕ) → message-lts.Need-same-length-3 (message-claims t) (message-at t) message.Post message-Inv-loop message-μ-loop
 message-same-length-3 t c =
@@ -175,19 +168,19 @@ message-returns-3 t c =
     let j = joined t (a .before) in
     group-bad _ _ _ (j .0) (j .2) (a .field-at .ensures .0) (n .next .given .1) (k .skip-unknown-group .ensures) (e .k .given .1)
 
+message-add-t35 : (t : ℕ) → message-lts.Need-add-t35 (message-claims t) (message-at t) message.Post message-Inv-loop message-μ-loop
+message-add-t35 t c =
+    let n = c .before .before in
+    let a = n .before .before in
+    let j = joined t (a .before) in
+    omega (arith, j .2)
+
 message-add-t36 : (t : ℕ) → message-lts.Need-add-t36 (message-claims t) (message-at t) message.Post message-Inv-loop message-μ-loop
 message-add-t36 t c =
     let n = c .before .before in
     let a = n .before .before in
     let j = joined t (a .before) in
-    omega (arith, j .2, a .before .before .before .before .before .before .before .pre .1 .1)
-
-message-add-t37 : (t : ℕ) → message-lts.Need-add-t37 (message-claims t) (message-at t) message.Post message-Inv-loop message-μ-loop
-message-add-t37 t c =
-    let n = c .before .before in
-    let a = n .before .before in
-    let j = joined t (a .before) in
-    omega (arith, j .2, a .before .before .before .before .before .before .before .pre .1 .1, bad-place _ _ _ _ _ (a .field-at .ensures .1) (n .number2 .given .1))
+    omega (arith, j .2, bad-place _ _ _ _ _ (a .field-at .ensures .1) (n .number2 .given .1))
 
 message-same-length-4 : (t : ℕ) → message-lts.Need-same-length-4 (message-claims t) (message-at t) message.Post message-Inv-loop message-μ-loop
 message-same-length-4 t c =
@@ -307,7 +300,6 @@ pub +message+store-spec : {M : Type 1} → statement M
     message-Inv-loop
     message-μ-loop
     (message-loop-holds t)
-    (λ c κs. search needs)
     (message-short-ints-requires t)
     (message-same-length t)
     (message-returns t)
@@ -326,12 +318,12 @@ pub +message+store-spec : {M : Type 1} → statement M
     (message-loop-less-2 t)
     (message-loop-again-2 t)
     (λ c. search needs)
-    (message-add-t35 t)
+    (message-add-t34 t)
     (message-same-length-3 t)
     (message-returns-3 t)
     (λ c. search needs)
+    (message-add-t35 t)
     (message-add-t36 t)
-    (message-add-t37 t)
     (message-same-length-4 t)
     (message-returns-4 t)
     (λ c. search needs)
