@@ -52,6 +52,25 @@ static uint64_t ours_prepared(void)
     return answer[0] | number << 32;
 }
 
+/* the list in room, its contents in s */
+static uint64_t ours_check(void)
+{
+    uint64_t answer[1];
+    return calf_check_list(SCHEMA, (uint64_t *)room, count * 6, s, n, answer) ? 0 : n;
+}
+
+static uint64_t ours_size(void)
+{
+    uint64_t answer[2];
+    return calf_size(SCHEMA, (uint64_t *)room, count * 6, s, n, answer) ? 0 : answer[0];
+}
+
+static uint64_t ours_write(void)
+{
+    uint64_t answer[2];
+    return calf_write(SCHEMA, (uint64_t *)room, count * 6, s, n, out, BYTES, answer) ? 0 : answer[0];
+}
+
 /* 1,000 messages, each with its length before it: the count of all records */
 static uint64_t ours_many(void)
 {
@@ -222,6 +241,38 @@ static void compare_reading(void)
     }
 }
 
+static struct { const char *who; call *writes; void *(*make)(const uint8_t *, size_t); void **object; size_t size; } writers[] = {
+    { "crate", crate_writes, crate_new, &crate_object }, { "prost", prost_writes, prost_new, &prost_object },
+    { "protobuf-c", pbc_writes, pbc_new, &pbc_object }, { "c++", cpp_writes, cpp_new, &cpp_object },
+};
+
+/* What was read is written to the bytes that it was read from, and nothing behind them is touched. The writers of objects order fields by number and join packed ones:
+ * their bytes are compared with each other, and with ours where they have as many. */
+static void compare_writing(void)
+{
+    static uint8_t first[BYTES];
+    memset(out, 0xee, sizeof out);
+    if (ours_check() != n || ours_size() != n || ours_write() != n || memcmp(out, s, n)) fail("written to other bytes");
+    for (size_t i = n; i < sizeof out; i++) if (out[i] != 0xee) fail("the output behind the bytes is touched");
+    for (size_t i = 0; i < sizeof writers / sizeof *writers; i++) {
+        *writers[i].object = writers[i].make(s, n);
+        if (!*writers[i].object) fail(writers[i].who);
+        writers[i].size = writers[i].writes();
+        if (writers[i].size == n && memcmp(out2, s, n)) fail(writers[i].who);
+        if (i && (writers[i].size != writers[0].size || memcmp(first, out2, writers[0].size))) fail(writers[i].who);
+        if (!i) memcpy(first, out2, writers[0].size);
+    }
+}
+
+static void writing(void)
+{
+    compare_writing();
+    measure("check", "calf", ours_check, n);
+    measure("size", "calf", ours_size, n);
+    measure("write", "calf", ours_write, n);
+    for (size_t i = 0; i < sizeof writers / sizeof *writers; i++) measure("write", writers[i].who, writers[i].writes, writers[i].size);
+}
+
 static void message(void)
 {
     bool large = strstr(input, ".1M");
@@ -231,6 +282,9 @@ static void message(void)
     measure("read", "crate", driver_read, n);
     for (size_t i = 0; i < sizeof parsers / sizeof *parsers; i++)
         if (!large || !strcmp(parsers[i].who, "arena")) measure("read", parsers[i].who, parsers[i].reads, n);
+    uint64_t got = ours_read();
+    count = got;
+    if (!(got >> 32)) writing();
 }
 
 int main(int argc, char **argv)

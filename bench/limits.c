@@ -93,11 +93,25 @@ int main(void)
         expect("calf_read", n, number, answer[0], over ? 11 : 0, over ? 0 : 1);
         if (!over) expect("  its record's end", n, 0, room[5], 0, n);
         expect("calf_is_document", n, 0, calf_is_document(s, n), 0, !over);
+        expect("calf_pull_open", n, calf_pull_open(s, n), 0, over ? 11 : 0, 0);
         put_length(s, n - 5);
         number = calf_skip_field_for_tag(0x12, s, n, 0, answer);
         expect("calf_skip_field_for_tag", n, number, answer[0], over ? 11 : 0, over ? 0 : n);
         number = calf_read_unknown_or_skip_group(0x12, s, n, 0, answer);
         expect("calf_read_unknown_or_skip_group", n, number, answer[0], over ? 11 : 0, over ? 0 : n);
+    }
+    /* one record whose content is all but the six bytes of its tag and length */
+    uint8_t *out = zeros((size_t)MOST + 1);
+    for (size_t n = MOST; n <= (size_t)MOST + 1; n++) {
+        bool over = n > MOST;
+        uint64_t list[6] = { 0, 2, 12, 0, 0, n - 6 };
+        uint64_t number = calf_size(1, schema, 5, list, 6, s, (size_t)MOST + 1, answer);
+        expect("calf_size", n, number, answer[0], over ? 11 : 0, over ? 0 : n);
+        number = calf_write(1, schema, 5, list, 6, s, (size_t)MOST + 1, out, (size_t)MOST + 1, answer);
+        expect("calf_write", n, number, answer[0], over ? 11 : 0, over ? 0 : n);
+        if (!over && (out[0] != 0x12 || memcmp(out + 6, s, n - 6) || out[n])) bad = 1, puts("  OTHER bytes");
+        number = calf_write(1, schema, 5, list, 6, s, (size_t)MOST + 1, out, (size_t)MOST - 1, answer);
+        expect("calf_write, one byte short", n, number, answer[0], over ? 11 : 12, over ? 0 : n);
     }
     return bad;
 }

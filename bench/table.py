@@ -2,7 +2,7 @@
 """table.py counts FILE | times FILE | grown OLD NEW: what run.sh prints.
 
 A line of FILE is: input, call, who, bytes, nanoseconds and, for counts, instructions. A row of the table is a call on an input: what the library takes a byte, that
-divided by what its main peer takes (the crate, or Rust's standard library for utf8), and what each peer takes a byte. 'grown' says which of the library's counts
+divided by what its main peer takes (the crate, or Rust's standard library for utf8), and what each peer takes a byte of its own output or of the input. 'grown' says which of the library's counts
 are more than 2% above the old table, and fails.
 """
 import sys
@@ -14,18 +14,19 @@ def rows(path, column):
     table = {}
     for line in open(path):
         f = line.rstrip("\n").split("\t")
-        table.setdefault((f[1], f[0], int(f[3])), {})[f[2]] = int(f[column])
+        table.setdefault((f[1], f[0]), {})[f[2]] = (int(f[column]), int(f[3]))
     return table
 
 
 def show(path, column, what):
     print("%-9s %-11s %8s %10s %8s %6s" % ("call", "input", "bytes", what, "calf", "ratio"), *["%10s" % w for w in WHO])
-    for (call, name, size), by in rows(path, column).items():
+    for (call, name), by in rows(path, column).items():
         if "calf" not in by:
             continue
-        peer = by.get("crate", by.get("std"))
-        ratio = "%6.2f" % (by["calf"] / peer) if peer else "     -"
-        print("%-9s %-11s %8d %10d %8.2f %s" % (call, name, size, by["calf"], by["calf"] / size, ratio), *["%10.2f" % (by[w] / size) if w in by else "%10s" % "-" for w in WHO])
+        each = {who: value / size for who, (value, size) in by.items()}
+        peer = each.get("crate", each.get("std"))
+        ratio = "%6.2f" % (each["calf"] / peer) if peer else "     -"
+        print("%-9s %-11s %8d %10d %8.2f %s" % (call, name, by["calf"][1], by["calf"][0], each["calf"], ratio), *["%10.2f" % each[w] if w in each else "%10s" % "-" for w in WHO])
 
 
 def grown(old, new):

@@ -66,6 +66,32 @@ uint32_t calf_read(uint32_t types, const uint32_t *numbers, size_t numbers_len, 
 /* The same under the tables of a valid schema, for a caller with many messages. Any arrays are tables: what reading then gives is defined too. */
 uint32_t calf_read_prepared(const uint64_t keys[256], const uint8_t info[1024], const uint8_t *s, size_t s_len, uint64_t *room, size_t room_len, uint64_t answer[2]);
 
+/* ---- writing: the list is what lies in `list`, its contents lie in `payload` */
+
+/* Whether a list is what reading under the schema would give: answer = { index of the record at fault }, for 9 the first bad entry. */
+uint32_t calf_check_list(uint32_t types, const uint32_t *numbers, size_t numbers_len, const uint64_t *list, size_t list_len, const uint8_t *payload, size_t payload_len,
+                         uint64_t answer[1]);
+
+/* How many bytes a list takes when it is written: answer = { size, index }, the index as in calf_check_list; the size is 0 where it is refused. */
+uint32_t calf_size(uint32_t types, const uint32_t *numbers, size_t numbers_len, const uint64_t *list, size_t list_len, const uint8_t *payload, size_t payload_len,
+                   uint64_t answer[2]);
+
+/* Writes a list to the front of out: answer = { size, index }; for 12 the size that is needed. Behind the size, and on refusal, out is untouched. */
+uint32_t calf_write(uint32_t types, const uint32_t *numbers, size_t numbers_len, const uint64_t *list, size_t list_len, const uint8_t *payload, size_t payload_len,
+                    uint8_t *out, size_t out_len, uint64_t answer[2]);
+
+/* ---- pulling: step by step over a slice, whose position and level the caller keeps; both begin with 0 */
+
+/* Whether a slice may be pulled: 0, or 11 where it is too long. */
+uint32_t calf_pull_open(const uint8_t *s, size_t s_len);
+
+/* A step at a position and a level: answer = { what, a, b, position then }. what is 0 at the end, 1 for a number, a; 2 for a content from a to b; 3 for a refusal at a, which leaves
+ * the position. kind is 0 for the tag as it stands, a kind of descriptor.proto for a value of it, and 10 to skip the field behind `tag`, which tells how many bytes; else tag is not looked at. */
+uint32_t calf_pull_step(const uint8_t *s, size_t s_len, size_t at, uint32_t level, uint32_t kind, uint32_t tag, uint64_t answer[4]);
+
+/* A message at a position: the answer is its content (2), at which a caller goes on with its own slice at level + 1, and the position behind it. 7 at level 100. */
+uint32_t calf_pull_enter(const uint8_t *s, size_t s_len, size_t at, uint32_t level, uint64_t answer[4]);
+
 #ifdef __cplusplus
 }
 #endif

@@ -1,11 +1,11 @@
--- `calf::calf_prepare` meets its contract. Assumes nothing.
+-- `calf::reading::calf_prepare` meets its contract. Assumes nothing.
 use Prim.Native.Nat.{ℕ}
 use mathlib.Core.Path.{ap, _∙_}
 use mathlib.Core.List.{[], _∷_}
 use borrow.Author.Needs.{needs}
 use Rattle.calf.specs.Told.{numberOf, entryOf}
-use Rattle.calf.proofs.calf_prepare.Statement.{statement}
-use Rattle.calf.proofs.calf_prepare.Tie as tie
+use Rattle.calf.proofs.reading.calf_prepare.Statement.{statement}
+use Rattle.calf.proofs.reading.calf_prepare.Tie as tie
 
 returns : tie.Need-returns
 returns c =

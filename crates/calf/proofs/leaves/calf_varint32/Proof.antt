@@ -1,9 +1,9 @@
--- `calf::calf_varint32` meets its contract. Assumes nothing.
+-- `calf::leaves::calf_varint32` meets its contract. Assumes nothing.
 use mathlib.Core.Path.{_∙_}
 use borrow.Author.Needs.{needs}
 use Rattle.calf.proofs.ToldLaws.{refused-told, pair-told}
-use Rattle.calf.proofs.calf_varint32.Statement.{statement}
-use Rattle.calf.proofs.calf_varint32.Tie as tie
+use Rattle.calf.proofs.leaves.calf_varint32.Statement.{statement}
+use Rattle.calf.proofs.leaves.calf_varint32.Tie as tie
 
 returns : tie.Need-returns
 returns c =

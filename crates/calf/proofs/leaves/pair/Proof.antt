@@ -1,9 +1,9 @@
--- `calf::pair` meets its contract. Assumes nothing.
+-- `calf::leaves::pair` meets its contract. Assumes nothing.
 use mathlib.Core.Path.{sym, ap}
 use borrow.Author.Needs.{needs}
 use Rattle.calf.specs.Told.{pair}
-use Rattle.calf.proofs.pair.Statement.{statement}
-use Rattle.calf.proofs.pair.Tie as tie
+use Rattle.calf.proofs.leaves.pair.Statement.{statement}
+use Rattle.calf.proofs.leaves.pair.Tie as tie
 
 returns : tie.Need-returns
 returns c = sym (ap pair (c .before .f .given .1))

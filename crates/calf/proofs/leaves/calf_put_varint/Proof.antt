@@ -1,9 +1,9 @@
--- `calf::calf_put_varint` meets its contract. Assumes nothing.
+-- `calf::leaves::calf_put_varint` meets its contract. Assumes nothing.
 use mathlib.Core.Path.{_∙_}
 use borrow.Author.Needs.{needs}
 use Rattle.calf.proofs.ToldLaws.{place-stored}
-use Rattle.calf.proofs.calf_put_varint.Statement.{statement}
-use Rattle.calf.proofs.calf_put_varint.Tie as tie
+use Rattle.calf.proofs.leaves.calf_put_varint.Statement.{statement}
+use Rattle.calf.proofs.leaves.calf_put_varint.Tie as tie
 
 returns : tie.Need-returns
 returns c =
