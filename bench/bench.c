@@ -1,92 +1,306 @@
-/* bench.c FOLDER: calls the proved library and its peers on the inputs in FOLDER. Answers, and what is stored, are compared first, for every case. Then each call
- * is made once more between two marks, by which the counter (icount.c) knows it; a line "input call peer bytes" is printed for each case.
- * A new case is a line of `cases`. */
+/* bench.c FOLDER count|REPS [INPUT [WHO]]: calls the library and its peers on the inputs in FOLDER.
+ * For every input the answers are compared first, and the whole of what was stored, in rooms that were filled with a pattern. Then each call is made once between two
+ * marks, by which the counter (icount.c) knows it, or REPS times by the clock. A line "input call who bytes nanoseconds" is printed for each, the best of all. */
 #define _GNU_SOURCE
-#include <stdint.h>
+#include "../include/calf.h"
 #include <stdio.h>
+#include <stdlib.h>
 #include <string.h>
+#include <time.h>
 #include <unistd.h>
 #define MARK 0x7a7a
-typedef uint64_t call(const uint8_t *, size_t);
+enum { BYTES = 1 << 21, RECORDS = 1100000 };
+typedef uint64_t call(void);
+typedef struct { uint64_t depth, number, kind, value, start, end; } record;
 
-static uint8_t input[1 << 16], out[2][1 << 16];
-static uint64_t values[1 << 16];
-static size_t count;
+static const uint32_t schema[] = { 0, 1, 5, 1, 0, 0, 2, 9, 1, 0, 0, 3, 11, 1, 1, 0, 4, 17, 1, 0, 0, 5, 2, 1, 0, 0, 7, 8, 1, 0, 1, 1, 13, 1, 0, 1, 2, 12, 1, 0, 1, 3, 11, 1, 1 };
+#define SCHEMA 2, schema, sizeof schema / sizeof *schema
 
-/* the proved library: a slice is a pointer and a length */
-call perf_varints, perf_utf8;
-size_t perf_put_varints(const uint64_t *, size_t, uint8_t *, size_t), perf_skip(uint32_t, const uint8_t *, size_t, uint32_t);
-_Bool perf_document(const uint8_t *, size_t);
-/* its peers (peers/src/lib.rs) */
-call crate_varints, crate_group, crate_run, std_utf8;
+/* what the calls work on */
+static uint8_t s[BYTES], out[BYTES], out2[BYTES], info[1024];
+static size_t n, count;
+static record room[RECORDS], room2[RECORDS];
+static uint64_t keys[256], values[1 << 16];
+
+/* ---- the library */
+uint64_t perf_varints(const uint8_t *, size_t);
+size_t perf_put_varints(const uint64_t *, size_t, uint8_t *, size_t);
+
+static uint64_t ours_varints(void) { return perf_varints(s, n); }
+static uint64_t ours_put(void) { return perf_put_varints(values, count, out, BYTES); }
+static uint64_t ours_utf8(void) { return calf_utf8_prefix(s, n); }
+static uint64_t ours_document(void) { return calf_is_document(s, n); }
+
+static uint64_t ours_skip(void)
+{
+    uint64_t answer[1];
+    return calf_skip_field_for_tag(11, s, n, 0, answer) ? 0 : answer[0];
+}
+
+/* the count of the records, with the refusal's number above 32 bits */
+static uint64_t ours_read(void)
+{
+    uint64_t answer[2];
+    uint64_t number = calf_read(SCHEMA, s, n, (uint64_t *)room, sizeof room / 8, answer);
+    return answer[0] | number << 32;
+}
+
+static uint64_t ours_prepared(void)
+{
+    uint64_t answer[2];
+    uint64_t number = calf_read_prepared(keys, info, s, n, (uint64_t *)room, sizeof room / 8, answer);
+    return answer[0] | number << 32;
+}
+
+/* the list in room, its contents in s */
+static uint64_t ours_check(void)
+{
+    uint64_t answer[1];
+    return calf_check_list(SCHEMA, (uint64_t *)room, count * 6, s, n, answer) ? 0 : n;
+}
+
+static uint64_t ours_size(void)
+{
+    uint64_t answer[2];
+    return calf_size(SCHEMA, (uint64_t *)room, count * 6, s, n, answer) ? 0 : answer[0];
+}
+
+static uint64_t ours_write(void)
+{
+    uint64_t answer[2];
+    return calf_write(SCHEMA, (uint64_t *)room, count * 6, s, n, out, BYTES, answer) ? 0 : answer[0];
+}
+
+/* 1,000 messages, each with its length before it: the count of all records */
+static uint64_t ours_many(void)
+{
+    uint64_t answer[2], sum = 0;
+    for (size_t at = 0; at < n; at += s[at] + 1) calf_read(SCHEMA, s + at + 1, s[at], (uint64_t *)room, sizeof room / 8, answer), sum += answer[0];
+    return sum;
+}
+
+static uint64_t ours_many_prepared(void)
+{
+    uint64_t answer[2], sum = 0;
+    for (size_t at = 0; at < n; at += s[at] + 1) calf_read_prepared(keys, info, s + at + 1, s[at], (uint64_t *)room, sizeof room / 8, answer), sum += answer[0];
+    return sum;
+}
+
+/* ---- its peers (peers/) */
+uint64_t crate_varints(const uint8_t *, size_t), crate_group(const uint8_t *, size_t), crate_run(const uint8_t *, size_t), std_utf8(const uint8_t *, size_t);
 size_t crate_put_varints(const uint64_t *, size_t, uint8_t *, size_t);
+uint64_t crate_records(const uint8_t *, size_t, const uint32_t *, size_t, record *, size_t);
+static uint64_t driver_varints(void) { return crate_varints(s, n); }
+static uint64_t driver_put(void) { return crate_put_varints(values, count, out2, BYTES); }
+static uint64_t driver_utf8(void) { return std_utf8(s, n); }
+static uint64_t driver_skip(void) { return crate_group(s, n); }
+static uint64_t driver_document(void) { return crate_run(s, n); }
+static uint64_t driver_read(void) { return crate_records(s, n, schema, 9, room2, RECORDS); }
 
-static uint64_t put(const uint8_t *b, size_t n) { return perf_put_varints(values, count, out[0], sizeof out[0]); }
-static uint64_t crate_put(const uint8_t *b, size_t n) { return crate_put_varints(values, count, out[1], sizeof out[1]); }
-static uint64_t group(const uint8_t *b, size_t n) { return perf_skip(11, b, n, 0); }
-static uint64_t document(const uint8_t *b, size_t n) { return perf_document(b, n); }
+static uint64_t driver_many(void)
+{
+    uint64_t sum = 0;
+    for (size_t at = 0; at < n; at += s[at] + 1) sum += crate_records(s + at + 1, s[at], schema, 9, room2, RECORDS);
+    return sum;
+}
 
-static const struct { const char *input, *name, *peer; call *here, *there; } cases[] = {
-    { "v1", "read", "crate", perf_varints, crate_varints },
-    { "vmix", "read", "crate", perf_varints, crate_varints },
-    { "v10", "read", "crate", perf_varints, crate_varints },
-    { "v1", "write", "crate", put, crate_put },
-    { "vmix", "write", "crate", put, crate_put },
-    { "v10", "write", "crate", put, crate_put },
-    { "ascii", "utf8", "std", perf_utf8, std_utf8 },
-    { "german", "utf8", "std", perf_utf8, std_utf8 },
-    { "russian", "utf8", "std", perf_utf8, std_utf8 },
-    { "mixed", "utf8", "std", perf_utf8, std_utf8 },
-    { "fields", "skip", "crate", group, crate_group },
-    { "f-varint1", "skip", "crate", group, crate_group },
-    { "f-varint10", "skip", "crate", group, crate_group },
-    { "f-string", "skip", "crate", group, crate_group },
-    { "f-fixed", "skip", "crate", group, crate_group },
-    { "f-group", "skip", "crate", group, crate_group },
-    { "f-tag2", "skip", "crate", group, crate_group },
-    { "fields", "document", "crate", document, crate_run },
-    { "f-group", "document", "crate", document, crate_run },
-};
+/* parsers and writers of objects */
+#define PARSER(x) uint64_t x##_parse(const uint8_t *, size_t); static uint64_t x##_reads(void) { return x##_parse(s, n); }
+#define WRITER(x) void *x##_new(const uint8_t *, size_t); uint64_t x##_write(const void *, uint8_t *, size_t); static void *x##_object; \
+    static uint64_t x##_writes(void) { return x##_write(x##_object, out2, BYTES); }
+PARSER(crate) PARSER(prost) PARSER(pbc) PARSER(cpp) WRITER(crate) WRITER(prost) WRITER(pbc) WRITER(cpp)
+uint64_t crate_dynamic(const uint8_t *, size_t), cpp_arena(const uint8_t *, size_t);
+static uint64_t dynamic_reads(void) { return crate_dynamic(s, n); }
+static uint64_t arena_reads(void) { return cpp_arena(s, n); }
 
-static size_t load(const char *folder, const char *name)
+/* ---- running */
+static const char *input, *only_input, *only_who;
+static int reps;
+
+static void fail(const char *what)
+{
+    fprintf(stderr, "bench: %s: %s\n", input, what);
+    exit(1);
+}
+
+static uint64_t now(void)
+{
+    struct timespec t;
+    clock_gettime(CLOCK_MONOTONIC, &t);
+    return t.tv_sec * 1000000000ull + t.tv_nsec;
+}
+
+static void measure(const char *name, const char *who, call *f, size_t bytes)
+{
+    if (only_who && strcmp(only_who, who)) return;
+    uint64_t best = 0;
+    if (!reps) {
+        syscall(MARK, 1);
+        f();
+        syscall(MARK, 2);
+    }
+    for (int i = 0; i < reps; i++) {
+        uint64_t t = now();
+        f();
+        t = now() - t;
+        if (!i || t < best) best = t;
+    }
+    printf("%s\t%s\t%s\t%zu\t%llu\n", input, name, who, bytes, (unsigned long long)best);
+}
+
+static bool load(const char *folder, const char *name)
 {
     char path[4096];
+    input = name;
+    if (only_input && strcmp(only_input, name)) return false;
     snprintf(path, sizeof path, "%s/%s", folder, name);
     FILE *f = fopen(path, "rb");
-    if (!f) return 0;
-    size_t n = fread(input, 1, sizeof input, f);
+    if (!f) fail("no input");
+    n = fread(s, 1, sizeof s, f);
     fclose(f);
+    return true;
+}
+
+/* what the marks and the driver's call are counted as */
+static uint64_t nothing(void) { return 0; }
+
+/* ---- leaves and skips: one call of ours, one of a peer */
+static const struct { const char *input, *name, *peer; call *here, *there; } leaves[] = {
+    { "v1", "varints", "crate", ours_varints, driver_varints },
+    { "vmix", "varints", "crate", ours_varints, driver_varints },
+    { "v10", "varints", "crate", ours_varints, driver_varints },
+    { "v1", "put", "crate", ours_put, driver_put },
+    { "vmix", "put", "crate", ours_put, driver_put },
+    { "v10", "put", "crate", ours_put, driver_put },
+    { "ascii", "utf8", "std", ours_utf8, driver_utf8 },
+    { "german", "utf8", "std", ours_utf8, driver_utf8 },
+    { "russian", "utf8", "std", ours_utf8, driver_utf8 },
+    { "mixed", "utf8", "std", ours_utf8, driver_utf8 },
+    { "fields", "skip", "crate", ours_skip, driver_skip },
+    { "f-varint1", "skip", "crate", ours_skip, driver_skip },
+    { "f-varint10", "skip", "crate", ours_skip, driver_skip },
+    { "f-string", "skip", "crate", ours_skip, driver_skip },
+    { "f-fixed", "skip", "crate", ours_skip, driver_skip },
+    { "f-group", "skip", "crate", ours_skip, driver_skip },
+    { "f-tag2", "skip", "crate", ours_skip, driver_skip },
+    { "fields", "document", "crate", ours_document, driver_document },
+    { "f-group", "document", "crate", ours_document, driver_document },
+    { "many", "read", "crate", ours_many, driver_many },
+    { "many", "prepared", "crate", ours_many_prepared, driver_many },
+};
+
+/* the varints of v1, vmix and v10 as numbers */
+static void decode(void)
+{
     count = 0;
-    for (size_t i = 0; i < n;) {
+    for (size_t i = 0; i < n && count < sizeof values / sizeof *values;) {
         uint64_t v = 0;
         int shift = 0;
-        do v |= (uint64_t)(input[i] & 127) << shift, shift += 7; while (input[i++] & 128 && i < n && shift < 64);
+        do v |= (uint64_t)(s[i] & 127) << shift, shift += 7; while (s[i++] & 128 && i < n && shift < 64);
         values[count++] = v;
     }
-    return n;
+}
+
+static void leaf(size_t i)
+{
+    decode();
+    memset(out, 0xee, sizeof out);
+    memset(out2, 0xee, sizeof out2);
+    uint64_t a = leaves[i].here(), b = leaves[i].there();
+    if (!a || a != b) fail("another answer than the peer's");
+    if (memcmp(out, out2, sizeof out)) fail("other bytes than the peer's");
+    measure(leaves[i].name, "calf", leaves[i].here, n);
+    measure(leaves[i].name, leaves[i].peer, leaves[i].there, n);
+}
+
+/* ---- messages */
+static const struct { const char *who; call *reads; bool utf8; } parsers[] = {
+    { "generated", crate_reads, true }, { "dynamic", dynamic_reads, true }, { "prost", prost_reads, true },
+    { "protobuf-c", pbc_reads, false }, { "c++", cpp_reads, false }, { "arena", arena_reads, false }, /* these take a string that is no UTF-8 */
+};
+
+/* Records equal the crate driver's, also those before a refusal, and what is behind them is untouched. Parsers have as many fields and elements in the root. */
+static void compare_reading(void)
+{
+    memset(room2, 0x55, sizeof room2);
+    uint64_t there = driver_read();
+    call *here[] = { ours_read, ours_prepared };
+    for (int i = 0; i < 2; i++) {
+        memset(room, 0xee, sizeof room);
+        uint64_t a = here[i]();
+        uint32_t k = a;
+        if (k != (uint32_t)there || !(a >> 32) != !(there >> 32)) fail("another answer than the crate driver's");
+        if (memcmp(room, room2, k * sizeof *room)) fail("other records than the crate driver's");
+        for (size_t j = k * sizeof *room; j < sizeof room; j++) if (((uint8_t *)room)[j] != 0xee) fail("the room behind the records is touched");
+    }
+    uint64_t fields = 0, text = (ours_read() >> 32) == 6;
+    for (size_t i = 0; i < (uint32_t)there; i++) fields += room2[i].depth == 0 ? room2[i].kind != 20 : room2[i].kind == 17;
+    for (size_t i = 0; i < sizeof parsers / sizeof *parsers; i++) {
+        bool refuses = there >> 32 && (parsers[i].utf8 || !text);
+        if (parsers[i].reads() != (refuses ? -1 : fields + text)) fail(parsers[i].who);
+    }
+}
+
+static struct { const char *who; call *writes; void *(*make)(const uint8_t *, size_t); void **object; size_t size; } writers[] = {
+    { "crate", crate_writes, crate_new, &crate_object }, { "prost", prost_writes, prost_new, &prost_object },
+    { "protobuf-c", pbc_writes, pbc_new, &pbc_object }, { "c++", cpp_writes, cpp_new, &cpp_object },
+};
+
+/* What was read is written to the bytes that it was read from, and nothing behind them is touched. The writers of objects order fields by number and join packed ones:
+ * their bytes are compared with each other, and with ours where they have as many. */
+static void compare_writing(void)
+{
+    static uint8_t first[BYTES];
+    memset(out, 0xee, sizeof out);
+    if (ours_check() != n || ours_size() != n || ours_write() != n || memcmp(out, s, n)) fail("written to other bytes");
+    for (size_t i = n; i < sizeof out; i++) if (out[i] != 0xee) fail("the output behind the bytes is touched");
+    for (size_t i = 0; i < sizeof writers / sizeof *writers; i++) {
+        *writers[i].object = writers[i].make(s, n);
+        if (!*writers[i].object) fail(writers[i].who);
+        writers[i].size = writers[i].writes();
+        if (writers[i].size == n && memcmp(out2, s, n)) fail(writers[i].who);
+        if (i && (writers[i].size != writers[0].size || memcmp(first, out2, writers[0].size))) fail(writers[i].who);
+        if (!i) memcpy(first, out2, writers[0].size);
+    }
+}
+
+static void writing(void)
+{
+    compare_writing();
+    measure("check", "calf", ours_check, n);
+    measure("size", "calf", ours_size, n);
+    measure("write", "calf", ours_write, n);
+    for (size_t i = 0; i < sizeof writers / sizeof *writers; i++) measure("write", writers[i].who, writers[i].writes, writers[i].size);
+}
+
+static void message(void)
+{
+    bool large = strstr(input, ".1M");
+    compare_reading();
+    measure("read", "calf", ours_read, n);
+    if (n < 100) measure("prepared", "calf", ours_prepared, n);
+    measure("read", "crate", driver_read, n);
+    for (size_t i = 0; i < sizeof parsers / sizeof *parsers; i++)
+        if (!large || !strcmp(parsers[i].who, "arena")) measure("read", parsers[i].who, parsers[i].reads, n);
+    uint64_t got = ours_read();
+    count = got;
+    if (!(got >> 32)) writing();
 }
 
 int main(int argc, char **argv)
 {
-    if (argc != 2) return 2;
-    size_t number = sizeof cases / sizeof *cases;
-    for (size_t i = 0; i < number; i++) {
-        size_t n = load(argv[1], cases[i].input);
-        memset(out, 0, sizeof out);
-        uint64_t a = cases[i].here(input, n), b = cases[i].there(input, n);
-        if (!a || a != b || memcmp(out[0], out[1], sizeof out[0])) {
-            fprintf(stderr, "bench: %s %s: %llu here, %llu by its peer\n", cases[i].input, cases[i].name, (unsigned long long)a, (unsigned long long)b);
-            return 1;
-        }
-    }
-    for (size_t i = 0; i < number; i++) {
-        size_t n = load(argv[1], cases[i].input);
-        syscall(MARK, 1);
-        cases[i].here(input, n);
-        syscall(MARK, 2);
-        cases[i].there(input, n);
-        syscall(MARK, 3);
-        printf("%s\t%s\t%s\t%zu\n", cases[i].input, cases[i].name, cases[i].peer, n);
-    }
+    static const char *messages[] = { "ints", "intmix", "packed", "nested", "strings", "station", "letters", "deep", "flat", "deep100", "cut", "bad", "tiny",
+                                      "ints.1M", "intmix.1M", "packed.1M", "nested.1M", "strings.1M", "station.1M", "letters.1M" };
+    if (argc < 3) return 2;
+    setlinebuf(stdout);
+    reps = atoi(argv[2]);
+    only_input = argc > 3 ? argv[3] : NULL;
+    only_who = argc > 4 ? argv[4] : NULL;
+    uint64_t answer[1];
+    if (calf_record_numbers() != sizeof *room / 8 || calf_prepare(SCHEMA, keys, info, answer)) fail("the library is another");
+    input = "nothing";
+    measure("empty", "calf", nothing, 1);
+    for (size_t i = 0; i < sizeof leaves / sizeof *leaves; i++) if (load(argv[1], leaves[i].input)) leaf(i);
+    for (size_t i = 0; i < sizeof messages / sizeof *messages; i++) if (load(argv[1], messages[i])) message();
     return 0;
 }

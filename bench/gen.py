@@ -1,11 +1,17 @@
 #!/usr/bin/env python3
 """gen.py FOLDER: writes the inputs of the bench, about 20 kB each, the same in every run (a linear congruential generator).
 
+Messages of bench.proto: ints, intmix: int32 fields of one byte; mostly short, some negative. packed: 20 packed fields of 500 deltas. nested: messages up to four deep.
+strings: short texts, mostly ASCII. station: all of these. letters: texts of two to four bytes a letter. deep, flat: the same 99 messages of 70 fields each inside the
+other, and side by side; deep100: 100 levels. tiny: one message of 21 bytes; many: 1,000 messages of 20 bytes, each with its length in one byte before it.
+cut: station without its last byte; bad: strings whose last byte is no UTF-8. Each NAME.1M is its input as often as makes 1 MB.
+
 v1, vmix, v10: varints of one byte; mostly one and two bytes, some of four and ten; of ten bytes
 ascii, german, russian, mixed: words; a letter of two bytes in a third of them; words of two-byte letters; words of one to four bytes a letter
 fields: varints, strings, fixed values and groups nested ten deep; f-*: fields of one sort
 """
 import pathlib
+import struct
 import sys
 
 folder = pathlib.Path(sys.argv[1])
@@ -56,6 +62,103 @@ def value():
 
 for name, number, one in (("v1", 20000, lambda: rnd(128)), ("vmix", 10000, value), ("v10", 2000, lambda: 2**64 - 1 - rnd(1000))):
     (folder / name).write_bytes(b"".join(varint(one()) for _ in range(number)))
+
+# messages: the sequence goes on behind the varints, and the texts go on there too
+behind_varints = state
+
+
+def tag_of(number, w):
+    return varint(number * 8 + w)
+
+
+def zigzag(x):
+    return x * 2 if x >= 0 else -x * 2 - 1
+
+
+def delimited(number, b):
+    return tag_of(number, 2) + varint(len(b)) + b
+
+
+def times(n, one):
+    return b"".join(one() for _ in range(n))
+
+
+def int32():
+    r = rnd(100)
+    if r < 60:
+        return rnd(128)
+    if r < 90:
+        return rnd(100000)
+    return -rnd(100000) % 2**64
+
+
+def delta():
+    return varint(zigzag(rnd(200) - 100))
+
+
+def inner(levels):
+    b = tag_of(1, 0) + varint(rnd(5000)) + delimited(2, bytes(rnd(256) for _ in range(rnd(12))))
+    if levels and rnd(2):
+        b += delimited(3, inner(levels - 1))
+    return b
+
+
+NAMES = ["station", "north", "ridge", "Ångström", "sensor", "Zürich", "b7", "deep", "水位", "gauge"]
+
+
+def text():
+    return " ".join(NAMES[rnd(len(NAMES) if rnd(4) == 0 else 3)] for _ in range(2 + rnd(5))).encode()
+
+
+def station():
+    b = tag_of(1, 0) + varint(rnd(100000)) + delimited(2, text()) + delimited(3, inner(2)) + delimited(4, times(40, delta))
+    return b + tag_of(5, 5) + struct.pack("<f", rnd(10000) / 16) + tag_of(7, 0) + varint(rnd(2))
+
+
+def level():
+    return times(70, lambda: tag_of(1, 0) + varint(rnd(200)))
+
+
+def chain(levels):
+    b = b""
+    for one in reversed(levels):
+        b = delimited(3, one + b)
+    return b
+
+
+def cyrillic():
+    return "".join(chr(0x430 + rnd(32)) if rnd(9) else "水位\U0001f600 "[rnd(4)] for _ in range(4 + rnd(20))).encode()
+
+
+def small():
+    return tag_of(1, 0) + varint(128 + rnd(10000)) + delimited(2, b"OK") + delimited(3, tag_of(1, 0) + varint(128 + rnd(10000))) + delimited(4, times(4, lambda: varint(rnd(128)))) + tag_of(7, 0) + b"\1"
+
+
+messages = {
+    "ints": times(10000, lambda: tag_of(1, 0) + varint(rnd(128))),
+    "intmix": times(10000, lambda: tag_of(1, 0) + varint(int32())),
+    "packed": times(20, lambda: delimited(4, times(500, delta))),
+    "nested": times(1000, lambda: delimited(3, inner(3))),
+    "strings": times(1000, lambda: delimited(2, text())),
+    "station": times(200, station),
+    "letters": times(600, lambda: delimited(2, cyrillic())),
+}
+levels = [level() for _ in range(100)]
+alone = {
+    "deep": chain(levels[:99]),
+    "flat": b"".join(delimited(3, x) for x in levels[:99]),
+    "deep100": chain(levels),
+    "tiny": bytes.fromhex("08960112024f4b1a04080512002204010280013801"),
+    "many": times(1000, lambda: (lambda b: bytes([len(b)]) + b)(small())),
+    "cut": messages["station"][:-1],
+    "bad": messages["strings"][:-1] + b"\xff",
+}
+for name, b in messages.items():
+    (folder / name).write_bytes(b)
+    (folder / (name + ".1M")).write_bytes(b * (2**20 // len(b) + 1))
+for name, b in alone.items():
+    (folder / name).write_bytes(b)
+state = behind_varints
 
 # texts
 WORDS = "the station sends a message with several readings and the gateway keeps them for later use".split()

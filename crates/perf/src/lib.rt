@@ -1,9 +1,5 @@
-// What bench/ counts, exported for C: the leaves over a whole input, and the skips.
+// Loops over the varint leaves, exported for C: what bench/ counts of them.
 ghost use mathlib.Core.Path.{_≡_};
-ghost use Rattle.spec.specs.Base.{taken};
-ghost use Rattle.spec.specs.Utf8.{validPrefix};
-ghost use Rattle.spec.specs.Skip.{skipFieldForTag};
-ghost use Rattle.spec.specs.Document.{isDocument};
 ghost use Rattle.perf.specs.Loops.{varints, puts};
 use wire::found::Found;
 use wire::put::Put;
@@ -50,29 +46,4 @@ pub extern "C" fn perf_put_varints(values: &[u64], out: &mut [u8]) -> usize
         i += 1;
     }
     at
-}
-
-// How many bytes at the front are valid UTF-8.
-#[no_mangle]
-pub extern "C" fn perf_utf8(s: &[u8]) -> usize
-    ensures { λ r. ⌜ r ≡ validPrefix (now (s .entry)) ⌝ }
-{
-    utf8::utf8_prefix(s)
-}
-
-// How many bytes the field behind a tag takes; 0 where it is refused.
-#[no_mangle]
-pub extern "C" fn perf_skip(tag: u32, s: &[u8], level: u32) -> usize
-    ensures { λ r. ⌜ r ≡ taken (skipFieldForTag tag level (now (s .entry))) ⌝ }
-{
-    let p = skip::unknown_or_group::skip_field_for_tag(tag, s, level);
-    p.used
-}
-
-// Whether the bytes are a document.
-#[no_mangle]
-pub extern "C" fn perf_document(s: &[u8]) -> bool
-    ensures { λ r. ⌜ r ≡ isDocument (now (s .entry)) ⌝ }
-{
-    skip::document::is_document(s)
 }

@@ -1,0 +1,111 @@
+// A schema, and a message to records.
+ghost use mathlib.Core.Path.{_≡_};
+ghost use mathlib.Core.List.{[], _∷_};
+ghost use Prim.Native.Nat.{_/_};
+ghost use lib.ListN.{length, replicate};
+ghost use Rattle.spec.specs.Record.{stride};
+ghost use Rattle.spec.specs.Schema.{badSchema, schemaOf};
+ghost use Rattle.spec.specs.Reading.{reading, number, place, listed, roomAfter};
+ghost use Rattle.schema.specs.Tables.{soundOf, keysWith, infoWith, tableSays};
+ghost use Rattle.schema.specs.Told.{told};
+ghost use Rattle.read.specs.Answers.{readingBy};
+ghost use Rattle.calf.specs.Told.{numberOf, entryOf};
+use schema::Verdict;
+
+// How many numbers a record has in lent room and in a list.
+#[no_mangle]
+pub extern "C" fn calf_record_numbers() -> usize
+    ensures { λ r. ⌜ r ≡ stride ⌝ }
+{
+    6
+}
+
+fn number_of(v: Verdict) -> u32
+    ensures { λ r. ⌜ r ≡ numberOf (told v) ⌝ }
+{
+    match v {
+        Verdict::Valid => 0,
+        Verdict::Bad(_) => 9,
+    }
+}
+
+fn entry_of(v: Verdict) -> usize
+    ensures { λ r. ⌜ r ≡ entryOf (told v) ⌝ }
+{
+    match v {
+        Verdict::Valid => 0,
+        Verdict::Bad(i) => i,
+    }
+}
+
+// Whether a schema of five numbers an entry is valid: the first bad entry.
+#[no_mangle]
+pub extern "C" fn calf_check_schema(types: u32, numbers: &[u32], answer: &mut [u64; 1]) -> u32
+    ensures { λ r. ⌜ (r ≡ numberOf (badSchema (schemaOf types (now (numbers .entry)))))
+        × (now (answer .exit) ≡ entryOf (badSchema (schemaOf types (now (numbers .entry)))) ∷ []) ⌝ }
+{
+    let v = schema::check(types, numbers);
+    *answer = [entry_of(v) as u64];
+    number_of(v)
+}
+
+// The tables of a schema, for `calf_read_prepared`: of the entries before the first bad one where it is not valid.
+#[no_mangle]
+pub extern "C" fn calf_prepare(
+    types: u32,
+    numbers: &[u32],
+    keys: &mut [u64; 256],
+    info: &mut [u8; 1024],
+    answer: &mut [u64; 1],
+) -> u32
+    ensures { λ r. ⌜ (r ≡ numberOf (badSchema (schemaOf types (now (numbers .entry)))))
+        × (now (answer .exit) ≡ entryOf (badSchema (schemaOf types (now (numbers .entry)))) ∷ [])
+        × (now (keys .exit) ≡ keysWith 0 (soundOf (schemaOf types (now (numbers .entry)))) (replicate 256 18446744073709551615))
+        × (now (info .exit) ≡ infoWith 0 (soundOf (schemaOf types (now (numbers .entry)))) (replicate 1024 0)) ⌝ }
+{
+    *keys = [0xffff_ffff_ffff_ffff; 256];
+    *info = [0; 1024];
+    let v = schema::tables(types, numbers, keys, info);
+    *answer = [entry_of(v) as u64];
+    number_of(v)
+}
+
+// ---- reading
+
+// The message s under a schema of five numbers an entry: how many records stand in the room, and the place of the refusal.
+#[no_mangle]
+pub extern "C" fn calf_read(
+    types: u32,
+    numbers: &[u32],
+    s: &[u8],
+    room: &mut [u64],
+    answer: &mut [u64; 2],
+) -> u32
+    ensures { λ r. ⌜ (r ≡ number (reading (schemaOf types (now (numbers .entry))) (length (now (room .entry)) / stride) (now (s .entry))))
+        × (now (answer .exit) ≡ length (listed (reading (schemaOf types (now (numbers .entry))) (length (now (room .entry)) / stride) (now (s .entry))))
+        ∷ place (reading (schemaOf types (now (numbers .entry))) (length (now (room .entry)) / stride) (now (s .entry))) ∷ [])
+        × (now (room .exit) ≡ roomAfter (reading (schemaOf types (now (numbers .entry))) (length (now (room .entry)) / stride) (now (s .entry))) (now (room .entry))) ⌝ }
+{
+    let a = read::read(types, numbers, s, room);
+    *answer = [a.count as u64, a.place as u64];
+    a.number
+}
+
+// The same under the tables of a schema, which a caller with many messages makes once by `calf_prepare`.
+#[no_mangle]
+pub extern "C" fn calf_read_prepared(
+    keys: &[u64; 256],
+    info: &[u8; 1024],
+    s: &[u8],
+    room: &mut [u64],
+    answer: &mut [u64; 2],
+) -> u32
+    ensures { λ r. ⌜ (r ≡ number (readingBy (tableSays (now (keys .entry)) (now (info .entry))) (length (now (room .entry)) / stride) (now (s .entry))))
+        × (now (answer .exit) ≡ length (listed (readingBy (tableSays (now (keys .entry)) (now (info .entry))) (length (now (room .entry)) / stride) (now (s .entry))))
+        ∷ place (readingBy (tableSays (now (keys .entry)) (now (info .entry))) (length (now (room .entry)) / stride) (now (s .entry))) ∷ [])
+        × (now (room .exit) ≡ roomAfter (readingBy (tableSays (now (keys .entry)) (now (info .entry))) (length (now (room .entry)) / stride) (now (s .entry))) (now (room .entry))) ⌝ }
+{
+    let a = read::read_prepared(keys, info, s, room);
+    *answer = [a.count as u64, a.place as u64];
+    a.number
+}
