@@ -16,7 +16,6 @@ RULES = {
     'group': 'kind 10, which the crate gives the wire type of a message',
     'bad line': 'a line that is no case',
     'past': 'bare stream: a message or packed length runs past the slice; the limited stream is compared',
-    'search': 'a search in entries that fall: no rule says what it finds (not compared with the model either)',
 }
 LEFT = {
     'left out: the crate has no such call': 'own',
@@ -25,16 +24,6 @@ LEFT = {
     'left out: the wire type of groups': 'group',
     'left out: bad line': 'bad line',
 }
-
-
-def falls(line):
-    """A search in entries that do not rise, equal ones aside."""
-    words = line.split(' ')
-    entries = words[1].partition('|')[2] if len(words) == 4 else '-'
-    if words[0] != 'lookup' or entries == '-':
-        return False
-    keys = [tuple(map(int, e.split(',')[:2])) for e in entries.split(';')]
-    return keys != sorted(keys)
 
 
 def rule(verb, crate, model):
@@ -76,9 +65,7 @@ class Tally:
         verb = line.split(' ', 1)[0]
         verb = 'no case' if model == 'bad line' else verb
         self.lines[verb] += 1
-        if falls(line) and verb == 'lookup':
-            self.left[verb]['search'] += 1
-        elif ours != model:
+        if ours != model:
             self.differs('ours and the model', line, ours, model)
         crate, _, bare = crate.partition('\t')
         if bare:
