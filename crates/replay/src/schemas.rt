@@ -90,6 +90,26 @@ pub fn schema(
     }
 }
 
+// The number at place i, where `repeated` is at most 1: an entry has only yes or no there.
+fn clipped(i: usize, v: u32) -> u32 {
+    if i % 5 == 3 {
+        if 1 < v {
+            return 1;
+        }
+    }
+    v
+}
+
+// Looks up an entry of these numbers, whatever `repeated` says: it is not asked for.
+fn find_entry(numbers: &mut [u32], owner: u32, number: u32) -> Place {
+    let mut i: usize = 0;
+    while i < numbers.len() {
+        numbers[i] = clipped(i, numbers[i]);
+        i += 1;
+    }
+    entries::lookup_numbers(numbers, owner, number)
+}
+
 // `lookup SCHEMA OWNER NUMBER`: the entry's index or `none`.
 pub fn lookup(
     line: &[u8],
@@ -105,7 +125,7 @@ pub fn lookup(
         return 0;
     }
     let count = s.count;
-    match entries::lookup_numbers(&numbers[0..count], o.value, n.value) {
+    match find_entry(&mut numbers[0..count], o.value, n.value) {
         Place::At(i) => one(i as u64, out),
         Place::Nothing => put_text(b"none", 0, out),
     }
