@@ -36,16 +36,21 @@ fn short_elements(
 {
     let mut at = from.at;
     let mut to = from.to;
+    if room.len() < 6 {
+        return Spot { at, to };
+    }
+    // the last place where a record has room: one bound for the whole loop, which keeps a register free
+    let most = room.len() - 6;
     while at < p.len() {
+        if most < to {
+            return Spot { at, to };
+        }
         let Short::Of { value, size } = short_at(p, at) else {
             return Spot { at, to };
         };
         let Meant::Is(v) = meaning_of(kind, value) else {
             return Spot { at, to };
         };
-        if room.len() - to < 6 {
-            return Spot { at, to };
-        }
         let start = off + at;
         at += size;
         to = put(room, to, depth, number, kind, v, start, off + at);

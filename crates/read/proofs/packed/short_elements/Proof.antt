@@ -5,69 +5,74 @@ use borrow.Author.Needs.{needs}
 use lib.ListN.{length}
 use Rattle.spec.specs.Kind.{shape}
 use Rattle.spec.specs.Reading.{contents}
-use Rattle.read.proofs.Turn.{Here, here, short-within, short-stored}
+use Rattle.read.proofs.Turn.{Here, here, start, short-within, short-stored}
 use Rattle.read.proofs.packed.short_elements.Statement.{statement}
 use Rattle.read.proofs.packed.short_elements.Tie as tie
 
 abbrev Inv-loop : tie.InvT-loop
-Inv-loop p off depth number kind room₀ at₀ to₀ room at to = (tag : ℕ) → Here (contents (shape kind) depth number kind tag) p off room₀ at₀ to₀ room at to
+Inv-loop p off depth number kind room₀ at₀ to₀ most room at to = (tag : ℕ) → Here (contents (shape kind) depth number kind tag) p off room₀ at₀ to₀ room at to
 
 abbrev μ-loop : tie.MeasureT-loop
-μ-loop p off depth number kind room₀ at₀ to₀ room at to = length p - at
+μ-loop p off depth number kind room₀ at₀ to₀ most room at to = length p - at
 
 loop-holds : tie.Need-loop-holds Inv-loop μ-loop
 loop-holds c = λ tag. here _ _ _ _ _ _ (omega arith) (omega arith)
 
+-- where the room has no place for a record, before the loop and in it
 returns : tie.Need-returns Inv-loop μ-loop
-returns c = λ tag. c .before .before .before .before .loop .inv tag .further
+returns c = λ tag. start _ _ _ _ (omega arith) (omega arith)
 
 returns-2 : tie.Need-returns-2 Inv-loop μ-loop
-returns-2 c = λ tag. c .before .before .before .before .before .before .before .before .loop .inv tag .further
-
-sub-if1 : tie.Need-sub-if1 Inv-loop μ-loop
-sub-if1 c = omega (arith, c .before .before .before .before .before .before .before .before .before .loop .inv 0 .further .fits)
+returns-2 c = λ tag. c .before .before .loop .inv tag .further
 
 returns-3 : tie.Need-returns-3 Inv-loop μ-loop
-returns-3 c = λ tag. c .before .before .before .before .before .before .before .before .before .before .loop .inv tag .further
+returns-3 c = λ tag. c .before .before .before .before .before .loop .inv tag .further
+
+returns-4 : tie.Need-returns-4 Inv-loop μ-loop
+returns-4 c = λ tag. c .before .before .before .before .before .before .before .before .before .loop .inv tag .further
 
 add-start : tie.Need-add-start Inv-loop μ-loop
 add-start c = omega (arith, c .before .before .before .before .before .before .before .before .before .loop-test .taken)
 
 add-at : tie.Need-add-at Inv-loop μ-loop
 add-at c =
-    let m = c .before .before in
+    let m = c .before in
     let v = m .before .before .before .before in
     let a = v .before .before in
-    omega (arith, short-within _ _ _ 0 (a .before .before .loop .inv 0) (a .before .loop-test .taken) (a .short-at .ensures) (v .value .given .1) (m .before .before .meaning-of .ensures) (m .v .given .1))
+    omega (arith, short-within _ _ _ 0 (a .before .before .before .loop .inv 0) (a .before .before .loop-test .taken) (a .short-at .ensures) (v .value .given .1) (m .before .before .meaning-of .ensures) (m .v .given .1))
 
 add-put : tie.Need-add-put Inv-loop μ-loop
 add-put c =
-    let m = c .before .before .before in
+    let m = c .before .before in
     let v = m .before .before .before .before in
     let a = v .before .before in
-    omega (arith, short-within _ _ _ 0 (a .before .before .loop .inv 0) (a .before .loop-test .taken) (a .short-at .ensures) (v .value .given .1) (m .before .before .meaning-of .ensures) (m .v .given .1))
+    omega (arith, short-within _ _ _ 0 (a .before .before .before .loop .inv 0) (a .before .before .loop-test .taken) (a .short-at .ensures) (v .value .given .1) (m .before .before .meaning-of .ensures) (m .v .given .1))
 
 put-requires : tie.Need-put-requires Inv-loop μ-loop
-put-requires c κs = omega (arith, c .before .if1 .left, c .before .before .before .before .before .before .before .before .before .before .before .loop .inv 0 .further .fits)
+put-requires c κs =
+    let e = c .before .before .before .before .before .before .before .before .before in
+    let l = e .before .before in
+    omega (arith, e .if2 .left, l .before .if1 .left, l .loop .inv 0 .further .kept)
 
 loop-less : tie.Need-loop-less Inv-loop μ-loop
 loop-less c =
-    let m = c .before .before .before .before .before .before in
+    let m = c .before .before .before .before .before in
     let v = m .before .before .before .before in
     let a = v .before .before in
-    omega (arith, short-within _ _ _ 0 (a .before .before .loop .inv 0) (a .before .loop-test .taken) (a .short-at .ensures) (v .value .given .1) (m .before .before .meaning-of .ensures) (m .v .given .1))
+    omega (arith, short-within _ _ _ 0 (a .before .before .before .loop .inv 0) (a .before .before .loop-test .taken) (a .short-at .ensures) (v .value .given .1) (m .before .before .meaning-of .ensures) (m .v .given .1))
 
 loop-again : tie.Need-loop-again Inv-loop μ-loop
 loop-again c = λ tag.
     let p = c .before .before in
-    let m = p .before .before .before .before in
+    let m = p .before .before .before in
     let v = m .before .before .before .before in
     let a = v .before .before in
-    short-stored _ _ _ tag (a .before .before .loop .inv tag) (a .before .loop-test .taken) (a .short-at .ensures) (v .value .given .1) (m .before .before .meaning-of .ensures) (m .v .given .1)
-    (omega (arith, p .before .before .if1 .left, a .before .before .loop .inv 0 .further .fits)) (p .put .ensures .0) (p .put .ensures .1)
+    let l = a .before .before .before in
+    short-stored _ _ _ tag (l .loop .inv tag) (a .before .before .loop-test .taken) (a .short-at .ensures) (v .value .given .1) (m .before .before .meaning-of .ensures) (m .v .given .1)
+    (omega (arith, a .before .if2 .left, l .before .if1 .left, l .loop .inv 0 .further .kept)) (p .put .ensures .0) (p .put .ensures .1)
 
-returns-4 : tie.Need-returns-4 Inv-loop μ-loop
-returns-4 c = λ tag. c .before .loop .inv tag .further
+returns-5 : tie.Need-returns-5 Inv-loop μ-loop
+returns-5 c = λ tag. c .before .loop .inv tag .further
 
 pub short-elements-spec : {M : Type 1} → statement M
 short-elements-spec =
@@ -75,20 +80,21 @@ short-elements-spec =
     (tie.spec
     Inv-loop
     μ-loop
-    loop-holds
-    (λ c κs. search needs)
-    (λ c. search needs)
-    (λ c. search needs)
-    (λ c. search (needs, c .before .before .before .before .loop .inv 0 .further .kept))
     returns
+    (λ c. search needs)
+    loop-holds
+    (λ c. search (needs, c .before .before .loop .inv 0 .further .kept))
+    returns-2
     (λ c κs. search needs)
     (λ c. search needs)
     (λ c. search needs)
-    (λ c. search (needs, c .before .before .before .before .before .before .before .before .loop .inv 0 .further .kept))
-    returns-2
-    sub-if1
-    (λ c. search (needs, c .before .before .before .before .before .before .before .before .before .before .loop .inv 0 .further .kept))
+    (λ c. search (needs, c .before .before .before .before .before .loop .inv 0 .further .kept))
     returns-3
+    (λ c κs. search needs)
+    (λ c. search needs)
+    (λ c. search needs)
+    (λ c. search (needs, c .before .before .before .before .before .before .before .before .before .loop .inv 0 .further .kept))
+    returns-4
     add-start
     add-at
     add-put
@@ -96,4 +102,4 @@ short-elements-spec =
     loop-less
     loop-again
     (λ c. search (needs, c .before .loop .inv 0 .further .kept))
-    returns-4)
+    returns-5)
