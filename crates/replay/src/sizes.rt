@@ -8,7 +8,6 @@ use crate::words::done;
 use crate::words::groups;
 use crate::words::number32;
 use crate::words::number64;
-use wire::rt;
 
 // Whether a pattern is a number of 32 bits, signed or not, as far as the kind has that width; bool is 0 or 1.
 fn fits(kind: u32, value: u64) -> bool {
