@@ -1,68 +1,36 @@
 // What stands at a position of a slice: a value that is one number, or a content behind its length.
 ghost use mathlib.Core.Path.{_≡_};
-ghost use Prim.Native.Nat.{_+_, _≤_};
-ghost use mathlib.Core.Bool.{true};
-ghost use lib.ListN.{length, getD, drop};
+ghost use lib.ListN.{drop};
 ghost use Rattle.spec.specs.Base.{meaning};
 ghost use Rattle.spec.specs.Varint as spec;
+ghost use Rattle.spec.specs.Varint.{varint32};
 ghost use Rattle.spec.specs.Kind.{scalar, int32, bool, sfixed32};
 ghost use Rattle.spec.specs.Skip.{content};
 ghost use Rattle.wire.specs.Answers.{told};
 ghost use Rattle.wire.specs.Reached.{varintOf};
 ghost use Rattle.pull.specs.Told.{spanAt};
-use crate::wide::of_ten;
+use crate::wide::wide_found;
 use wire::fixed::decode_fixed32;
 use wire::fixed::extend32;
 use wire::found::Found;
 use wire::varint::decode::decode_varint32;
-use wire::varint::decode::decode_varint64;
 use wire::zigzag::unzigzag;
 
 // ---- numbers
 
-fn rare_found(s: &[u8], at: usize, narrow: bool) -> Found
-    ensures { λ r. ⌜ told at r ≡ varintOf narrow (drop at (now (s .entry))) ⌝ }
+// Called at two places, and so stays a call: with one, it would be made a part of its caller, which would then be too large for loops.
+fn narrow_long(s: &[u8], at: usize) -> Found
+    ensures { λ r. ⌜ told at r ≡ varint32 (drop at (now (s .entry))) ⌝ }
 {
-    if narrow {
-        return decode_varint32(s, at);
-    }
-    decode_varint64(s, at)
+    decode_varint32(s, at)
 }
 
-// Whether ten bytes are there, and the first has another behind it.
-fn is_long(s: &[u8], at: usize) -> bool
-    ensures { λ r. ⌜ (r ≡ true → (at + 10 ≤ length (now (s .entry))) × (128 ≤ getD (now (s .entry)) at 0)) ⌝ }
-{
-    if s.len() < 10 {
-        return false;
-    }
-    if s.len() - 10 < at {
-        return false;
-    }
-    128 <= s[at]
-}
-
-// The general answer is taken apart, so that the own one need not be in memory.
-fn long_found(s: &[u8], at: usize, narrow: bool) -> Found
-    ensures { λ r. ⌜ told at r ≡ varintOf narrow (drop at (now (s .entry))) ⌝ }
-{
-    if !narrow {
-        if is_long(s, at) {
-            return of_ten(s, at);
-        }
-    }
-    match rare_found(s, at, narrow) {
-        Found::Value { value, next } => Found::Value { value, next },
-        Found::Refused(k) => Found::Refused(k),
-    }
-}
-
-// A varint of either width. Those of one or two bytes are read in place, as most are, and the others by a call.
-pub(crate) fn varint_found(s: &[u8], at: usize, narrow: bool) -> Found
-    ensures { λ r. ⌜ told at r ≡ varintOf narrow (drop at (now (s .entry))) ⌝ }
+// A varint32, as a tag is. Those of one or two bytes are read in place, as most are, and the others by a call.
+fn narrow_found(s: &[u8], at: usize) -> Found
+    ensures { λ r. ⌜ told at r ≡ varint32 (drop at (now (s .entry))) ⌝ }
 {
     if s.len() <= at {
-        return long_found(s, at, narrow);
+        return narrow_long(s, at);
     }
     let c = s[at] as u64;
     if c < 128 {
@@ -77,7 +45,17 @@ pub(crate) fn varint_found(s: &[u8], at: usize, narrow: bool) -> Found
             return Found::Value { value: v, next };
         }
     }
-    long_found(s, at, narrow)
+    narrow_long(s, at)
+}
+
+// A varint of either width. A caller says which by a constant, so the compiler leaves it one of them.
+pub(crate) fn varint_found(s: &[u8], at: usize, narrow: bool) -> Found
+    ensures { λ r. ⌜ told at r ≡ varintOf narrow (drop at (now (s .entry))) ⌝ }
+{
+    if narrow {
+        return narrow_found(s, at);
+    }
+    wide_found(s, at)
 }
 
 // An int32: a varint64 whose signed number has 32 bits.
