@@ -9,28 +9,21 @@ ghost use Rattle.spec.specs.Skip.{content};
 ghost use Rattle.wire.specs.Answers.{told};
 ghost use Rattle.wire.specs.Reached.{varintOf};
 ghost use Rattle.pull.specs.Told.{spanAt};
+use crate::bytes::by_bytes;
 use crate::wide::wide_found;
 use wire::fixed::decode_fixed32;
 use wire::fixed::extend32;
 use wire::found::Found;
-use wire::varint::decode::decode_varint32;
 use wire::zigzag::unzigzag;
 
 // ---- numbers
 
-// Called at two places, and so stays a call: with one, it would be made a part of its caller, which would then be too large for loops.
-fn narrow_long(s: &[u8], at: usize) -> Found
-    ensures { λ r. ⌜ told at r ≡ varint32 (drop at (now (s .entry))) ⌝ }
-{
-    decode_varint32(s, at)
-}
-
-// A varint32, as a tag is. Those of one or two bytes are read in place, as most are, and the others by a call.
-fn narrow_found(s: &[u8], at: usize) -> Found
+// A varint32, as a tag is. Those of one or two bytes are read in place, as most are, and the others a byte at a time.
+pub(crate) fn narrow_found(s: &[u8], at: usize) -> Found
     ensures { λ r. ⌜ told at r ≡ varint32 (drop at (now (s .entry))) ⌝ }
 {
     if s.len() <= at {
-        return narrow_long(s, at);
+        return Found::Refused(1);
     }
     let c = s[at] as u64;
     if c < 128 {
@@ -45,11 +38,11 @@ fn narrow_found(s: &[u8], at: usize) -> Found
             return Found::Value { value: v, next };
         }
     }
-    narrow_long(s, at)
+    by_bytes(s, at, 4, 15)
 }
 
-// A varint of either width. A caller says which by a constant, so the compiler leaves it one of them.
-pub(crate) fn varint_found(s: &[u8], at: usize, narrow: bool) -> Found
+// A varint of either width, for what is read at both.
+fn varint_found(s: &[u8], at: usize, narrow: bool) -> Found
     ensures { λ r. ⌜ told at r ≡ varintOf narrow (drop at (now (s .entry))) ⌝ }
 {
     if narrow {
@@ -62,7 +55,7 @@ pub(crate) fn varint_found(s: &[u8], at: usize, narrow: bool) -> Found
 pub(crate) fn int32_found(s: &[u8], at: usize) -> Found
     ensures { λ r. ⌜ told at r ≡ scalar int32 (drop at (now (s .entry))) ⌝ }
 {
-    match varint_found(s, at, false) {
+    match wide_found(s, at) {
         Found::Value { value, next } => {
             if value < 0x8000_0000 {
                 return Found::Value { value, next };
@@ -79,7 +72,7 @@ pub(crate) fn int32_found(s: &[u8], at: usize) -> Found
 pub(crate) fn bool_found(s: &[u8], at: usize) -> Found
     ensures { λ r. ⌜ told at r ≡ scalar bool (drop at (now (s .entry))) ⌝ }
 {
-    match varint_found(s, at, false) {
+    match wide_found(s, at) {
         Found::Value { value, next } => {
             if value == 0 {
                 return Found::Value { value: 0, next };

@@ -5,8 +5,8 @@ ghost use lib.ListN.{length, getD, drop};
 ghost use Rattle.spec.specs.Varint.{varint64};
 ghost use Rattle.wire.specs.Answers.{told};
 ghost use Rattle.wire.specs.Reached.{Reached};
+use crate::bytes::by_bytes;
 use wire::found::Found;
-use wire::varint::decode::decode_varint64;
 
 // Those of one to three bytes are read in place, as most are, and the others by a call. It is just small enough that the compiler puts it in place wherever it is called:
 // for the second and the third byte it asks at once whether they are there.
@@ -47,7 +47,7 @@ fn wide_long(s: &[u8], at: usize) -> Found
     if 10 <= s.len() - at {
         return of_ten(s, at);
     }
-    decode_varint64(s, at)
+    by_bytes(s, at, 9, 1)
 }
 
 // A varint of two or more bytes, where ten bytes are there: with no call, so that a long value costs a reader little more than its bytes.

@@ -3,10 +3,14 @@ use Prim.Native.Nat.{_+_}
 use native.Mathlib.Omega.{arith}
 use mathlib.Core.Path.{refl}
 use mathlib.Core.Bool.{true}
+use Rattle.wire.proofs.VarintSteps.{begin, ended}
 use Rattle.pull.proofs.StepLaws.{one-told, two-told}
 use borrow.Author.Needs.{needs}
 use Rattle.pull.proofs.value.narrow_found.Statement.{statement}
 use Rattle.pull.proofs.value.narrow_found.Tie as tie
+
+returns : tie.Need-returns
+returns c = let a = c .before .before .args in ended (begin 4 15 (a .s .now) (a .at)) (omega (arith, c .if1 .taken))
 
 cast-c : tie.Need-cast-c
 cast-c c = omega (arith, c .shared-slice-known2 .given (c .before .before .before .args .at))
@@ -26,4 +30,4 @@ returns-3 c =
     two-told true (a .at) (a .s .now) (e .before .before .if1 .left) (e .if2 .left) (omega arith) (c .if4 .taken) refl
 
 pub narrow-found-spec : {M : Type 1} → statement M
-narrow-found-spec = tie.close (tie.spec (λ c κs. search needs) (λ c. search needs) (λ c. search needs) cast-c (λ c. search needs) returns-2 (λ c. search needs) (λ c. search needs) (λ c. search needs) cast-d (λ c. search needs) (λ c. search needs) (λ c. search needs) returns-3 (λ c κs. search needs) (λ c. search needs))
+narrow-found-spec = tie.close (tie.spec returns (λ c. search needs) cast-c (λ c. search needs) returns-2 (λ c. search needs) (λ c. search needs) (λ c. search needs) cast-d (λ c. search needs) (λ c. search needs) (λ c. search needs) returns-3 (λ c κs. search needs) (λ c. search needs))
