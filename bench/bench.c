@@ -23,10 +23,11 @@ static record room[RECORDS], room2[RECORDS];
 static uint64_t keys[256], values[1 << 16];
 
 /* ---- the library */
-uint64_t perf_varints(const uint8_t *, size_t);
+uint64_t perf_varints(const uint8_t *, size_t), perf_pull(const uint8_t *, size_t);
 size_t perf_put_varints(const uint64_t *, size_t, uint8_t *, size_t);
 
 static uint64_t ours_varints(void) { return perf_varints(s, n); }
+static uint64_t ours_pull(void) { return perf_pull(s, n); }
 static uint64_t ours_put(void) { return perf_put_varints(values, count, out, BYTES); }
 static uint64_t ours_utf8(void) { return calf_utf8_prefix(s, n); }
 static uint64_t ours_document(void) { return calf_is_document(s, n); }
@@ -87,10 +88,11 @@ static uint64_t ours_many_prepared(void)
 }
 
 /* ---- its peers (peers/) */
-uint64_t crate_varints(const uint8_t *, size_t), crate_group(const uint8_t *, size_t), crate_run(const uint8_t *, size_t), std_utf8(const uint8_t *, size_t);
+uint64_t crate_varints(const uint8_t *, size_t), crate_pull(const uint8_t *, size_t), crate_group(const uint8_t *, size_t), crate_run(const uint8_t *, size_t), std_utf8(const uint8_t *, size_t);
 size_t crate_put_varints(const uint64_t *, size_t, uint8_t *, size_t);
 uint64_t crate_records(const uint8_t *, size_t, const uint32_t *, size_t, record *, size_t);
 static uint64_t driver_varints(void) { return crate_varints(s, n); }
+static uint64_t driver_pull(void) { return crate_pull(s, n); }
 static uint64_t driver_put(void) { return crate_put_varints(values, count, out2, BYTES); }
 static uint64_t driver_utf8(void) { return std_utf8(s, n); }
 static uint64_t driver_skip(void) { return crate_group(s, n); }
@@ -164,7 +166,7 @@ static bool load(const char *folder, const char *name)
 /* what the marks and the driver's call are counted as */
 static uint64_t nothing(void) { return 0; }
 
-/* ---- leaves and skips: one call of ours, one of a peer */
+/* ---- leaves, pull loops and skips: one call of ours, one of a peer */
 static const struct { const char *input, *name, *peer; call *here, *there; } leaves[] = {
     { "v1", "varints", "crate", ours_varints, driver_varints },
     { "vmix", "varints", "crate", ours_varints, driver_varints },
@@ -172,6 +174,9 @@ static const struct { const char *input, *name, *peer; call *here, *there; } lea
     { "v1", "put", "crate", ours_put, driver_put },
     { "vmix", "put", "crate", ours_put, driver_put },
     { "v10", "put", "crate", ours_put, driver_put },
+    { "ints", "pull", "crate", ours_pull, driver_pull },
+    { "intmix", "pull", "crate", ours_pull, driver_pull },
+    { "ints.1M", "pull", "crate", ours_pull, driver_pull },
     { "ascii", "utf8", "std", ours_utf8, driver_utf8 },
     { "german", "utf8", "std", ours_utf8, driver_utf8 },
     { "russian", "utf8", "std", ours_utf8, driver_utf8 },

@@ -6,5 +6,7 @@ mod generated;
 mod leaves;
 #[cfg(feature = "objects")]
 mod objects;
+#[cfg(feature = "pulls")]
+mod pulls;
 #[cfg(feature = "records")]
 mod records;

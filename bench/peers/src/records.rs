@@ -107,17 +107,3 @@ pub unsafe extern "C" fn crate_records(p: *const u8, n: usize, s: *const Entry, 
     let done = fields(&mut is, 0, 0, from_raw_parts(s, sn), &mut room, &mut Vec::new(), &mut String::new());
     room.count as u64 + if done.is_err() { 1 << 32 } else { 0 }
 }
-
-/// The pull loop: the exclusive or of all varints of a message whose fields are varints.
-#[no_mangle]
-pub unsafe extern "C" fn crate_pull(p: *const u8, n: usize) -> u64 {
-    let mut is = CodedInputStream::from_bytes(from_raw_parts(p, n));
-    let mut acc = 0;
-    while let Ok(Some(_)) = is.read_raw_tag_or_eof() {
-        match is.read_int64() {
-            Ok(v) => acc ^= v as u64,
-            Err(_) => return acc,
-        }
-    }
-    acc
-}

@@ -6,6 +6,7 @@ use native.Mathlib.Omega.{arith}
 use mathlib.Core.Bool.{Bool, true, false}
 use mathlib.Core.Path.{_≡_, refl, sym, ap, ap₂, _∙_}
 use mathlib.Core.List.{List, [], _∷_}
+use mathlib.Core.Logic.{_⊎_, inl, inr}
 use lib.Bits.{bitXor}
 use lib.Dec.{leb}
 use lib.ListN.{length, getD, drop, drop-of-length-le}
@@ -18,7 +19,17 @@ use Rattle.wire.specs.declared.found.Found.the-variants.{Value, Refused}
 use Rattle.wire.specs.declared.put.Put.{Put}
 use Rattle.wire.specs.declared.put.Put.the-variants.{Next, NoRoom}
 use Rattle.wire.proofs.FoundLaws.{Placed, varint-placed}
-use Rattle.perf.specs.Loops.{xorOn, xors, varints, puts}
+use denote.Enum.Declared.{tagOf}
+use Rattle.spec.specs.Kind.{uint64}
+use Rattle.spec.specs.Pull as spec
+use Rattle.spec.specs.Pull.{rawTag, value, stepAt}
+use Rattle.spec.proofs.PullLaws.{raw-end, goes-forward, fewest, takes-fewest}
+use Rattle.pull.specs.Told as pull
+use Rattle.pull.specs.declared.step.Moved.{Moved}
+use Rattle.pull.specs.declared.step.Said.{Said}
+use Rattle.pull.specs.declared.step.Said.the-variants as said
+use Rattle.pull.proofs.step.Said.{the-type}
+use Rattle.perf.specs.Loops.{xorOn, xors, varints, puts, saidOn, pulls, pulled}
 
 -- What there is in all is what the rest adds to `acc` from here. `left` counts the turns that may follow.
 pub record Xored (s : List ℕ) (at acc : ℕ) : Type 0 where
@@ -117,3 +128,86 @@ module _ {vs room out after : List ℕ} {at i : ℕ} {p : Put} (h : Putting vs r
 
   pub putting-none : p ≡ NoRoom → Puts vs room 0 after
   putting-none e = puts-is vs room (turned e)
+
+-- ---- the pull loop
+
+-- As for varints: what there is in all is what the steps from here add to `acc`.
+pub record Pulled (s : List ℕ) (at acc : ℕ) : Type 0 where
+  pub left : ℕ
+  pub few : length s ≤ at + left
+  pub inside : at ≤ length s
+  pub same : pulled s ≡ pulls left acc at s
+
+pub pulled-start : (s : List ℕ) → Pulled s 0 0
+unfolding pulled
+pulled-start s = record { left = length s; few = omega arith; inside = omega arith; same = refl }
+
+pulls-end : (k acc at : ℕ) (s : List ℕ) → length s ≤ at → pulls k acc at s ≡ acc
+unfolding pulls saidOn
+pulls-end zero acc at s h = refl
+pulls-end (suc k) acc at s h = rw (raw-end s at 0 h) refl
+
+pub pulled-end : {s : List ℕ} {at acc : ℕ} → Pulled s at acc → length s ≤ at → acc ≡ pulled s
+pulled-end {s} {at} {acc} x h = sym (x .same ∙ pulls-end (x .left) acc at s h)
+
+-- what a step said is no number, by its variant's tag
+abbrev pub Other : Said → Type 0
+Other x = (tagOf the-type x ≡ 1) ⊎ ((tagOf the-type x ≡ 2) ⊎ (tagOf the-type x ≡ 3))
+
+other : (x : Said) → Other x → (acc : ℕ) (f : ℕ → ℕ) → saidOn acc (pull.saidTold x) f ≡ acc
+unfolding saidOn
+other (said.Number v) h acc f = absurd (none refl h)
+  where
+    none : {n : ℕ} → n ≡ 0 → (n ≡ 1) ⊎ ((n ≡ 2) ⊎ (n ≡ 3)) → ⊥
+    none z (inl h) = omega arith
+    none z (inr (inl h)) = omega arith
+    none z (inr (inr h)) = omega arith
+other (said.Content a z) h acc f = refl
+other said.End h acc f = refl
+other (said.Refused k p) h acc f = refl
+
+module _ {s : List ℕ} {at acc : ℕ} (t : Moved) (x : Pulled s at acc) (e : pull.told t ≡ stepAt s at 0 rawTag) where
+  pub tag-other : Other (t .said) → acc ≡ pulled s
+  unfolding pulls
+  tag-other h = sym (x .same ∙ go (x .left))
+    where
+      go : (k : ℕ) → pulls k acc at s ≡ acc
+      go zero = refl
+      go (suc k) = rw (← e) (other (t .said) h acc _)
+
+  module _ {g : ℕ} (m : Moved) (f : pull.told m ≡ stepAt s (t .at) 0 (value uint64)) (tag : t .said ≡ said.Number g) where
+    -- a turn up to its value
+    turn-value : (k : ℕ) → pulls (suc k) acc at s ≡ saidOn acc (pull.saidTold (m .said)) (λ v. pulls k (bitXor acc v) (m .at) s)
+    unfolding pulls saidOn
+    turn-value k = rw (← e, tag, ← f) refl
+
+    pub value-other : Other (m .said) → acc ≡ pulled s
+    unfolding pulls
+    value-other h = sym (x .same ∙ go (x .left))
+      where
+        go : (k : ℕ) → pulls k acc at s ≡ acc
+        go zero = refl
+        go (suc k) = turn-value k ∙ other (m .said) h acc _
+
+    -- a field takes a byte or more, and lies in the bytes
+    pub field-placed : {v : ℕ} → m .said ≡ said.Number v → (at < m .at) × (m .at ≤ length s)
+    unfolding fewest
+    field-placed {v} q =
+        let a = goes-forward s at 0 rawTag (x .inside) in
+        let there : t .at ≡ stepAt s at 0 rawTag .at = ap (λ (n : spec.Moved). n .at) e in
+        let b = goes-forward s (t .at) 0 (value uint64) (omega (arith, a, there)) in
+        let here : m .at ≡ stepAt s (t .at) 0 (value uint64) .at = ap (λ (n : spec.Moved). n .at) f in
+        let says : stepAt s (t .at) 0 (value uint64) .said ≡ spec.Number v = ap (λ (n : spec.Moved). n .said) (sym f) ∙ ap pull.saidTold q in
+        let c = takes-fewest s (t .at) 0 (value uint64) (λ k p r. let z : _≡_ {A = ℕ} 0 1 = cc in absurd (omega arith)) in
+        omega (arith, a, b, c, there, here)
+
+    pub pulled-turn : {v : ℕ} → m .said ≡ said.Number v → Pulled s (m .at) (bitXor acc v)
+    unfolding saidOn
+    pulled-turn {v} q = go (x .left) (x .few) (x .same)
+      where
+        p : (at < m .at) × (m .at ≤ length s)
+        p = field-placed q
+
+        go : (k : ℕ) → length s ≤ at + k → pulled s ≡ pulls k acc at s → Pulled s (m .at) (bitXor acc v)
+        go zero h r = absurd (omega (arith, p))
+        go (suc k) h r = record { left = k; few = omega (arith, p); inside = p .1; same = r ∙ turn-value k ∙ rw q refl }

@@ -6,6 +6,8 @@ use lib.Dec.{leb}
 use lib.ListN.{length, drop}
 use Rattle.spec.specs.Base.{if_then_else_, Read, Took, No}
 use Rattle.spec.specs.Varint.{varint64, encode}
+use Rattle.spec.specs.Kind.{uint64}
+use Rattle.spec.specs.Pull.{Said, Number, Content, End, Refused, rawTag, value, stepAt}
 use Rattle.wire.specs.Answers.{stored}
 
 -- `acc`, or what comes of a value and the bytes it took
@@ -20,6 +22,25 @@ xors (suc k) acc s = xorOn acc (varint64 s) (λ a n. xors k a (drop n s))
 
 unfoldable pub varints : List ℕ → ℕ
 varints s = xors (length s) 0 s
+
+-- `acc`, or what comes of the number that a step said
+unfoldable pub saidOn : ℕ → Said → (ℕ → ℕ) → ℕ
+saidOn acc (Number v) next = next v
+saidOn acc (Content a z) next = acc
+saidOn acc End next = acc
+saidOn acc (Refused k p) next = acc
+
+-- the exclusive or of `acc` and the values of all fields from a position on, each a raw tag and a uint64, up to the end or the first refusal; k is no less than the
+-- number of bytes left
+unfoldable pub pulls : ℕ → (acc at : ℕ) → List ℕ → ℕ
+pulls zero acc at s = acc
+pulls (suc k) acc at s =
+    let t = stepAt s at 0 rawTag in
+    let m = stepAt s (t .at) 0 (value uint64) in
+    saidOn acc (t .said) (λ tag. saidOn acc (m .said) (λ v. pulls k (bitXor acc v) (m .at) s))
+
+unfoldable pub pulled : List ℕ → ℕ
+pulled s = pulls (length s) 0 0 s
 
 -- The shortest varints of values from a position on, one behind the other: the position behind the last, and the slice then. Where one has no
 -- room the position is 0, and those before it are stored.

@@ -1,6 +1,7 @@
-// Loops over the varint leaves, exported for C: what bench/ counts of them.
+// Loops over the varint leaves and the pull steps, exported for C: what bench/ counts of them.
 ghost use mathlib.Core.Path.{_≡_};
-ghost use Rattle.perf.specs.Loops.{varints, puts};
+ghost use Rattle.perf.specs.Loops.{varints, puts, pulled};
+use pull::step::Said;
 use wire::found::Found;
 use wire::put::Put;
 
@@ -46,4 +47,30 @@ pub extern "C" fn perf_put_varints(values: &[u64], out: &mut [u8]) -> usize
         i += 1;
     }
     at
+}
+
+// The exclusive or of all values of a message whose fields are varints, up to the end or the first refusal: a raw tag and a uint64 a turn.
+#[no_mangle]
+pub extern "C" fn perf_pull(s: &[u8]) -> u64
+    ensures { λ r. ⌜ r ≡ pulled (now (s .entry)) ⌝ }
+{
+    let mut at: usize = 0;
+    let mut acc: u64 = 0;
+    while at < s.len() {
+        let t = pull::step::tag_at(s, at);
+        let from = t.at;
+        let tag = t.said;
+        let Said::Number(_) = tag else {
+            return acc;
+        };
+        let f = pull::step::uint64_at(s, from);
+        let next = f.at;
+        let value = f.said;
+        let Said::Number(v) = value else {
+            return acc;
+        };
+        acc = acc ^ v;
+        at = next;
+    }
+    acc
 }

@@ -8,10 +8,11 @@ ghost use Rattle.pull.specs.Told.{told, asked, numberOf, contentOf, refu
 use crate::value::Span;
 use crate::value::bool_found;
 use crate::value::int32_found;
+use crate::value::narrow_found;
 use crate::value::sfixed32_found;
 use crate::value::sint_found;
 use crate::value::span_at;
-use crate::value::varint_found;
+use crate::wide::wide_found;
 use skip::unknown_or_group::skip_field_for_tag;
 use utf8::is_utf8;
 use wire::fixed::decode_fixed32;
@@ -103,7 +104,7 @@ pub fn tag_at(s: &[u8], at: usize) -> Moved
             at,
         };
     }
-    number_of(varint_found(s, at, true), at)
+    number_of(narrow_found(s, at), at)
 }
 
 pub fn int32_at(s: &[u8], at: usize) -> Moved
@@ -115,14 +116,14 @@ pub fn int32_at(s: &[u8], at: usize) -> Moved
 pub fn uint32_at(s: &[u8], at: usize) -> Moved
     ensures { λ r. ⌜ told r ≡ stepAt (now (s .entry)) at 0 (value kind.uint32) ⌝ }
 {
-    number_of(varint_found(s, at, true), at)
+    number_of(narrow_found(s, at), at)
 }
 
 // An int64 too: a value is its pattern.
 pub fn uint64_at(s: &[u8], at: usize) -> Moved
     ensures { λ r. ⌜ told r ≡ stepAt (now (s .entry)) at 0 (value kind.uint64) ⌝ }
 {
-    number_of(varint_found(s, at, false), at)
+    number_of(wide_found(s, at), at)
 }
 
 pub fn bool_at(s: &[u8], at: usize) -> Moved

@@ -1,68 +1,29 @@
 // What stands at a position of a slice: a value that is one number, or a content behind its length.
 ghost use mathlib.Core.Path.{_≡_};
-ghost use Prim.Native.Nat.{_+_, _≤_};
-ghost use mathlib.Core.Bool.{true};
-ghost use lib.ListN.{length, getD, drop};
+ghost use lib.ListN.{drop};
 ghost use Rattle.spec.specs.Base.{meaning};
 ghost use Rattle.spec.specs.Varint as spec;
+ghost use Rattle.spec.specs.Varint.{varint32};
 ghost use Rattle.spec.specs.Kind.{scalar, int32, bool, sfixed32};
 ghost use Rattle.spec.specs.Skip.{content};
 ghost use Rattle.wire.specs.Answers.{told};
 ghost use Rattle.wire.specs.Reached.{varintOf};
 ghost use Rattle.pull.specs.Told.{spanAt};
-use crate::wide::of_ten;
+use crate::bytes::by_bytes;
+use crate::wide::wide_found;
 use wire::fixed::decode_fixed32;
 use wire::fixed::extend32;
 use wire::found::Found;
-use wire::varint::decode::decode_varint32;
-use wire::varint::decode::decode_varint64;
 use wire::zigzag::unzigzag;
 
 // ---- numbers
 
-fn rare_found(s: &[u8], at: usize, narrow: bool) -> Found
-    ensures { λ r. ⌜ told at r ≡ varintOf narrow (drop at (now (s .entry))) ⌝ }
-{
-    if narrow {
-        return decode_varint32(s, at);
-    }
-    decode_varint64(s, at)
-}
-
-// Whether ten bytes are there, and the first has another behind it.
-fn is_long(s: &[u8], at: usize) -> bool
-    ensures { λ r. ⌜ (r ≡ true → (at + 10 ≤ length (now (s .entry))) × (128 ≤ getD (now (s .entry)) at 0)) ⌝ }
-{
-    if s.len() < 10 {
-        return false;
-    }
-    if s.len() - 10 < at {
-        return false;
-    }
-    128 <= s[at]
-}
-
-// The general answer is taken apart, so that the own one need not be in memory.
-fn long_found(s: &[u8], at: usize, narrow: bool) -> Found
-    ensures { λ r. ⌜ told at r ≡ varintOf narrow (drop at (now (s .entry))) ⌝ }
-{
-    if !narrow {
-        if is_long(s, at) {
-            return of_ten(s, at);
-        }
-    }
-    match rare_found(s, at, narrow) {
-        Found::Value { value, next } => Found::Value { value, next },
-        Found::Refused(k) => Found::Refused(k),
-    }
-}
-
-// A varint of either width. Those of one or two bytes are read in place, as most are, and the others by a call.
-pub(crate) fn varint_found(s: &[u8], at: usize, narrow: bool) -> Found
-    ensures { λ r. ⌜ told at r ≡ varintOf narrow (drop at (now (s .entry))) ⌝ }
+// A varint32, as a tag is. Those of one or two bytes are read in place, as most are, and the others a byte at a time.
+pub(crate) fn narrow_found(s: &[u8], at: usize) -> Found
+    ensures { λ r. ⌜ told at r ≡ varint32 (drop at (now (s .entry))) ⌝ }
 {
     if s.len() <= at {
-        return long_found(s, at, narrow);
+        return Found::Refused(1);
     }
     let c = s[at] as u64;
     if c < 128 {
@@ -77,14 +38,24 @@ pub(crate) fn varint_found(s: &[u8], at: usize, narrow: bool) -> Found
             return Found::Value { value: v, next };
         }
     }
-    long_found(s, at, narrow)
+    by_bytes(s, at, 4, 15)
+}
+
+// A varint of either width, for what is read at both.
+fn varint_found(s: &[u8], at: usize, narrow: bool) -> Found
+    ensures { λ r. ⌜ told at r ≡ varintOf narrow (drop at (now (s .entry))) ⌝ }
+{
+    if narrow {
+        return narrow_found(s, at);
+    }
+    wide_found(s, at)
 }
 
 // An int32: a varint64 whose signed number has 32 bits.
 pub(crate) fn int32_found(s: &[u8], at: usize) -> Found
     ensures { λ r. ⌜ told at r ≡ scalar int32 (drop at (now (s .entry))) ⌝ }
 {
-    match varint_found(s, at, false) {
+    match wide_found(s, at) {
         Found::Value { value, next } => {
             if value < 0x8000_0000 {
                 return Found::Value { value, next };
@@ -101,7 +72,7 @@ pub(crate) fn int32_found(s: &[u8], at: usize) -> Found
 pub(crate) fn bool_found(s: &[u8], at: usize) -> Found
     ensures { λ r. ⌜ told at r ≡ scalar bool (drop at (now (s .entry))) ⌝ }
 {
-    match varint_found(s, at, false) {
+    match wide_found(s, at) {
         Found::Value { value, next } => {
             if value == 0 {
                 return Found::Value { value: 0, next };

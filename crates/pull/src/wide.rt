@@ -1,14 +1,57 @@
-// A varint64 of two or more bytes. `wire` has the same steps for both widths; this copy is the reader's own, as the compiler makes a function with one caller a part of it.
+// A varint64. `wire` has the same steps for both widths; this copy is the reader's own, as the compiler makes a function with one caller a part of it.
 ghost use mathlib.Core.Path.{_≡_};
-ghost use Prim.Native.Nat.{_+_, _≤_};
+ghost use Prim.Native.Nat.{_+_, _≤_, _<_};
 ghost use lib.ListN.{length, getD, drop};
 ghost use Rattle.spec.specs.Varint.{varint64};
 ghost use Rattle.wire.specs.Answers.{told};
 ghost use Rattle.wire.specs.Reached.{Reached};
+use crate::bytes::by_bytes;
 use wire::found::Found;
 
+// Those of one to three bytes are read in place, as most are, and the others by a call. It is just small enough that the compiler puts it in place wherever it is called:
+// for the second and the third byte it asks at once whether they are there.
+pub(crate) fn wide_found(s: &[u8], at: usize) -> Found
+    ensures { λ r. ⌜ told at r ≡ varint64 (drop at (now (s .entry))) ⌝ }
+{
+    if s.len() <= at {
+        return Found::Refused(1);
+    }
+    let c = s[at] as u64;
+    if c < 128 {
+        let next = at + 1;
+        return Found::Value { value: c, next };
+    }
+    if s.len() - at < 3 {
+        return wide_long(s, at);
+    }
+    let d = s[at + 1] as u64;
+    let v2 = c % 128 + d % 128 * 128;
+    if d < 128 {
+        let next = at + 2;
+        return Found::Value { value: v2, next };
+    }
+    let e = s[at + 2] as u64;
+    if e < 128 {
+        let v3 = v2 + e % 128 * 0x4000;
+        let next = at + 3;
+        return Found::Value { value: v3, next };
+    }
+    wide_long(s, at)
+}
+
+// Two or more bytes. Called at two places, and so stays a call where `wide_found` is used more than once.
+fn wide_long(s: &[u8], at: usize) -> Found
+    requires { ⌜ (at < length (now s)) × (128 ≤ getD (now s) at 0) ⌝ }
+    ensures { λ r. ⌜ told at r ≡ varint64 (drop at (now (s .entry))) ⌝ }
+{
+    if 10 <= s.len() - at {
+        return of_ten(s, at);
+    }
+    by_bytes(s, at, 9, 1)
+}
+
 // A varint of two or more bytes, where ten bytes are there: with no call, so that a long value costs a reader little more than its bytes.
-pub(crate) fn of_ten(s: &[u8], at: usize) -> Found
+fn of_ten(s: &[u8], at: usize) -> Found
     requires { ⌜ (at + 10 ≤ length (now s)) × (128 ≤ getD (now s) at 0) ⌝ }
     ensures { λ r. ⌜ told at r ≡ varint64 (drop at (now (s .entry))) ⌝ }
 {

@@ -17,7 +17,7 @@ returns-2 c =
     let d = c .before in
     let a = d .before .before .before .args in
     ap told (c .number-of .ensures)
-    ∙ number-told (a .at) (d .varint-found .result) (takes-varint 4 15 (drop (a .at) (a .s .now))) (d .varint-found .ensures)
+    ∙ number-told (a .at) (d .narrow-found .result) (takes-varint 4 15 (drop (a .at) (a .s .now))) (d .narrow-found .ensures)
     ∙ sym (raw-tag (a .s .now) (a .at) 0 (d .before .if1 .left))
 
 pub tag-at-spec : {M : Type 1} → statement M

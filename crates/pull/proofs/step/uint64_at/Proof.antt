@@ -15,7 +15,7 @@ unfolding stepAt scalar
 returns c =
     let d = c .before in
     let a = d .before .before .args in
-    ap told (c .number-of .ensures) ∙ number-told (a .at) (d .varint-found .result) (takes-scalar uint64 (drop (a .at) (a .s .now))) (d .varint-found .ensures)
+    ap told (c .number-of .ensures) ∙ number-told (a .at) (d .wide-found .result) (takes-scalar uint64 (drop (a .at) (a .s .now))) (d .wide-found .ensures)
 
 pub uint64-at-spec : {M : Type 1} → statement M
 uint64-at-spec = tie.close (tie.spec (λ c κs. search needs) (λ c κs. search needs) returns)

@@ -1,28 +1,13 @@
--- `pull::value::varint_found` meets its contract: one byte after the other. Assumes nothing.
-use Prim.Native.Nat.{_+_}
-use native.Mathlib.Omega.{arith}
-use mathlib.Core.Path.{refl}
-use Rattle.pull.proofs.StepLaws.{one-told, two-told}
+-- `pull::value::varint_found` meets its contract: the width by the flag. Assumes nothing.
 use borrow.Author.Needs.{needs}
 use Rattle.pull.proofs.value.varint_found.Statement.{statement}
 use Rattle.pull.proofs.value.varint_found.Tie as tie
 
-cast-c : tie.Need-cast-c
-cast-c c = omega (arith, c .shared-slice-known2 .given (c .before .before .before .args .at))
+returns : tie.Need-returns
+returns c = rw (c .before .if1 .taken) (c .narrow-found .ensures)
 
 returns-2 : tie.Need-returns-2
-returns-2 c =
-    let a = c .before .before .before .before .args in
-    one-told (a .narrow) (a .at) (a .s .now) (c .before .before .if1 .left) (c .if2 .taken)
-
-cast-d : tie.Need-cast-d
-cast-d c = omega (arith, c .shared-slice-known3 .given (c .before .before .before .before .before .before .args .at + 1))
-
-returns-3 : tie.Need-returns-3
-returns-3 c =
-    let a = c .before .before .before .before .before .before .before .args in
-    let e = c .before .before .before in
-    two-told (a .narrow) (a .at) (a .s .now) (e .before .before .if1 .left) (e .if2 .left) (omega arith) (c .if4 .taken) refl
+returns-2 c = rw (c .before .if1 .left) (c .wide-found .ensures)
 
 pub varint-found-spec : {M : Type 1} → statement M
-varint-found-spec = tie.close (tie.spec (λ c κs. search needs) (λ c. search needs) (λ c. search needs) cast-c (λ c. search needs) returns-2 (λ c. search needs) (λ c. search needs) (λ c. search needs) cast-d (λ c. search needs) (λ c. search needs) (λ c. search needs) returns-3 (λ c κs. search needs) (λ c. search needs))
+varint-found-spec = tie.close (tie.spec (λ c κs. search needs) returns (λ c κs. search needs) returns-2)
