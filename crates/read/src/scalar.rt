@@ -81,7 +81,7 @@ pub enum Meant {
     Other,
 }
 
-// The first test is for the most frequent kinds.
+// Ranges first, the most frequent kinds before the others: the compiler asks them once, before a loop over one kind, but an arm of the match for each element.
 pub(crate) fn meaning_of(kind: u64, v: u64) -> Meant
     ensures { λ r. ⌜ r ≡ meantBy (shape kind) v ⌝ }
 {
@@ -90,10 +90,19 @@ pub(crate) fn meaning_of(kind: u64, v: u64) -> Meant
             return Meant::Is(v);
         }
     }
+    if 16 < kind {
+        if kind < 19 {
+            return Meant::Is(unzigzag(v));
+        }
+    }
+    if 12 < kind {
+        if kind < 15 {
+            return Meant::Is(v);
+        }
+    }
     match kind {
         8 => Meant::Is(if v == 0 { 0 } else { 1 }),
-        13 | 14 | 21 => Meant::Is(v),
-        17 | 18 => Meant::Is(unzigzag(v)),
+        21 => Meant::Is(v),
         _ => Meant::Other,
     }
 }

@@ -14,50 +14,44 @@ returns : tie.Need-returns
 returns c = let a = c .before .before .args in meant-first (a .kind) (a .v) (omega arith) (omega arith)
 
 returns-2 : tie.Need-returns-2
-unfolding shape shapes meantBy meantAs
-returns-2 c = rw (c .before .match .keys1, c .if3 .taken)
+returns-2 c =
+    let a = c .before .before .before .before .args in
+    ap Is (c .unzigzag .ensures) ∙ meant-17-18 (a .kind) (a .v) (omega arith) (λ e. omega arith) (λ e. omega arith) (omega arith) (omega arith)
 
 returns-3 : tie.Need-returns-3
-unfolding shape shapes meantBy meantAs
-returns-3 c = rw (c .before .match .keys1) (ap Is (omega (arith, c .if3 .left)))
+returns-3 c =
+    let a = c .before .before .before .before .args in
+    meant-13-14 (a .kind) (a .v) (omega arith) (λ e. omega arith) (λ e. omega arith) (omega arith) (omega arith)
 
 returns-4 : tie.Need-returns-4
-returns-4 c =
-    let m = c .before .before .before .before .before in
-    let a = m .before .before .args in
-    ap Is (c .unzigzag .ensures) ∙ meant-17-18 (a .kind) (a .v) (omega arith) (m .match .rest .0 .1) (m .match .rest .1) (omega arith) (omega arith)
+unfolding shape shapes meantBy meantAs
+returns-4 c = rw (c .before .match .keys1, c .if7 .taken)
 
--- below 3, or from 6 on
 returns-5 : tie.Need-returns-5
-returns-5 c =
-    let m = c .before in
-    let a = m .before .before .args in
-    ⊎-elim
-    (λ w. meant-low (a .kind) (a .v) (w .1 .left) (m .match .rest .0 .1) (m .match .rest .1) (omega arith))
-    (λ w. meant-zero (a .kind) (a .v) (omega (arith, w .left)))
-    (m .before .if1 .came)
+unfolding shape shapes meantBy meantAs
+returns-5 c = rw (c .before .match .keys1) (ap Is (omega (arith, c .if7 .left)))
 
 returns-6 : tie.Need-returns-6
-returns-6 c =
-    let m = c .before .before .before in
-    let a = m .before .before .args in
-    meant-15-16 (a .kind) (a .v) (omega arith) (m .match .rest .0 .1) (m .match .rest .1) (omega arith) (omega arith)
+unfolding shape shapes meantBy meantAs
+returns-6 c = rw (c .match .keys2)
 
+-- from 19 on; 15 and 16; from 6 to 12; below 3
 returns-7 : tie.Need-returns-7
 returns-7 c =
-    let m = c .before .before .before .before in
-    let a = m .before .before .args in
-    meant-high (a .kind) (a .v) (omega arith) (m .match .rest .0 .1) (m .match .rest .1) (omega arith)
-
-returns-8 : tie.Need-returns-8
-unfolding shape shapes meantBy meantAs
-returns-8 c = rw (c .match .keys2)
-
-returns-9 : tie.Need-returns-9
-returns-9 c =
-    let m = c .before .before in
-    let a = m .before .before .args in
-    meant-13-14 (a .kind) (a .v) (omega arith) (m .match .rest .0 .1) (m .match .rest .1) (omega arith) (omega arith)
+    let m = c .before in
+    let a = m .before .before .before .args in
+    ⊎-elim
+    (λ u.
+    ⊎-elim
+    (λ w. meant-high (a .kind) (a .v) (omega (arith, w .1 .left)) (c .match .rest .0 .1) (c .match .rest .1) (w .1 .left))
+    (λ w. meant-15-16 (a .kind) (a .v) (omega (arith, u .1 .left)) (c .match .rest .0 .1) (c .match .rest .1) (u .1 .left) (omega (arith, w .left)))
+    (m .before .if3 .came))
+    (λ u.
+    ⊎-elim
+    (λ w. meant-low (a .kind) (a .v) (w .1 .left) (c .match .rest .0 .1) (c .match .rest .1) (omega (arith, u .left)))
+    (λ w. meant-zero (a .kind) (a .v) (omega (arith, w .left)))
+    (m .before .before .if1 .came))
+    (m .if5 .came)
 
 pub meaning-of-spec : {M : Type 1} → statement M
 meaning-of-spec =
@@ -70,6 +64,4 @@ meaning-of-spec =
     returns-4
     returns-5
     returns-6
-    returns-7
-    returns-8
-    returns-9)
+    returns-7)
