@@ -212,17 +212,17 @@ def gen(crate, fn, c):
     emit = lines.append
     load = lambda k: f'(load ! (from ! (stop !)) (look ! {k} refl))'
     t = Ctx(cells + order)
-    zeros = f'(replicate {N} 0)'
-    zeroval = f'(arrayVal (replicate {N} (vint w32 0)))'
-    t.put('owned ! u32 (Is u32) (uint-makes 𝓤 H A W w32) 0 (vint w32 0 ∷ []) (refl, lit< tt)', 0, 'zero')
-    t.put(f'use1 W (‵ (Arr .own {zeros} ({zeroval} ∷ []))) (array-repeat 𝓤 H A W u32 (uint-copy 𝓤 H A W w32) {N} 0 (vint w32 0))', 1, 'own-arr')
-    emit('-- the array is cleared')
-    emit(t.text() + f" $ peeks ! Arr (Is Arr) (shows 𝓤 H A Arr) {zeros} ({zeroval} ∷ []) (λ is.")
-    emit(f"assigns ! (rep ! {N} (lit ! tt)) (from ! (stop !)) (init ! {t.at('arr')} refl (array-lawful 𝓤 H A W u32 (uint-lawful 𝓤 H A W w32) {N} .typed {zeros} _ is .0)) $")
+    ones = f'(replicate {N} 1)'
+    oneval = f'(arrayVal (replicate {N} (vint w32 1)))'
+    t.put('owned ! u32 (Is u32) (uint-makes 𝓤 H A W w32) 1 (vint w32 1 ∷ []) (refl, lit< tt)', 0, 'one')
+    t.put(f'use1 W (‵ (Arr .own {ones} ({oneval} ∷ []))) (array-repeat 𝓤 H A W u32 (uint-copy 𝓤 H A W w32) {N} 1 (vint w32 1))', 1, 'own-arr')
+    emit('-- the array is filled')
+    emit(t.text() + f" $ peeks ! Arr (Is Arr) (shows 𝓤 H A Arr) {ones} ({oneval} ∷ []) (λ is.")
+    emit(f"assigns ! (rep ! {N} (lit ! tt)) (from ! (stop !)) (init ! {t.at('arr')} refl (array-lawful 𝓤 H A W u32 (uint-lawful 𝓤 H A W w32) {N} .typed {ones} _ is .0)) $")
     emit(f"assigns ! (addr ! (from ! (stop !))) (from ! (stop !)) (init ! {t.at('arr-mut')} refl (tt, tt)) $")
     t.front('arr', 'own-arr')
-    t.put(f"use2 W (‵ (partAt Arr fullShare {zeros} {b_} 0)) (part-in 𝓤 H A W u32 {N} {zeros} {b_} 0 {zeroval})", 2, 'mem')
-    emit(t.text() + f' $ copies {zeros} (is .1 .0 .1){")" * 1}')
+    t.put(f"use2 W (‵ (partAt Arr fullShare {ones} {b_} 0)) (part-in 𝓤 H A W u32 {N} {ones} {b_} 0 {oneval})", 2, 'mem')
+    emit(t.text() + f' $ copies {ones} (is .1 .0 .1){")" * 1}')
     start_arr = '\n        '.join(lines)
     ctx0 = list(t.c)
     lines.clear()

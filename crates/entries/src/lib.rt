@@ -113,7 +113,8 @@ pub fn read(types: u32, entries: &[Entry], s: &[u8], room: &mut [u64]) -> Answer
         × (r .count ≡ length (listed (reading (record { types = types; entries = now (entries .entry) }) (length (now (room .entry)) / stride) (now (s .entry)))))
         × (now (room .exit) ≡ roomAfter (reading (record { types = types; entries = now (entries .entry) }) (length (now (room .entry)) / stride) (now (s .entry))) (now (room .entry))) ⌝ }
 {
-    let mut numbers: [u32; 1280] = [0; 1280];
+    // ones, which are stored in a loop: zeros would be a call, and cost more than all the rest of a short message
+    let mut numbers: [u32; 1280] = [1; 1280];
     let count = copy(entries, &mut numbers);
     read_copied(types, count, &numbers, s, room)
 }
@@ -131,7 +132,7 @@ fn check_copied(types: u32, count: usize, numbers: &[u32], list: &[u64], payload
 pub fn check(types: u32, entries: &[Entry], list: &[u64], payload: &[u8]) -> Verdict
     ensures { λ r. ⌜ verdict r ≡ listCheck (record { types = types; entries = now (entries .entry) }) (now (payload .entry)) (recordsOf (now (list .entry))) ⌝ }
 {
-    let mut numbers: [u32; 1280] = [0; 1280];
+    let mut numbers: [u32; 1280] = [1; 1280];
     let count = copy(entries, &mut numbers);
     check_copied(types, count, &numbers, list, payload)
 }
@@ -155,7 +156,7 @@ fn size_copied(
 pub fn size(types: u32, entries: &[Entry], list: &[u64], payload: &[u8]) -> write::Answer
     ensures { λ r. ⌜ r ≡ answer (sizing (record { types = types; entries = now (entries .entry) }) (now (payload .entry)) (recordsOf (now (list .entry)))) ⌝ }
 {
-    let mut numbers: [u32; 1280] = [0; 1280];
+    let mut numbers: [u32; 1280] = [1; 1280];
     let count = copy(entries, &mut numbers);
     size_copied(types, count, &numbers, list, payload)
 }
@@ -188,7 +189,7 @@ pub fn write(
     ensures { λ r. ⌜ (r ≡ answer (writing (record { types = types; entries = now (entries .entry) }) (length (now (out .entry))) (now (payload .entry)) (recordsOf (now (list .entry)))))
         × (now (out .exit) ≡ output (writing (record { types = types; entries = now (entries .entry) }) (length (now (out .entry))) (now (payload .entry)) (recordsOf (now (list .entry)))) (now (out .entry))) ⌝ }
 {
-    let mut numbers: [u32; 1280] = [0; 1280];
+    let mut numbers: [u32; 1280] = [1; 1280];
     let count = copy(entries, &mut numbers);
     write_copied(types, count, &numbers, list, payload, out)
 }

@@ -210,11 +210,11 @@ module _ {M : Type 1} (𝓤 : URA M) (H : Heap 𝓤) (A : Atoms 𝓤) (W : Given
 
     begins : Sq W (‵ (froom (sliceTy (tyRef erased imm (tyInt w32))) l₉ 0) ∷ ‵ (fdies (sliceTy (tyRef erased imm (tyInt w32))) l₉) ∷ ‵ (froom (tyRef erased imm (tyArray (tyInt w32) 1280)) l₈ 0) ∷ ‵ (fdies (tyRef erased imm (tyArray (tyInt w32) 1280)) l₈) ∷ ‵ (froom (tyRef erased mut (tyArray (tyInt w32) 1280)) l₇ 0) ∷ ‵ (fdies (tyRef erased mut (tyArray (tyInt w32) 1280)) l₇) ∷ ‵ (froom (tyInt w64) l₆ 0) ∷ ‵ (fdies (tyInt w64) l₆) ∷ ‵ (froom (tyArray (tyInt w32) 1280) l₅ 0) ∷ ‵ (fdies (tyArray (tyInt w32) 1280) l₅) ∷ ‵ (fat fullShare (sliceTy (tyRef (named 2) imm (tyInt w8))) l₄ 0 v-payload) ∷ ‵ (fdies (sliceTy (tyRef (named 2) imm (tyInt w8))) l₄) ∷ ‵ (fat fullShare (sliceTy (tyRef (named 1) imm (tyInt w64))) l₃ 0 v-list) ∷ ‵ (fdies (sliceTy (tyRef (named 1) imm (tyInt w64))) l₃) ∷ ‵ (fat fullShare (sliceTy (tyRef (named 0) imm (pointee (T.the-row .written)))) l₂ 0 v-es) ∷ ‵ (fdies (sliceTy (tyRef (named 0) imm (pointee (T.the-row .written)))) l₂) ∷ ‵ (fat fullShare (tyInt w32) l₁ 0 (vint w32 types)) ∷ ‵ (fdies (tyInt w32) l₁) ∷ ‵ (froom R′.mir l₀ 0) ∷ ‵ (fdies R′.mir l₀) ∷ ‵ (flft κ₀ q₀) ∷ toks ∷ ‵ Es ∷ ‵ Own-list ∷ ‵ Own-payload ∷ []) (runs C Λ En body.t-1 (atRet En Post))
     begins =
-        -- the array is cleared
-        owned ! u32 (Is u32) (uint-makes 𝓤 H A W w32) 0 (vint w32 0 ∷ []) (refl, lit< tt) $ use1 W (‵ (Arr .own (replicate 1280 0) ((arrayVal (replicate 1280 (vint w32 0))) ∷ []))) (array-repeat 𝓤 H A W u32 (uint-copy 𝓤 H A W w32) 1280 0 (vint w32 0)) $ peeks ! Arr (Is Arr) (shows 𝓤 H A Arr) (replicate 1280 0) ((arrayVal (replicate 1280 (vint w32 0))) ∷ []) (λ is.
-        assigns ! (rep ! 1280 (lit ! tt)) (from ! (stop !)) (init ! 9 refl (array-lawful 𝓤 H A W u32 (uint-lawful 𝓤 H A W w32) 1280 .typed (replicate 1280 0) _ is .0)) $
+        -- the array is filled
+        owned ! u32 (Is u32) (uint-makes 𝓤 H A W w32) 1 (vint w32 1 ∷ []) (refl, lit< tt) $ use1 W (‵ (Arr .own (replicate 1280 1) ((arrayVal (replicate 1280 (vint w32 1))) ∷ []))) (array-repeat 𝓤 H A W u32 (uint-copy 𝓤 H A W w32) 1280 1 (vint w32 1)) $ peeks ! Arr (Is Arr) (shows 𝓤 H A Arr) (replicate 1280 1) ((arrayVal (replicate 1280 (vint w32 1))) ∷ []) (λ is.
+        assigns ! (rep ! 1280 (lit ! tt)) (from ! (stop !)) (init ! 9 refl (array-lawful 𝓤 H A W u32 (uint-lawful 𝓤 H A W w32) 1280 .typed (replicate 1280 1) _ is .0)) $
         assigns ! (addr ! (from ! (stop !))) (from ! (stop !)) (init ! 5 refl (tt, tt)) $
-        move ! (9 ∷ 0 ∷ []) $ use2 W (‵ (partAt Arr fullShare (replicate 1280 0) l₅ 0)) (part-in 𝓤 H A W u32 1280 (replicate 1280 0) l₅ 0 (arrayVal (replicate 1280 (vint w32 0)))) $ copies (replicate 1280 0) (is .1 .0 .1))
+        move ! (9 ∷ 0 ∷ []) $ use2 W (‵ (partAt Arr fullShare (replicate 1280 1) l₅ 0)) (part-in 𝓤 H A W u32 1280 (replicate 1280 1) l₅ 0 (arrayVal (replicate 1280 (vint w32 1)))) $ copies (replicate 1280 1) (is .1 .0 .1))
 
   walk : (C : Calls 𝓤 H) (Λ : Loops 𝓤 H) → FmC 𝓤 H (W .laws) C → Triple 𝓤 (C #entries·copy) (Copy 𝓤 H A mem run) → Triple 𝓤 (C #entries·size-copied) (Core 𝓤 H A mem run)
       → ent 𝓤 (onEntry 𝓤 H A fn.signature κs (q₀, (q₁, (q₂, tt))) (types, (es, (list, (payload, tt)))) vals) (WpFn 𝓤 H C Λ code.function (vint w32 types ∷ v-es ∷ v-list ∷ v-payload ∷ []) Post)
