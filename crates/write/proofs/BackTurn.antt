@@ -13,7 +13,7 @@ use Rattle.spec.specs.Writing.{body, tagOf}
 use Rattle.spec.proofs.VarintLaws.{lower-or-not}
 use Rattle.spec.proofs.WritingLaws.{bytesIn}
 use Rattle.write.specs.Backward.{Stored, Room, depthAt, kindAt, at, span, start, lead, isHead, Here, leadOf, runBytes, Run, Inner, isPacked, Ran}
-use Rattle.write.proofs.StoreLaws.{stored-then, stored-as, stored-at, stored-none, stored-length, room-as}
+use Rattle.write.proofs.StoreLaws.{stored-then, stored-as, stored-at, stored-none, room-as}
 use Rattle.write.proofs.SpanLaws.{bytes-none, bytes-at, bytes-from, start-le, start-over, start-low, start-same, start-here}
 use Rattle.write.proofs.CheckedLaws.{next-depth, leaf-next, deep-at}
 use Rattle.write.proofs.BodyLaws.{body-lead}
@@ -45,7 +45,7 @@ module _ {table list payload out : List ℕ} {d upto pos : ℕ} (r : Run true ta
     high = omega arith;
     same = refl;
     first = λ h. absurd (omega arith);
-    stored = stored-as (sym (bytes-none list true payload (upto / 6) (upto / 6) (omega arith))) (stored-none pos out (r .room .inside));
+    stored = stored-as (sym (bytes-none list true payload (upto / 6) (upto / 6) (omega arith))) (stored-none pos out);
   }
 
   module _ {b p : ℕ} {now : List ℕ} (h : Back list payload out d upto pos b p now) where
@@ -164,7 +164,7 @@ module _ {table list payload out now : List ℕ} {d upto pos b p : ℕ} (w : Tur
       omega (arith, shorter, r .room .few, ap length whole, length-append own (inner ++ rest), length-append inner rest)
 
   inside : p ≤ length now
-  inside = omega (arith, h .stored .starts, r .room .inside, stored-length (h .stored) (r .room .inside))
+  inside = omega (arith, h .stored .starts, r .room .inside, h .stored .long)
 
   -- where the record before b is deeper, it is in that run
   module _ (more-deep : d < getD list (b - 6) 0) where
@@ -197,7 +197,7 @@ module _ {table list payload out now : List ℕ} {d upto pos b p : ℕ} (w : Tur
       let here : m ≡ b / 6 = start-here list (d + 1) (b / 6) (omega (arith, placed .1)) (omega (arith, depth-here)) in
       record {
         begins = omega (arith, h .six);
-        stored = stored-as (sym (bytes-none list (not (isPacked list (d + 1) b)) payload m (b / 6) (omega arith))) (stored-none p now inside);
+        stored = stored-as (sym (bytes-none list (not (isPacked list (d + 1) b)) payload m (b / 6) (omega arith))) (stored-none p now);
       }
 
   -- the head in front of that run
@@ -226,7 +226,7 @@ module _ {table list payload out now : List ℕ} {d upto pos b p : ℕ} (w : Tur
     pub room : Room (tagOf true (at list ((c - 6) / 6)) ++ leadOf list payload (c - 6) (p - q)) q next
     room = room-as (sym own-is) (record {
       few = omega (arith, few, h .stored .starts, x .stored .starts);
-      inside = omega (arith, x .stored .starts, inside, stored-length (x .stored) inside);
+      inside = omega (arith, x .stored .starts, inside, x .stored .long);
     })
 
     pub again : {z : ℕ} {then : List ℕ} → Stored (tagOf true (at list ((c - 6) / 6)) ++ leadOf list payload (c - 6) (p - q)) q next z then
@@ -238,7 +238,7 @@ module _ {table list payload out now : List ℕ} {d upto pos b p : ℕ} (w : Tur
       first = λ l. omega (arith, head-depth, ap (depthAt list) place);
       stored =
           stored-as (whole ∙ ap (λ (j : ℕ). bytesIn true payload (span list j (upto / 6))) (sym place))
-          (stored-then (stored-then (h .stored) (x .stored) (r .room .inside)) (stored-as own-is s) (r .room .inside));
+          (stored-then (stored-then (h .stored) (x .stored)) (stored-as own-is s));
     }
 
     pub less : c - 6 < b

@@ -17,14 +17,11 @@ use Rattle.spec.proofs.RunLaws.{Passed}
 
 -- ---- bytes in the output
 
--- what an output holds when `new` was stored in it from the place q on
-unfoldable pub store : ℕ → List ℕ → List ℕ → List ℕ
-store q new out = take q out ++ new ++ drop (q + length new) out
-
--- `new` was stored so that it ends before p, and begins at q
+-- `new` was stored so that it ends before p, and begins at q: what stands from p on stays. What stands before q is still to be written, and may be anything.
 pub record Stored (new : List ℕ) (p : ℕ) (out : List ℕ) (q : ℕ) (now : List ℕ) : Type 0 where
   pub starts : q + length new ≡ p
-  pub holds : now ≡ store q new out
+  pub behind : drop q now ≡ new ++ drop p out
+  pub long : length now ≡ length out
 
 -- there is room for it before p
 pub record Room (new : List ℕ) (p : ℕ) (out : List ℕ) : Type 0 where

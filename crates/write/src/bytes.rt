@@ -111,19 +111,94 @@ fn put_plain(out: &mut [u8], p: usize, kind: u64, w: u8, v: u64) -> usize
     put_fixed32(out, p, v)
 }
 
-// A content, which lies in the payload.
-fn put_content(payload: &[u8], out: &mut [u8], p: usize, start: u64, stop: u64) -> usize
-    requires { ⌜ (start ≤ stop) × (stop ≤ length (now payload)) × Room (part start stop (now payload)) p (now out) ⌝ }
-    ensures { λ q. ⌜ Stored (part start stop (now (payload .entry))) p (now (out .entry)) q (now (out .exit)) ⌝ }
+// The eight bytes of the payload before e, before p: all are loaded before one is stored, which makes a single load and store of them.
+fn copy_eight(payload: &[u8], out: &mut [u8], p: usize, e: usize) -> usize
+    requires { ⌜ (8 ≤ e) × (e ≤ length (now payload)) × (8 ≤ p) × (p ≤ length (now out)) ⌝ }
+    ensures { λ q. ⌜ Stored (part (e - 8) e (now (payload .entry))) p (now (out .entry)) q (now (out .exit)) ⌝ }
 {
-    let a = start as usize;
-    let e = stop as usize;
+    let i = e - 8;
+    let b0 = payload[i];
+    let b1 = payload[i + 1];
+    let b2 = payload[i + 2];
+    let b3 = payload[i + 3];
+    let b4 = payload[i + 4];
+    let b5 = payload[i + 5];
+    let b6 = payload[i + 6];
+    let b7 = payload[i + 7];
+    let q = p - 8;
+    out[q] = b0;
+    out[q + 1] = b1;
+    out[q + 2] = b2;
+    out[q + 3] = b3;
+    out[q + 4] = b4;
+    out[q + 5] = b5;
+    out[q + 6] = b6;
+    out[q + 7] = b7;
+    q
+}
+
+// The same of 16 bytes, of 32 and of 64.
+fn copy_sixteen(payload: &[u8], out: &mut [u8], p: usize, e: usize) -> usize
+    requires { ⌜ (16 ≤ e) × (e ≤ length (now payload)) × (16 ≤ p) × (p ≤ length (now out)) ⌝ }
+    ensures { λ q. ⌜ Stored (part (e - 16) e (now (payload .entry))) p (now (out .entry)) q (now (out .exit)) ⌝ }
+{
+    let q = copy_eight(payload, out, p, e);
+    copy_eight(payload, out, q, e - 8)
+}
+
+fn copy_half(payload: &[u8], out: &mut [u8], p: usize, e: usize) -> usize
+    requires { ⌜ (32 ≤ e) × (e ≤ length (now payload)) × (32 ≤ p) × (p ≤ length (now out)) ⌝ }
+    ensures { λ q. ⌜ Stored (part (e - 32) e (now (payload .entry))) p (now (out .entry)) q (now (out .exit)) ⌝ }
+{
+    let q = copy_sixteen(payload, out, p, e);
+    copy_sixteen(payload, out, q, e - 16)
+}
+
+fn copy_block(payload: &[u8], out: &mut [u8], p: usize, e: usize) -> usize
+    requires { ⌜ (64 ≤ e) × (e ≤ length (now payload)) × (64 ≤ p) × (p ≤ length (now out)) ⌝ }
+    ensures { λ q. ⌜ Stored (part (e - 64) e (now (payload .entry))) p (now (out .entry)) q (now (out .exit)) ⌝ }
+{
+    let q = copy_half(payload, out, p, e);
+    copy_half(payload, out, q, e - 32)
+}
+
+// The bytes of the payload from a up to e, one by one.
+fn put_bytes(payload: &[u8], out: &mut [u8], p: usize, a: usize, e: usize) -> usize
+    requires { ⌜ (a ≤ e) × (e ≤ length (now payload)) × Room (part a e (now payload)) p (now out) ⌝ }
+    ensures { λ q. ⌜ Stored (part a e (now (payload .entry))) p (now (out .entry)) q (now (out .exit)) ⌝ }
+{
     let from = &payload[a..e];
     let q = p - from.len();
     let mut i: usize = 0;
     while i < from.len() {
         out[q + i] = from[i];
         i += 1;
+    }
+    q
+}
+
+// A content, which lies in the payload: in blocks from its end, as far as there are blocks in both. What the last block leaves before the content is overwritten by what
+// stands before it.
+fn put_content(payload: &[u8], out: &mut [u8], p: usize, start: u64, stop: u64) -> usize
+    requires { ⌜ (start ≤ stop) × (stop ≤ length (now payload)) × Room (part start stop (now payload)) p (now out) ⌝ }
+    ensures { λ q. ⌜ Stored (part start stop (now (payload .entry))) p (now (out .entry)) q (now (out .exit)) ⌝ }
+{
+    let a = start as usize;
+    let mut e = stop as usize;
+    let mut q = p;
+    while a < e {
+        if e < 64 {
+            return put_bytes(payload, out, q, a, e);
+        }
+        if q < 64 {
+            return put_bytes(payload, out, q, a, e);
+        }
+        let r = copy_block(payload, out, q, e);
+        if e - a <= 64 {
+            return q - (e - a);
+        }
+        q = r;
+        e -= 64;
     }
     q
 }

@@ -6,7 +6,6 @@ use mathlib.Core.Logic.{⊎-elim}
 use mathlib.Core.Bool.{not}
 use native.Mathlib.Omega.{arith}
 use Rattle.write.specs.Backward.{isPacked, Ran}
-use Rattle.write.proofs.StoreLaws.{stored-length}
 use Rattle.write.proofs.InnerLaws.{values, ran-values, run, ran-run}
 use Rattle.write.proofs.BackTurn.{Back, Turned, ran-at, begin, ran-all, ran-to, inner-run, inner-in, falls as level-falls, fits, none-in, below, here, room, again, less}
 use borrow.Fn.Kinds.{In}
@@ -56,9 +55,7 @@ put-inner-put-values-requires t c κs =
     values (o .pre .1 .0) (o .pre .1 .1) (c .before .before .packed-from .ensures) (c .before .if1 .taken)
 
 put-inner-same-length : (t : ℕ) → put-inner-lts.Need-same-length (put-inner-claims t) (put-inner-at t) put-inner.Post
-put-inner-same-length t c =
-    let o = c .before .before .before .before .before .before .before .before .before in
-    stored-length (c .before .before .put-values .ensures) (o .pre .1 .0 .room .inside)
+put-inner-same-length t c = c .before .before .put-values .ensures .long
 
 put-inner-returns : (t : ℕ) → put-inner-lts.Need-returns (put-inner-claims t) (put-inner-at t) put-inner.Post
 put-inner-returns t c =
@@ -71,9 +68,7 @@ put-inner-put-run-requires t c κs =
     (omega (arith, o .pre .0), run (o .pre .1 .0) (o .pre .1 .1) (c .before .before .packed-from .ensures) (omega arith))
 
 put-inner-same-length-2 : (t : ℕ) → put-inner-lts.Need-same-length-2 (put-inner-claims t) (put-inner-at t) put-inner.Post
-put-inner-same-length-2 t c =
-    let o = c .before .before .before .before .before .before .before .before .before in
-    stored-length (c .before .before .put-run .ensures .stored) (o .pre .1 .0 .room .inside)
+put-inner-same-length-2 t c = c .before .before .put-run .ensures .stored .long
 
 put-inner-returns-2 : (t : ℕ) → put-inner-lts.Need-returns-2 (put-inner-claims t) (put-inner-at t) put-inner.Post
 put-inner-returns-2 t c =
@@ -111,7 +106,7 @@ put-run-shared-slice-read-d : (t : ℕ) → put-run-lts.Need-shared-slice-read-d
 put-run-shared-slice-read-d t c = omega (arith, c .before .before .loop .inv .high, c .before .before .before .before .before .before .pre .1 .ends .inside)
 
 put-run-same-length : (t : ℕ) → put-run-lts.Need-same-length (put-run-claims t) (put-run-at t) put-run.Post put-run-Inv-loop put-run-μ-loop
-put-run-same-length t c = stored-length (c .before .before .before .loop .inv .stored) (c .before .before .before .before .before .before .before .pre .1 .room .inside)
+put-run-same-length t c = c .before .before .before .loop .inv .stored .long
 
 put-run-returns : (t : ℕ) → put-run-lts.Need-returns (put-run-claims t) (put-run-at t) put-run.Post put-run-Inv-loop put-run-μ-loop
 put-run-returns t c = ran-to (c .before .before .before .before .before .before .before .pre .1) (c .before .before .before .loop .inv) (c .before .before .loop-test .taken) (c .if1 .taken)
@@ -153,7 +148,7 @@ put-run-loop-again t c =
     again (turned t (c .before .before .before .before .before .before)) (joined t (c .before .before .before .before .before)) (c .before .before .put-record .ensures)
 
 put-run-same-length-2 : (t : ℕ) → put-run-lts.Need-same-length-2 (put-run-claims t) (put-run-at t) put-run.Post put-run-Inv-loop put-run-μ-loop
-put-run-same-length-2 t c = stored-length (c .before .loop .inv .stored) (c .before .before .before .before .before .pre .1 .room .inside)
+put-run-same-length-2 t c = c .before .loop .inv .stored .long
 
 put-run-returns-2 : (t : ℕ) → put-run-lts.Need-returns-2 (put-run-claims t) (put-run-at t) put-run.Post put-run-Inv-loop put-run-μ-loop
 put-run-returns-2 t c = ran-all (c .before .before .before .before .before .pre .1) (c .before .loop .inv) (omega arith)

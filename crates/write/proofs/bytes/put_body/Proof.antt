@@ -12,7 +12,7 @@ use Rattle.spec.specs.Base.{part}
 use Rattle.spec.specs.Varint.{encode}
 use Rattle.spec.specs.Kind.{shape, wire, isScalar}
 use Rattle.write.specs.Backward.{Stored, kindAt, plain, isHead, leadOf}
-use Rattle.write.proofs.StoreLaws.{stored-then, stored-as, room-as, stored-at, stored-none, stored-length}
+use Rattle.write.proofs.StoreLaws.{stored-then, stored-as, room-as, stored-at, stored-none}
 use Rattle.write.proofs.HereLaws.{read, number-lead, content-at, head-lead}
 use Rattle.write.proofs.bytes.put_body.Statement.{statement}
 use Rattle.write.proofs.bytes.put_body.Tie as tie
@@ -88,7 +88,7 @@ content c =
     let count : a .mark - c .if2 .q ≡ a .mark - a .p = omega (arith, w .2) in
     record {
       new = [];
-      stored = stored-at (stored-none (a .p) (a .out .now) (o .pre .2 .inside)) (w .2) (w .1);
+      stored = stored-at (stored-none (a .p) (a .out .now)) (w .2) (w .1);
       is = append-nil (encode (a .mark - c .if2 .q)) ∙ ap encode count ∙ sym (head-lead (o .pre .0) (a .mark - a .p) is);
       before = omega (arith, o .pre .0 .before, w .2);
     })
@@ -104,7 +104,7 @@ put-varint-requires c κs =
     let q : ℕ = c .before .before .if2 .q in
     record {
       few = omega (arith, o .pre .2 .few, ap length (x .is), x .stored .starts, length-append (encode (o .args .mark - q)) (x .new));
-      inside = omega (arith, o .pre .2 .inside, x .stored .starts, stored-length (x .stored) (o .pre .2 .inside));
+      inside = omega (arith, o .pre .2 .inside, x .stored .starts, x .stored .long);
     }
 
 returns-2 : tie.Need-returns-2
@@ -112,10 +112,10 @@ returns-2 c =
     let j = c .before .before .before .before .before in
     let o = j .before .before .before .before .before .before .before in
     let x = content j in
-    stored-as (x .is) (stored-then (x .stored) (c .before .before .put-varint .ensures) (o .pre .2 .inside))
+    stored-as (x .is) (stored-then (x .stored) (c .before .before .put-varint .ensures))
 
 same-length-2 : tie.Need-same-length-2
-same-length-2 c = stored-length (returns-2 c) (c .before .before .before .before .before .before .before .before .before .before .before .before .pre .2 .inside)
+same-length-2 c = returns-2 c .long
 
 pub put-body-spec : {M : Type 1} → statement M
 put-body-spec =

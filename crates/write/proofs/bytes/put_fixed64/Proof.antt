@@ -5,7 +5,7 @@ use mathlib.Core.List.{_++_}
 use native.Mathlib.Omega.{arith}
 use borrow.Author.Needs.{needs}
 use Rattle.spec.specs.Varint.{little}
-use Rattle.write.proofs.StoreLaws.{stored-then, stored-as, stored-length}
+use Rattle.write.proofs.StoreLaws.{stored-then, stored-as}
 use Rattle.write.proofs.bytes.put_fixed64.Statement.{statement}
 use Rattle.write.proofs.bytes.put_fixed64.Tie as tie
 
@@ -22,12 +22,12 @@ unfolding little
 put-fixed32-requires-2 c κs =
     let o = c .before .before .before .before .before .before in
     let s = c .before .before .before .put-fixed32 .ensures in
-    record { few = omega (arith, o .pre .few, s .starts); inside = omega (arith, o .pre .inside, s .starts, stored-length s (o .pre .inside)) }
+    record { few = omega (arith, o .pre .few, s .starts); inside = omega (arith, o .pre .inside, s .starts, s .long) }
 
 returns : tie.Need-returns
 returns c =
     let o = c .before .before .before .before .before .before .before .before .before in
-    stored-as (halves (o .args .v)) (stored-then (c .before .before .before .before .before .before .put-fixed32 .ensures) (c .before .before .put-fixed322 .ensures) (o .pre .inside))
+    stored-as (halves (o .args .v)) (stored-then (c .before .before .before .before .before .before .put-fixed32 .ensures) (c .before .before .put-fixed322 .ensures))
 
 pub put-fixed64-spec : {M : Type 1} → statement M
 put-fixed64-spec = tie.close (tie.spec put-fixed32-requires put-fixed32-requires-2 (λ c. search needs) returns)

@@ -13,7 +13,7 @@ use Rattle.spec.specs.Writing.{written}
 use Rattle.spec.proofs.VarintLaws.{lower-or-not}
 use Rattle.spec.proofs.WritingLaws.{bytesIn}
 use Rattle.spec.proofs.RunLaws.{Passed, records-count}
-use Rattle.write.specs.Backward.{store, Stored, span, start, runBytes}
+use Rattle.write.specs.Backward.{Stored, span, start, runBytes}
 use Rattle.write.proofs.StoreLaws.{stored-as}
 use Rattle.write.proofs.SpanLaws.{start-low}
 use Rattle.write.proofs.CheckedLaws.{whole}
@@ -35,11 +35,9 @@ module _ (list payload : List ℕ) (passed : Passed (recordsOf list)) where
 
 -- from the front, what the output holds
 stored-front : {new out now : List ℕ} {p q : ℕ} → Stored new p out q now → p ≡ length new → now ≡ filled new out
-unfolding store
-stored-front {new} {out} {q = q} s e =
-    let front : q ≡ 0 = omega (arith, s .starts) in
-    let end : 0 + length new ≡ length new = omega arith in
-    s .holds ∙ ap (λ (n : ℕ). store n new out) front ∙ ap (λ (n : ℕ). new ++ drop n out) end
+stored-front {new} {out} {now} {q = q} s e =
+    let front : 0 ≡ q = omega (arith, s .starts) in
+    ap (λ (n : ℕ). drop n now) front ∙ s .behind ∙ ap (λ (n : ℕ). new ++ drop n out) e
 
 put-run-requires : tie.Need-put-run-requires
 put-run-requires c κs =

@@ -7,7 +7,7 @@ use borrow.Author.Needs.{needs}
 use lib.ListN.{length, length-append}
 use Rattle.spec.specs.Writing.{tagOf}
 use Rattle.write.specs.Backward.{at, leadOf}
-use Rattle.write.proofs.StoreLaws.{stored-then, stored-as, stored-length}
+use Rattle.write.proofs.StoreLaws.{stored-then, stored-as}
 use Rattle.write.proofs.HereLaws.{read, fit, kind-small, type-at, byte-at, tag-at}
 use Rattle.write.proofs.bytes.put_record.Statement.{statement}
 use Rattle.write.proofs.bytes.put_record.Tie as tie
@@ -46,17 +46,17 @@ put-varint-requires c κs =
     let s = c .before .before .before .put-body .ensures in
     record {
       few = omega (arith, parts o, ap length (tag-at (o .pre .1) (o .pre .0)), s .starts);
-      inside = omega (arith, o .pre .2 .inside, s .starts, stored-length s (o .pre .2 .inside));
+      inside = omega (arith, o .pre .2 .inside, s .starts, s .long);
     }
 
 returns : tie.Need-returns
 returns c =
     let o = c .before .before .before .before .before .before .before .before .before .before .before .before .before .before in
     stored-then (c .before .before .before .before .before .before .put-body .ensures)
-    (stored-as (tag-at (o .pre .1) (o .pre .0)) (c .before .before .put-varint .ensures)) (o .pre .2 .inside)
+    (stored-as (tag-at (o .pre .1) (o .pre .0)) (c .before .before .put-varint .ensures))
 
 same-length : tie.Need-same-length
-same-length c = stored-length (returns c) (c .before .before .before .before .before .before .before .before .before .before .before .before .before .before .pre .2 .inside)
+same-length c = returns c .long
 
 pub put-record-spec : {M : Type 1} → statement M
 put-record-spec =

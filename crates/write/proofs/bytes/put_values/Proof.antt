@@ -13,7 +13,7 @@ use Rattle.spec.specs.Writing.{body}
 use Rattle.spec.proofs.WritingLaws.{bytesIn}
 use Rattle.spec.proofs.RunLaws.{kind-small}
 use Rattle.write.specs.Backward.{Stored, Room, depthAt, kindAt, at, span, plain, Values}
-use Rattle.write.proofs.StoreLaws.{stored-then, stored-as, stored-none, stored-length}
+use Rattle.write.proofs.StoreLaws.{stored-then, stored-as, stored-none}
 use Rattle.write.proofs.SpanLaws.{bytes-none, bytes-at, bytes-from}
 use Rattle.write.proofs.CheckedLaws.{fit-at}
 use Rattle.list.proofs.FitLaws.{type-of}
@@ -64,7 +64,7 @@ module _ {table list payload out : List ℕ} {first upto pos : ℕ} (v : Values 
     six = v .ends .six;
     low = omega (arith, v .some);
     high = omega arith;
-    stored = stored-as (sym (bytes-none list false payload (upto / 6) (upto / 6) (omega arith))) (stored-none pos out (v .room .inside));
+    stored = stored-as (sym (bytes-none list false payload (upto / 6) (upto / 6) (omega arith))) (stored-none pos out);
   }
 
   kind-few : kind < 25
@@ -96,7 +96,7 @@ module _ {table list payload out : List ℕ} {first upto pos : ℕ} (v : Values 
     room : Room (plain (shape kind) (getD list (b - 3) 0)) p now
     room = record {
       few = omega (arith, rest-few j (near .0) (near .1), ap length whole, length-append (plain (shape kind) (getD list (b - 3) 0)) (rest list payload upto (b / 6)), h .stored .starts);
-      inside = omega (arith, h .stored .starts, v .room .inside, stored-length (h .stored) (v .room .inside));
+      inside = omega (arith, h .stored .starts, v .room .inside, h .stored .long);
     }
 
     again : {q : ℕ} {next : List ℕ} → Stored (plain (shape kind) (getD list (b - 3) 0)) p now q next → Back list payload out first upto pos (b - 6) q next
@@ -104,7 +104,7 @@ module _ {table list payload out : List ℕ} {first upto pos : ℕ} (v : Values 
       six = near .3;
       low = omega (arith, near .0, near .3, v .six);
       high = omega (arith, h .high);
-      stored = stored-as whole (stored-then (h .stored) s (v .room .inside));
+      stored = stored-as whole (stored-then (h .stored) s);
     }
 
 abbrev Inv-loop : tie.InvT-loop
@@ -170,7 +170,7 @@ returns c =
     stored-as (ap (λ (n : ℕ). rest (a .list .now) (a .payload .now) (a .upto) (n / 6)) done) (l .loop .inv .stored)
 
 same-length : tie.Need-same-length Inv-loop μ-loop
-same-length c = stored-length (c .before .loop .inv .stored) (c .before .before .before .before .before .before .before .pre .room .inside)
+same-length c = c .before .loop .inv .stored .long
 
 pub put-values-spec : {M : Type 1} → statement M
 put-values-spec =
