@@ -132,22 +132,35 @@ static uint64_t now(void)
     return t.tv_sec * 1000000000ull + t.tv_nsec;
 }
 
+/* the calls to measure on an input */
+static struct { const char *name, *who; call *f; size_t bytes; uint64_t best; } planned[32];
+static size_t plans;
+
 static void measure(const char *name, const char *who, call *f, size_t bytes)
 {
     if (only_who && strcmp(only_who, who)) return;
-    uint64_t best = 0;
-    if (!reps) {
+    planned[plans].name = name, planned[plans].who = who, planned[plans].f = f, planned[plans].bytes = bytes, planned[plans++].best = -1;
+}
+
+/* Each planned call once between marks, or REPS times by the clock: ten of one, ten of the next, and round again, so that what slows the machine for a while slows
+ * all of them. */
+static void run(void)
+{
+    for (size_t i = 0; !reps && i < plans; i++) {
         syscall(MARK, 1);
-        f();
+        planned[i].f();
         syscall(MARK, 2);
     }
-    for (int i = 0; i < reps; i++) {
-        uint64_t t = now();
-        f();
-        t = now() - t;
-        if (!i || t < best) best = t;
-    }
-    printf("%s\t%s\t%s\t%zu\t%llu\n", input, name, who, bytes, (unsigned long long)best);
+    for (int r = 0; r < reps; r += 10)
+        for (size_t i = 0; i < plans; i++)
+            for (int k = 0; k < 10; k++) {
+                uint64_t t = now();
+                planned[i].f();
+                t = now() - t;
+                if (t < planned[i].best) planned[i].best = t;
+            }
+    for (size_t i = 0; i < plans; i++) printf("%s\t%s\t%s\t%zu\t%llu\n", input, planned[i].name, planned[i].who, planned[i].bytes, (unsigned long long)planned[i].best);
+    plans = 0;
 }
 
 static bool load(const char *folder, const char *name)
@@ -216,6 +229,7 @@ static void leaf(size_t i)
     if (memcmp(out, out2, sizeof out)) fail("other bytes than the peer's");
     measure(leaves[i].name, "calf", leaves[i].here, n);
     measure(leaves[i].name, leaves[i].peer, leaves[i].there, n);
+    run();
 }
 
 /* ---- messages */
@@ -290,6 +304,7 @@ static void message(void)
     uint64_t got = ours_read();
     count = got;
     if (!(got >> 32)) writing();
+    run();
 }
 
 int main(int argc, char **argv)
@@ -305,6 +320,7 @@ int main(int argc, char **argv)
     if (calf_record_numbers() != sizeof *room / 8 || calf_prepare(SCHEMA, keys, info, answer)) fail("the library is another");
     input = "nothing";
     measure("empty", "calf", nothing, 1);
+    run();
     for (size_t i = 0; i < sizeof leaves / sizeof *leaves; i++) if (load(argv[1], leaves[i].input)) leaf(i);
     for (size_t i = 0; i < sizeof messages / sizeof *messages; i++) if (load(argv[1], messages[i])) message();
     return 0;
