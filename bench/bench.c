@@ -23,11 +23,12 @@ static record room[RECORDS], room2[RECORDS];
 static uint64_t keys[256], values[1 << 16];
 
 /* ---- the library */
-uint64_t perf_varints(const uint8_t *, size_t), perf_pull(const uint8_t *, size_t);
+uint64_t perf_varints(const uint8_t *, size_t), perf_pull(const uint8_t *, size_t), perf_fields(const uint8_t *, size_t);
 size_t perf_put_varints(const uint64_t *, size_t, uint8_t *, size_t);
 
 static uint64_t ours_varints(void) { return perf_varints(s, n); }
 static uint64_t ours_pull(void) { return perf_pull(s, n); }
+static uint64_t ours_fields(void) { return perf_fields(s, n); }
 static uint64_t ours_put(void) { return perf_put_varints(values, count, out, BYTES); }
 static uint64_t ours_utf8(void) { return calf_utf8_prefix(s, n); }
 static uint64_t ours_document(void) { return calf_is_document(s, n); }
@@ -88,11 +89,13 @@ static uint64_t ours_many_prepared(void)
 }
 
 /* ---- its peers (peers/) */
-uint64_t crate_varints(const uint8_t *, size_t), crate_pull(const uint8_t *, size_t), crate_group(const uint8_t *, size_t), crate_run(const uint8_t *, size_t), std_utf8(const uint8_t *, size_t);
+uint64_t crate_varints(const uint8_t *, size_t), crate_pull(const uint8_t *, size_t), crate_fields(const uint8_t *, size_t), crate_group(const uint8_t *, size_t);
+uint64_t crate_run(const uint8_t *, size_t), std_utf8(const uint8_t *, size_t);
 size_t crate_put_varints(const uint64_t *, size_t, uint8_t *, size_t);
 uint64_t crate_records(const uint8_t *, size_t, const uint32_t *, size_t, record *, size_t);
 static uint64_t driver_varints(void) { return crate_varints(s, n); }
 static uint64_t driver_pull(void) { return crate_pull(s, n); }
+static uint64_t driver_fields(void) { return crate_fields(s, n); }
 static uint64_t driver_put(void) { return crate_put_varints(values, count, out2, BYTES); }
 static uint64_t driver_utf8(void) { return std_utf8(s, n); }
 static uint64_t driver_skip(void) { return crate_group(s, n); }
@@ -132,22 +135,35 @@ static uint64_t now(void)
     return t.tv_sec * 1000000000ull + t.tv_nsec;
 }
 
+/* the calls to measure on an input */
+static struct { const char *name, *who; call *f; size_t bytes; uint64_t best; } planned[32];
+static size_t plans;
+
 static void measure(const char *name, const char *who, call *f, size_t bytes)
 {
     if (only_who && strcmp(only_who, who)) return;
-    uint64_t best = 0;
-    if (!reps) {
+    planned[plans].name = name, planned[plans].who = who, planned[plans].f = f, planned[plans].bytes = bytes, planned[plans++].best = -1;
+}
+
+/* Each planned call once between marks, or REPS times by the clock: ten of one, ten of the next, and round again, so that what slows the machine for a while slows
+ * all of them. */
+static void run(void)
+{
+    for (size_t i = 0; !reps && i < plans; i++) {
         syscall(MARK, 1);
-        f();
+        planned[i].f();
         syscall(MARK, 2);
     }
-    for (int i = 0; i < reps; i++) {
-        uint64_t t = now();
-        f();
-        t = now() - t;
-        if (!i || t < best) best = t;
-    }
-    printf("%s\t%s\t%s\t%zu\t%llu\n", input, name, who, bytes, (unsigned long long)best);
+    for (int r = 0; r < reps; r += 10)
+        for (size_t i = 0; i < plans; i++)
+            for (int k = 0; k < 10; k++) {
+                uint64_t t = now();
+                planned[i].f();
+                t = now() - t;
+                if (t < planned[i].best) planned[i].best = t;
+            }
+    for (size_t i = 0; i < plans; i++) printf("%s\t%s\t%s\t%zu\t%llu\n", input, planned[i].name, planned[i].who, planned[i].bytes, (unsigned long long)planned[i].best);
+    plans = 0;
 }
 
 static bool load(const char *folder, const char *name)
@@ -177,6 +193,25 @@ static const struct { const char *input, *name, *peer; call *here, *there; } lea
     { "ints", "pull", "crate", ours_pull, driver_pull },
     { "intmix", "pull", "crate", ours_pull, driver_pull },
     { "ints.1M", "pull", "crate", ours_pull, driver_pull },
+    { "ints", "fields", "crate", ours_fields, driver_fields },
+    { "intmix", "fields", "crate", ours_fields, driver_fields },
+    { "packed", "fields", "crate", ours_fields, driver_fields },
+    { "nested", "fields", "crate", ours_fields, driver_fields },
+    { "strings", "fields", "crate", ours_fields, driver_fields },
+    { "station", "fields", "crate", ours_fields, driver_fields },
+    { "letters", "fields", "crate", ours_fields, driver_fields },
+    { "deep", "fields", "crate", ours_fields, driver_fields },
+    { "flat", "fields", "crate", ours_fields, driver_fields },
+    { "deep100", "fields", "crate", ours_fields, driver_fields },
+    { "cut", "fields", "crate", ours_fields, driver_fields },
+    { "bad", "fields", "crate", ours_fields, driver_fields },
+    { "ints.1M", "fields", "crate", ours_fields, driver_fields },
+    { "intmix.1M", "fields", "crate", ours_fields, driver_fields },
+    { "packed.1M", "fields", "crate", ours_fields, driver_fields },
+    { "nested.1M", "fields", "crate", ours_fields, driver_fields },
+    { "strings.1M", "fields", "crate", ours_fields, driver_fields },
+    { "station.1M", "fields", "crate", ours_fields, driver_fields },
+    { "letters.1M", "fields", "crate", ours_fields, driver_fields },
     { "ascii", "utf8", "std", ours_utf8, driver_utf8 },
     { "german", "utf8", "std", ours_utf8, driver_utf8 },
     { "russian", "utf8", "std", ours_utf8, driver_utf8 },
@@ -212,10 +247,12 @@ static void leaf(size_t i)
     memset(out, 0xee, sizeof out);
     memset(out2, 0xee, sizeof out2);
     uint64_t a = leaves[i].here(), b = leaves[i].there();
-    if (!a || a != b) fail("another answer than the peer's");
+    /* of bytes that stand there an even number of times the exclusive or is 0 */
+    if ((!a && !strstr(input, ".1M")) || a != b) fail("another answer than the peer's");
     if (memcmp(out, out2, sizeof out)) fail("other bytes than the peer's");
     measure(leaves[i].name, "calf", leaves[i].here, n);
     measure(leaves[i].name, leaves[i].peer, leaves[i].there, n);
+    run();
 }
 
 /* ---- messages */
@@ -290,6 +327,7 @@ static void message(void)
     uint64_t got = ours_read();
     count = got;
     if (!(got >> 32)) writing();
+    run();
 }
 
 int main(int argc, char **argv)
@@ -305,6 +343,7 @@ int main(int argc, char **argv)
     if (calf_record_numbers() != sizeof *room / 8 || calf_prepare(SCHEMA, keys, info, answer)) fail("the library is another");
     input = "nothing";
     measure("empty", "calf", nothing, 1);
+    run();
     for (size_t i = 0; i < sizeof leaves / sizeof *leaves; i++) if (load(argv[1], leaves[i].input)) leaf(i);
     for (size_t i = 0; i < sizeof messages / sizeof *messages; i++) if (load(argv[1], messages[i])) message();
     return 0;
