@@ -47,7 +47,8 @@ fn fields(is: &mut CodedInputStream, inner: bool, sum: &mut Sum) -> Result<()> {
     Ok(())
 }
 
-/// The exclusive or of all values and of the lengths of contents, up to the first refusal. The stream counts no levels here: only its calls that read whole messages do.
+/// The exclusive or of all values and of the lengths of contents, up to the first refusal. The stream counts no levels here, as only its calls that read whole messages do, and
+/// a length of the root's that runs past the slice is not refused. With the slice's length pushed as a limit it is; that takes more on most inputs, so it is left out.
 #[no_mangle]
 pub unsafe extern "C" fn crate_fields(p: *const u8, n: usize) -> u64 {
     let mut sum = Sum { acc: 0, bytes: Vec::new(), text: String::new() };
