@@ -1,1 +1,2 @@
+pub mod FieldCases
 pub mod FieldLaws
