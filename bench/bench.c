@@ -23,11 +23,12 @@ static record room[RECORDS], room2[RECORDS];
 static uint64_t keys[256], values[1 << 16];
 
 /* ---- the library */
-uint64_t perf_varints(const uint8_t *, size_t), perf_pull(const uint8_t *, size_t);
+uint64_t perf_varints(const uint8_t *, size_t), perf_pull(const uint8_t *, size_t), perf_fields(const uint8_t *, size_t);
 size_t perf_put_varints(const uint64_t *, size_t, uint8_t *, size_t);
 
 static uint64_t ours_varints(void) { return perf_varints(s, n); }
 static uint64_t ours_pull(void) { return perf_pull(s, n); }
+static uint64_t ours_fields(void) { return perf_fields(s, n); }
 static uint64_t ours_put(void) { return perf_put_varints(values, count, out, BYTES); }
 static uint64_t ours_utf8(void) { return calf_utf8_prefix(s, n); }
 static uint64_t ours_document(void) { return calf_is_document(s, n); }
@@ -88,11 +89,13 @@ static uint64_t ours_many_prepared(void)
 }
 
 /* ---- its peers (peers/) */
-uint64_t crate_varints(const uint8_t *, size_t), crate_pull(const uint8_t *, size_t), crate_group(const uint8_t *, size_t), crate_run(const uint8_t *, size_t), std_utf8(const uint8_t *, size_t);
+uint64_t crate_varints(const uint8_t *, size_t), crate_pull(const uint8_t *, size_t), crate_fields(const uint8_t *, size_t), crate_group(const uint8_t *, size_t);
+uint64_t crate_run(const uint8_t *, size_t), std_utf8(const uint8_t *, size_t);
 size_t crate_put_varints(const uint64_t *, size_t, uint8_t *, size_t);
 uint64_t crate_records(const uint8_t *, size_t, const uint32_t *, size_t, record *, size_t);
 static uint64_t driver_varints(void) { return crate_varints(s, n); }
 static uint64_t driver_pull(void) { return crate_pull(s, n); }
+static uint64_t driver_fields(void) { return crate_fields(s, n); }
 static uint64_t driver_put(void) { return crate_put_varints(values, count, out2, BYTES); }
 static uint64_t driver_utf8(void) { return std_utf8(s, n); }
 static uint64_t driver_skip(void) { return crate_group(s, n); }
@@ -190,6 +193,25 @@ static const struct { const char *input, *name, *peer; call *here, *there; } lea
     { "ints", "pull", "crate", ours_pull, driver_pull },
     { "intmix", "pull", "crate", ours_pull, driver_pull },
     { "ints.1M", "pull", "crate", ours_pull, driver_pull },
+    { "ints", "fields", "crate", ours_fields, driver_fields },
+    { "intmix", "fields", "crate", ours_fields, driver_fields },
+    { "packed", "fields", "crate", ours_fields, driver_fields },
+    { "nested", "fields", "crate", ours_fields, driver_fields },
+    { "strings", "fields", "crate", ours_fields, driver_fields },
+    { "station", "fields", "crate", ours_fields, driver_fields },
+    { "letters", "fields", "crate", ours_fields, driver_fields },
+    { "deep", "fields", "crate", ours_fields, driver_fields },
+    { "flat", "fields", "crate", ours_fields, driver_fields },
+    { "deep100", "fields", "crate", ours_fields, driver_fields },
+    { "cut", "fields", "crate", ours_fields, driver_fields },
+    { "bad", "fields", "crate", ours_fields, driver_fields },
+    { "ints.1M", "fields", "crate", ours_fields, driver_fields },
+    { "intmix.1M", "fields", "crate", ours_fields, driver_fields },
+    { "packed.1M", "fields", "crate", ours_fields, driver_fields },
+    { "nested.1M", "fields", "crate", ours_fields, driver_fields },
+    { "strings.1M", "fields", "crate", ours_fields, driver_fields },
+    { "station.1M", "fields", "crate", ours_fields, driver_fields },
+    { "letters.1M", "fields", "crate", ours_fields, driver_fields },
     { "ascii", "utf8", "std", ours_utf8, driver_utf8 },
     { "german", "utf8", "std", ours_utf8, driver_utf8 },
     { "russian", "utf8", "std", ours_utf8, driver_utf8 },
@@ -225,7 +247,8 @@ static void leaf(size_t i)
     memset(out, 0xee, sizeof out);
     memset(out2, 0xee, sizeof out2);
     uint64_t a = leaves[i].here(), b = leaves[i].there();
-    if (!a || a != b) fail("another answer than the peer's");
+    /* of bytes that stand there an even number of times the exclusive or is 0 */
+    if ((!a && !strstr(input, ".1M")) || a != b) fail("another answer than the peer's");
     if (memcmp(out, out2, sizeof out)) fail("other bytes than the peer's");
     measure(leaves[i].name, "calf", leaves[i].here, n);
     measure(leaves[i].name, leaves[i].peer, leaves[i].there, n);

@@ -1,5 +1,5 @@
 #!/bin/bash
-# build.sh: proves the libraries `calf` and `perf` and makes work/bench, one static x86-64 program of them, their peers and the driver bench.c; the inputs, in
+# build.sh: proves the libraries `calf`, `perf` and `fields` and makes work/bench, one static x86-64 program of them, their peers and the driver bench.c; the inputs, in
 # work/data; and the counter, work/icount.so. On aarch64 also work/native/bench: the same for this processor, with the proved libraries' own LLVM modules, as the
 # prover handed them to its compiler, compiled for it. On x86-64 that is work/bench itself. After setup.sh.
 set -eu
@@ -8,7 +8,7 @@ K=${RATTLE_HOME:-$(dirname "$(dirname "$(readlink -f "$(command -v rt)")")")}/on
 mkdir -p "$W/data" "$W/gen" "$N"
 python3 gen.py "$W/data"
 gcc -O2 -shared -fPIC -o "$W/icount.so" icount.c
-for c in calf perf; do (cd .. && rt staticlib $c); done
+for c in calf perf fields; do (cd .. && rt staticlib $c); done
 # the tools of root/ find their own libraries there
 own() { LD_LIBRARY_PATH=$R/usr/lib/$M-linux-gnu "$@"; }
 own "$R/usr/bin/protoc" --cpp_out="$W/gen" bench.proto
@@ -17,7 +17,7 @@ own "$R/usr/bin/protoc" --plugin=protoc-gen-c="$R/usr/bin/protoc-gen-c" --c_out=
 # FOLDER MACHINE GCC GXX LINK LIBRARIES..: the program in FOLDER; its peers are for that machine
 program() {
     local folder=$1 machine=$2 gcc=$3 gxx=$4 link=$5; shift 5
-    for f in leaves pulls records objects; do
+    for f in leaves pulls fields records objects; do
         (cd peers && RUSTC=$R/usr/bin/rustc CARGO_TARGET_DIR=$W/peers own cargo build -q --release --offline --target "$machine-unknown-linux-gnu" --features $f \
             --config 'source.crates-io.replace-with="debian"' --config "source.debian.directory=\"$R/usr/share/cargo/registry\"")
         cp "$W/peers/$machine-unknown-linux-gnu/release/libpeers.a" "$folder/lib$f.a"
@@ -27,12 +27,12 @@ program() {
     own "$gxx" -O2 -c -I"$W/gen" -I"$R/usr/include" peers/cpp.cc -o "$folder/cpp.o"
     own "$gxx" -O2 -c -I"$W/gen" -I"$R/usr/include" "$W/gen/bench.pb.cc" -o "$folder/cpp_gen.o"
     own "$gcc" -O2 -c bench.c -o "$folder/bench.o"
-    own "$gxx" $link -Wl,-z,muldefs -o "$folder/bench" "$folder"/{bench,pbc,pbc_gen,cpp,cpp_gen}.o "$@" "$folder"/lib{leaves,pulls,records,objects}.a \
+    own "$gxx" $link -Wl,-z,muldefs -o "$folder/bench" "$folder"/{bench,pbc,pbc_gen,cpp,cpp_gen}.o "$@" "$folder"/lib{leaves,pulls,fields,records,objects}.a \
         "$R/usr/lib/$machine-linux-gnu/libprotobuf.a" "$R/usr/lib/$machine-linux-gnu/libprotobuf-c.a" -lpthread -ldl -lm
 }
 
 X=; [ "$M" = x86_64 ] || X=$R/usr/bin/x86_64-linux-gnu-
-program "$W" x86_64 "${X}gcc${X:+-12}" "${X}g++${X:+-12}" "-static -no-pie" ../target/staticlib/libcalf.a ../target/staticlib/libperf.a
+program "$W" x86_64 "${X}gcc${X:+-12}" "${X}g++${X:+-12}" "-static -no-pie" ../target/staticlib/lib{calf,perf,fields}.a
 if [ "$M" = x86_64 ]; then
     ln -sf ../bench "$N/bench"
 else
@@ -43,7 +43,7 @@ else
     rm "$W/tc/bin/clang"
     printf '%s\n' '#!/bin/bash' "for a in \"\$@\"; do case \$a in *.bc | *.ll) cp \"\$a\" '$W/tc/kept/module' ;; esac; done" "exec -a clang '$T/bin/clang' \"\$@\"" >"$W/tc/bin/clang"
     chmod +x "$W/tc/bin/clang"
-    for c in calf perf; do
+    for c in calf perf fields; do
         deps=$(sed -n "s/^$c: *//p" ../crates.txt); set --
         for d in $deps; do set -- "$@" --extern "$d=../target/rlib/$d.rlib"; done
         "$K/bin/rattle" build --crate-name $c ../crates/$c/src/lib.rt --extern "std=$K/rlib/std.rlib" "$@" -L dependency=../target/rlib -L "dependency=$K/rlib" \
@@ -55,6 +55,6 @@ else
             -e 's/^target triple = .*/target triple = "aarch64-unknown-linux-gnu"/' -e 's/ "target-cpu"="x86-64"//; s/ "probe-stack"="inline-asm"//' "$W/tc/$c.ll"
         "$T/bin/clang" --target=aarch64-unknown-linux-gnu -ffunction-sections -fdata-sections -fPIC -O3 -c -x ir "$W/tc/$c.ll" -o "$N/$c.o"
     done
-    program "$N" aarch64 gcc g++ "" "$N/calf.o" "$N/perf.o"
+    program "$N" aarch64 gcc g++ "" "$N/calf.o" "$N/perf.o" "$N/fields.o"
 fi
 echo "build: done; now ./run.sh"

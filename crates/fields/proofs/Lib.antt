@@ -1,0 +1,2 @@
+pub mod FieldCases
+pub mod FieldLaws
