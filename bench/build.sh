@@ -1,5 +1,5 @@
 #!/bin/bash
-# build.sh: proves the libraries `calf`, `perf` and `fields` and makes work/bench, one static x86-64 program of them, their peers and the driver bench.c; the inputs, in
+# build.sh: proves the libraries `calf`, `perf`, `fields` and `lent` and makes work/bench, one static x86-64 program of them, their peers and the driver bench.c; the inputs, in
 # work/data; and the counter, work/icount.so. On aarch64 also work/native/bench: the same for this processor, with the proved libraries' own LLVM modules, as the
 # prover handed them to its compiler, compiled for it. On x86-64 that is work/bench itself. After setup.sh.
 set -eu
@@ -8,7 +8,7 @@ K=${RATTLE_HOME:-$(dirname "$(dirname "$(readlink -f "$(command -v rt)")")")}/on
 mkdir -p "$W/data" "$W/gen" "$N"
 python3 gen.py "$W/data"
 gcc -O2 -shared -fPIC -o "$W/icount.so" icount.c
-for c in calf perf fields; do (cd .. && rt staticlib $c); done
+for c in calf perf fields lent; do (cd .. && rt staticlib $c); done
 # the tools of root/ find their own libraries there
 own() { LD_LIBRARY_PATH=$R/usr/lib/$M-linux-gnu "$@"; }
 own "$R/usr/bin/protoc" --cpp_out="$W/gen" bench.proto
@@ -32,7 +32,7 @@ program() {
 }
 
 X=; [ "$M" = x86_64 ] || X=$R/usr/bin/x86_64-linux-gnu-
-program "$W" x86_64 "${X}gcc${X:+-12}" "${X}g++${X:+-12}" "-static -no-pie" ../target/staticlib/lib{calf,perf,fields}.a
+program "$W" x86_64 "${X}gcc${X:+-12}" "${X}g++${X:+-12}" "-static -no-pie" ../target/staticlib/lib{calf,perf,fields,lent}.a
 if [ "$M" = x86_64 ]; then
     ln -sf ../bench "$N/bench"
 else
@@ -43,7 +43,7 @@ else
     rm "$W/tc/bin/clang"
     printf '%s\n' '#!/bin/bash' "for a in \"\$@\"; do case \$a in *.bc | *.ll) cp \"\$a\" '$W/tc/kept/module' ;; esac; done" "exec -a clang '$T/bin/clang' \"\$@\"" >"$W/tc/bin/clang"
     chmod +x "$W/tc/bin/clang"
-    for c in calf perf fields; do
+    for c in calf perf fields lent; do
         deps=$(sed -n "s/^$c: *//p" ../crates.txt); set --
         for d in $deps; do set -- "$@" --extern "$d=../target/rlib/$d.rlib"; done
         "$K/bin/rattle" build --crate-name $c ../crates/$c/src/lib.rt --extern "std=$K/rlib/std.rlib" "$@" -L dependency=../target/rlib -L "dependency=$K/rlib" \
@@ -55,6 +55,6 @@ else
             -e 's/^target triple = .*/target triple = "aarch64-unknown-linux-gnu"/' -e 's/ "target-cpu"="x86-64"//; s/ "probe-stack"="inline-asm"//' "$W/tc/$c.ll"
         "$T/bin/clang" --target=aarch64-unknown-linux-gnu -ffunction-sections -fdata-sections -fPIC -O3 -c -x ir "$W/tc/$c.ll" -o "$N/$c.o"
     done
-    program "$N" aarch64 gcc g++ "" "$N/calf.o" "$N/perf.o" "$N/fields.o"
+    program "$N" aarch64 gcc g++ "" "$N/calf.o" "$N/perf.o" "$N/fields.o" "$N/lent.o"
 fi
 echo "build: done; now ./run.sh"

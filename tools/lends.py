@@ -5,7 +5,7 @@
         CALL(types, &es[..count], p, m, ..)
     }
 
-It requires that count is at most N. CALL is a walked function that takes a slice of structs; the parameters before and behind the array
+It requires that count is at most N. CALL is a walked function, of this crate or of the crate `of`, that takes a slice of structs; the parameters before and behind the array
 are numbers, `&` and `&mut` slices of numbers, each with a lifetime of its own, in CALL's order. FN ensures of the first count
 elements what CALL ensures of its slice, which stands in proofs/FN/Proof/Facts.antt:
 
@@ -23,6 +23,7 @@ INSTANCES = {
     ('entries', 'lend_size'): ENTRIES | dict(call='size', result=('struct', 'write', 'Answer'), params=[('types', 'num', 32), ('es', 'ES', 0), ('list', '&', 64), ('payload', '&', 8)]),
     ('entries', 'lend_write'): ENTRIES | dict(call='write', result=('struct', 'write', 'Answer'), params=[('types', 'num', 32), ('es', 'ES', 0), ('list', '&', 64), ('payload', '&', 8), ('out', '&mut', 8)]),
     ('entries', 'lend_lookup'): ENTRIES | dict(call='lookup', result=('enum', 'schema', 'Place'), params=[('es', 'ES', 0), ('owner', 'num', 32), ('number', 'num', 32)]),
+    ('lent', 'lend_read'): ENTRIES | dict(array=16, of='entries', call='read', result=('struct', 'read', 'Answer'), params=[('types', 'num', 32), ('es', 'ES', 0), ('s', '&', 8), ('room', '&mut', 64)]),
 }
 UINT = {8: 'u8', 16: 'u16', 32: 'u32', 64: 'u64'}
 
@@ -70,6 +71,8 @@ class Ctx:
 
 def gen(crate, fn, c):
     lib = f'Rattle.{crate}.proofs'
+    home = c.get('of', crate)
+    there = lib if home == crate else f'Rattle.{home}.proofs'
     call, N, size = c['call'], c['array'], c['size']
     elem_of, elem = c['elem']
     F, CO = dash(fn), dash(call) + '′'
@@ -394,11 +397,11 @@ use Rattle.{elem_of}.proofs.{elem}.Laws as T′
 use Rattle.{result_of}.specs.declared.{result}.{{{result}}}
 use Rattle.{result_of}.proofs.{result} as R
 use Rattle.{result_of}.proofs.{result}.Laws as R′
-use {lib}.Locals.{{part-in, part-out, behind, parts-cut, parts-joined}}
-use {lib}.{call} as {CO}
-use {lib}.{call}.Symbol as {CO}-def
-use {lib}.{call}.Symbol.{{name as #{crate}·{dash(call)}}}
-use {lib}.{call}.Met as {CO}-thm
+use {there}.Locals.{{part-in, part-out, behind, parts-cut, parts-joined}}
+use {there}.{call} as {CO}
+use {there}.{call}.Symbol as {CO}-def
+use {there}.{call}.Symbol.{{name as #{home}·{dash(call)}}}
+use {there}.{call}.Met as {CO}-thm
 use {lib}.{fn}.Key.{{name as #{crate}·{F}}}
 use {lib}.{fn} as fn
 use {lib}.{fn}.Statement as stated
@@ -476,7 +479,7 @@ module _ {{M : Type 1}} (𝓤 : URA M) (H : Heap 𝓤) (A : Atoms 𝓤) (W : Giv
       qed W ({asked_text('b')}) ∵
       {asks} $ done !
 
-  module _ (C : Calls 𝓤 H) (Λ : Loops 𝓤 H) (fm : FmC 𝓤 H (W .laws) C) (known : Triple 𝓤 (C #{crate}·{dash(call)}) (Call 𝓤 H A mem run)) ({ls} : ℕ) where
+  module _ (C : Calls 𝓤 H) (Λ : Loops 𝓤 H) (fm : FmC 𝓤 H (W .laws) C) (known : Triple 𝓤 (C #{home}·{dash(call)}) (Call 𝓤 H A mem run)) ({ls} : ℕ) where
     abbrev En : Env 𝓤 H
     En = {En}
 
@@ -484,7 +487,7 @@ module _ {{M : Type 1}} (𝓤 : URA M) (H : Heap 𝓤) (A : Atoms 𝓤) (W : Giv
     begins =
         {body}
 
-  walk : (C : Calls 𝓤 H) (Λ : Loops 𝓤 H) → FmC 𝓤 H (W .laws) C → Triple 𝓤 (C #{crate}·{dash(call)}) (Call 𝓤 H A mem run)
+  walk : (C : Calls 𝓤 H) (Λ : Loops 𝓤 H) → FmC 𝓤 H (W .laws) C → Triple 𝓤 (C #{home}·{dash(call)}) (Call 𝓤 H A mem run)
       → ent 𝓤 (onEntry 𝓤 H A fn.signature κs {qs} {a} at) (WpFn 𝓤 H C Λ code.function ({flat}) Post)
   walk C Λ fm known =
       qed W (({toks}) ∷ ‵ (owns ({' ∷ '.join(sig)} ∷ []) {a} at) ∷ []) ∵
@@ -495,13 +498,13 @@ module _ {{M : Type 1}} (𝓤 : URA M) (H : Heap 𝓤) (A : Atoms 𝓤) (W : Giv
       begins C Λ fm known {ls}{')' * n}
 
 module _ {{M : Type 1}} (𝓤 : URA M) (H : Heap 𝓤) (A : Atoms 𝓤) (W : Given 𝓤 H A) (mem : Memory → SProp 𝓤) (run : Routine → Fun 𝓤) where
-  fn-walks : (C : Calls 𝓤 H) (Λ : Loops 𝓤 H) → FmC 𝓤 H (W .laws) C → Triple 𝓤 (C #{crate}·{dash(call)}) (Call 𝓤 H A mem run)
+  fn-walks : (C : Calls 𝓤 H) (Λ : Loops 𝓤 H) → FmC 𝓤 H (W .laws) C → Triple 𝓤 (C #{home}·{dash(call)}) (Call 𝓤 H A mem run)
       → Walks 𝓤 H A fn.ended stayed (WpFn 𝓤 H C Λ code.function) (fn.clauses 𝓤 H A mem run)
   fn-walks C Λ fm known = walked 𝓤 H A fn.ended stayed (fn.clauses 𝓤 H A mem run) (WpFn 𝓤 H C Λ code.function) (λ κs. {spell}) (λ κs. {tells})
       (λ κs qs bounds a g are. needs 𝓤 ({count_at} ≤ {N}) _ (λ within. walk 𝓤 H A W mem run {mod_args} within C Λ fm known))
 
 fn-meets : {{M : Type 1}} (𝓤 : URA M) (H : Heap 𝓤) (A : Atoms 𝓤) (W : Given 𝓤 H A) (mem : Memory → SProp 𝓤) (run : Routine → Fun 𝓤) (𝓣 : Tables 𝓤 H)
-    → Triple 𝓤 (𝓣 .C #{crate}·{dash(call)}) (Call 𝓤 H A mem run)
+    → Triple 𝓤 (𝓣 .C #{home}·{dash(call)}) (Call 𝓤 H A mem run)
     → Meets 𝓤 H A fn.signature (WpFn 𝓤 H (𝓣 .C) (𝓣 .Λ) code.function) (fn.spec 𝓤 H A mem run)
 fn-meets 𝓤 H A W mem run 𝓣 known =
     walk-meets 𝓤 H A fn.ended stayed W {goes} (fn.clauses 𝓤 H A mem run)
@@ -513,7 +516,7 @@ unfolding code.routine tablesOf
     entered 𝓤 H (tripleOf 𝓤 H (𝓖 .A) fn.signature (fn.spec 𝓤 H (𝓖 .A) (𝓜 .mem) (𝓡 .run)))
     (tables 𝓤 H 𝓜 𝓡 code.env .C) (tables 𝓤 H 𝓜 𝓡 code.env .Λ) #{crate}·{F} code.function (code.unfolded 𝓤 H 𝓜 𝓡)
     (fn-meets 𝓤 H (𝓖 .A) (givenOf 𝓤 H 𝓜 𝓖) (𝓜 .mem) (𝓡 .run) (tablesOf 𝓤 H 𝓜 (tables 𝓤 H 𝓜 𝓡 code.env))
-    (cited 𝓤 H (Call 𝓤 H (𝓖 .A) (𝓜 .mem) (𝓡 .run)) 𝓜 𝓡 code.env #{crate}·{dash(call)} {CO}-def.routine code.calls-{crate}·{dash(call)} ({CO}-thm.met 𝓤 H 𝓜 𝓖 𝓡)))
+    (cited 𝓤 H (Call 𝓤 H (𝓖 .A) (𝓜 .mem) (𝓡 .run)) 𝓜 𝓡 code.env #{home}·{dash(call)} {CO}-def.routine code.calls-{home}·{dash(call)} ({CO}-thm.met 𝓤 H 𝓜 𝓖 𝓡)))
 '''
 
 

@@ -32,14 +32,14 @@ entries-more (suc k) ns =
     ap (λ (l : List Entry). firstEntry ns ∷ l)
     (entries-more k (drop 5 ns) ∙ ap (λ (l : List ℕ). entriesOf k (drop 5 ns) ++ (firstEntry l ∷ [])) (drop-drop (5 * k) 5 ns ∙ ap (λ (n : ℕ). drop n ns) further))
 
--- the loop of `entries_from`: the first i entries are made
-pub record Here (ns : List ℕ) (count : ℕ) (es : List Entry) (i : ℕ) : Type 0 where
+-- the loop of `entries_from`: the first i entries are made, in an array of n
+pub record Here (n : ℕ) (ns : List ℕ) (count : ℕ) (es : List Entry) (i : ℕ) : Type 0 where
   pub upto : i ≤ count
-  pub wide : length es ≡ 257
+  pub wide : length es ≡ n
   pub front : take i es ≡ entriesOf i ns
 
-pub here-next : {ns : List ℕ} {count : ℕ} {es : List Entry} {i : ℕ} {e : Entry} → Here ns count es i → i < count → count ≤ 257 → e ≡ entryAt ns (i * 5) → Here ns count (set es i e) (i + 1)
-here-next {ns} {count} {es} {i} {e} h l few is =
+pub here-next : {n : ℕ} {ns : List ℕ} {count : ℕ} {es : List Entry} {i : ℕ} {e : Entry} → Here n ns count es i → i < count → count ≤ n → e ≡ entryAt ns (i * 5) → Here n ns count (set es i e) (i + 1)
+here-next {n} {ns} {count} {es} {i} {e} h l few is =
     let place : i * 5 ≡ 5 * i = omega arith in
     let inside : i < length es = omega (arith, h .wide) in
     record {
@@ -52,8 +52,8 @@ here-next {ns} {count} {es} {i} {e} h l few is =
           ∙ ap (λ (k : ℕ). entriesOf k ns) (sym (add-one i));
     }
 
-pub here-end : {ns : List ℕ} {count : ℕ} {es : List Entry} {i : ℕ} → Here ns count es i → count ≤ i → take count es ≡ entriesOf count ns
-here-end {ns} {count} {es} {i} h l =
+pub here-end : {n : ℕ} {ns : List ℕ} {count : ℕ} {es : List Entry} {i : ℕ} → Here n ns count es i → count ≤ i → take count es ≡ entriesOf count ns
+here-end {n} {ns} {count} {es} {i} h l =
     let e : i ≡ count = omega (arith, h .upto) in
     ap (λ (k : ℕ). take k es) (sym e) ∙ h .front ∙ ap (λ (k : ℕ). entriesOf k ns) e
 

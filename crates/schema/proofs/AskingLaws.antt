@@ -11,10 +11,14 @@ use Rattle.spec.proofs.Laws.{both, both-true, by-test}
 use Rattle.schema.specs.Search.{seek}
 use Rattle.schema.specs.Tables.{keyAt, entryFor, unknown, typed, tableSays}
 
--- the guess of a tag's entry, and when it is right
+-- the guess of a tag's entry, and when it is right: its type and number are the tag's, and its wire type may be another
 abbrev pub guessed : List ℕ → (type t : ℕ) → ℕ
 guessed info type t = getD info (type * 16 + t / 8) 0
 
+abbrev pub Near : (keys info : List ℕ) → (type t : ℕ) → Type 0
+Near keys info type t = (t < 128) × (type < 32) × (keyAt keys (guessed info type t) ≡ (type * 2 ^ 32 + t) / 8)
+
+-- and when its wire type is the tag's too
 abbrev pub Right : (keys info : List ℕ) → (type t : ℕ) → Type 0
 Right keys info type t = (t < 128) × (type < 32) × (getD keys (guessed info type t) 0 ≡ type * 2 ^ 32 + t)
 
@@ -29,30 +33,33 @@ module _ (keys info : List ℕ) where
   -- the entry of a tag: guessed, or found by search
   module _ (type t : ℕ) where
     abbrev test : Bool
-    test = ltb t 128 && ltb type 32 && eqb (getD keys (guessed info type t) 0) (type * 2 ^ 32 + t)
+    test = ltb t 128 && ltb type 32 && eqb (keyAt keys (guessed info type t)) ((type * 2 ^ 32 + t) / 8)
 
     abbrev found : ℕ
     found = seek 256 (keyAt keys) 256 ((type * 2 ^ 32 + t) / 8) 0 256
 
-    passes : Right keys info type t → test ≡ true
-    passes r = both-true (both-true (lt-ltb t 128 (r .0)) (lt-ltb type 32 (r .1))) (eq-eqb (getD keys (guessed info type t) 0) (type * 2 ^ 32 + t) (r .2))
+    passes : Near keys info type t → test ≡ true
+    passes r = both-true (both-true (lt-ltb t 128 (r .0)) (lt-ltb type 32 (r .1))) (eq-eqb (keyAt keys (guessed info type t)) ((type * 2 ^ 32 + t) / 8) (r .2))
 
-    right : test ≡ true → Right keys info type t
-    right p =
-        let a = both (ltb t 128 && ltb type 32) (eqb (getD keys (guessed info type t) 0) (type * 2 ^ 32 + t)) p in
+    near : test ≡ true → Near keys info type t
+    near p =
+        let a = both (ltb t 128 && ltb type 32) (eqb (keyAt keys (guessed info type t)) ((type * 2 ^ 32 + t) / 8)) p in
         let b = both (ltb t 128) (ltb type 32) (a .0) in
-        (ltb-true t 128 (b .0), ltb-true type 32 (b .1), eqb-true (getD keys (guessed info type t) 0) (type * 2 ^ 32 + t) (a .1))
+        (ltb-true t 128 (b .0), ltb-true type 32 (b .1), eqb-true (keyAt keys (guessed info type t)) ((type * 2 ^ 32 + t) / 8) (a .1))
 
-    pub right-or-not {ℓ} : {X : Type ℓ} → (Right keys info type t → X) → ((Right keys info type t → ⊥) → X) → X
-    right-or-not f g = by-test test (λ p. f (right p)) (λ p. g (λ r. false≢true (sym p ∙ passes r)))
+    pub near-or-not {ℓ} : {X : Type ℓ} → (Near keys info type t → X) → ((Near keys info type t → ⊥) → X) → X
+    near-or-not f g = by-test test (λ p. f (near p)) (λ p. g (λ r. false≢true (sym p ∙ passes r)))
 
-    pub entry-guessed : Right keys info type t → entryFor keys info type t ≡ guessed info type t
+    pub entry-guessed : Near keys info type t → entryFor keys info type t ≡ guessed info type t
     unfolding entryFor
     entry-guessed r = ap (λ (b : Bool). if b then guessed info type t else found) (passes r)
 
-    pub entry-searched : (Right keys info type t → ⊥) → entryFor keys info type t ≡ found
+    pub entry-searched : (Near keys info type t → ⊥) → entryFor keys info type t ≡ found
     unfolding entryFor
-    entry-searched r = by-test test (λ p. absurd (r (right p))) (λ p. ap (λ (b : Bool). if b then guessed info type t else found) p)
+    entry-searched r = by-test test (λ p. absurd (r (near p))) (λ p. ap (λ (b : Bool). if b then guessed info type t else found) p)
+
+    right-near : Right keys info type t → Near keys info type t
+    right-near r = (r .0, r .1, ap (λ (k : ℕ). k / 8) (r .2))
 
   -- what the entry says of it
   module _ (i key t : ℕ) where
@@ -87,4 +94,4 @@ module _ (keys info : List ℕ) where
   -- where the guess is right, no search is needed: a reader may look for itself
   pub says-guessed : (type t : ℕ) → Right keys info type t → guessed info type t < 256
       → tableSays keys info type t ≡ record { kind = kindAt info (guessed info type t); inner = if eqb (kindAt info (guessed info type t)) 11 then innerAt info (guessed info type t) else 0 }
-  says-guessed type t r l = says-typed type t (sym (entry-guessed type t r)) l ∙ typed-same (guessed info type t) (type * 2 ^ 32 + t) t (r .2)
+  says-guessed type t r l = says-typed type t (sym (entry-guessed type t (right-near type t r))) l ∙ typed-same (guessed info type t) (type * 2 ^ 32 + t) t (r .2)

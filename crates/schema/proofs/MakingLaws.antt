@@ -125,7 +125,7 @@ module _ {types : ℕ} {ns : List ℕ} {i e last : ℕ} {keys₀ keys info₀ in
             (λ p. let c = g .no-child (eqb-false (f .kind) 11 p) in omega arith)
 
         -- what the code may store
-        pub made-fits : (e < 256) × (f .owner < 32) × (f .kind ≤ 18) × (f .child < 256) × (key < 2 ^ 63)
+        pub made-fits : (e < 256) × (f .owner < 32) × (f .kind ≤ 18) × (f .repeated < 2) × (f .child < 256) × (key < 2 ^ 63)
         made-fits =
             let a = m .here .five in
             let g = good .1 in
@@ -133,7 +133,12 @@ module _ {types : ℕ} {ns : List ℕ} {i e last : ℕ} {keys₀ keys info₀ in
             let n = g .number-to in
             let k = key-plain in
             let b = counts-bounds types (length ns) (m .here .counts) in
-            (omega arith, omega arith, g .kind-to, small-child, omega arith)
+            (omega arith, omega arith, g .kind-to, good .0, small-child, omega arith)
+
+        -- only a kind of wire type 2 has a child
+        pub made-childless : (w : ℕ) → w ≡ getD kindWires (f .kind) 0 → (w ≡ 2 → ⊥) → f .child ≡ 0
+        unfolding kindWires
+        made-childless w q n = good .1 .no-child (λ k. n (q ∙ ap (λ (x : ℕ). getD kindWires x 0) k))
 
         pub made-next : (w : ℕ) → w ≡ getD kindWires (f .kind) 0
             → Made types ns (i + 5) (e + 1) key keys₀ (set keys e (key + w)) info₀ (noted e (f .owner) (f .number) (f .kind) (innerIn w (eqb (f .repeated) 1) (f .child)) info)

@@ -22,7 +22,7 @@ use Rattle.schema.proofs.MakingLaws.{wire-below}
 use Rattle.schema.proofs.StoredLaws.{length-keys, keys-at, keys-else, kinds-at, inners-at}
 use Rattle.schema.specs.Search.{seek}
 use Rattle.schema.specs.Tables.{upTo, soundOf, keyOf, innerOf, keysWith, infoWith, keyAt, entryFor, unknown, typed, tableSays}
-use Rattle.schema.proofs.AskingLaws.{guessed, Right, right-or-not, entry-guessed, entry-searched, typed-same, typed-packed, typed-else, says-typed, says-unknown}
+use Rattle.schema.proofs.AskingLaws.{guessed, Near, near-or-not, entry-guessed, entry-searched, typed-same, typed-packed, typed-else, says-typed, says-unknown}
 
 -- each kind of descriptor.proto is one number exactly when its wire type is not 2
 kind-test : (k : ℕ) → k ≤ 18 → bit (isScalar (shape k)) ≡ bit (not (eqb (wire k) 2) && not (eqb k 0) && not (eqb k 10))
@@ -153,11 +153,11 @@ module _ (sch : Schema) (valid : badSchema sch ≡ none) (keys₀ info₀ : List
         (λ i l. keyed-row type t (good-at i l) (key-at i l) tag-below)
         (λ i l u. omega (arith, keys-else (sch .entries) keys₀ few (omega arith) i l u, unused i u))
 
-    guess-right : Right keys info type t → guessed info type t ≡ placedOr 256 (placeOf 0 (sch .entries) type (t / 8))
+    guess-right : Near keys info type t → guessed info type t ≡ placedOr 256 (placeOf 0 (sch .entries) type (t / 8))
     guess-right r =
         let i : ℕ = guessed info type t in
-        let l = key-within i (type * 2 ^ 32 + t) (r .2) (omega arith) (omega arith) in
-        let k : keyOf (at sch i) ≡ type * 2 ^ 32 + t = sym (key-at i l) ∙ r .2 in
+        let l = key-within i (getD keys i 0) refl (omega (arith, r .2)) (omega (arith, r .2)) in
+        let k : keyOf (at sch i) / 8 ≡ (type * 2 ^ 32 + t) / 8 = ap (λ (x : ℕ). x / 8) (sym (key-at i l)) ∙ r .2 in
         let g = good-at i l in
         let w = wire-below (at sch i .kind) (g .kind-to) in
         let n = g .number-to in
@@ -165,7 +165,7 @@ module _ (sch : Schema) (valid : badSchema sch ≡ none) (keys₀ info₀ : List
 
     entry-place : entryFor keys info type t ≡ placedOr 256 (placeOf 0 (sch .entries) type (t / 8))
     entry-place =
-        right-or-not keys info type t
+        near-or-not keys info type t
         (λ r. entry-guessed keys info type t r ∙ guess-right r)
         (λ r. entry-searched keys info type t r ∙ searched)
 

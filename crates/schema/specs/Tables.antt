@@ -79,13 +79,13 @@ infoWith = storing putInfo
 abbrev pub keyAt : List ℕ → ℕ → ℕ
 keyAt keys i = getD keys i 0 / 8
 
--- the entry of a tag in a message of this type, or 256: the guess where it is right, and else by search
+-- the entry of a tag in a message of this type, or 256: the guess where its type and number are the tag's, and else by search
 unfoldable pub entryFor : (keys info : List ℕ) → (type tag : ℕ) → ℕ
 entryFor keys info type t =
-    let key = type * 2 ^ 32 + t in
+    let key = (type * 2 ^ 32 + t) / 8 in
     let guess = getD info (type * 16 + t / 8) 0 in
-    let found = seek 256 (keyAt keys) 256 (key / 8) 0 256 in
-    if ltb t 128 && ltb type 32 && eqb (getD keys guess 0) key then guess else found
+    let found = seek 256 (keyAt keys) 256 key 0 256 in
+    if ltb t 128 && ltb type 32 && eqb (keyAt keys guess) key then guess else found
 
 abbrev pub unknown : ℕ → Says
 unknown t = record { kind = unknownKind (t % 8); inner = 0 }

@@ -92,10 +92,14 @@ fn entry_ok(types: u32, f: Five) -> bool
     if 1 < f.repeated {
         return false;
     }
+    // most entries have none, and every kind may
+    if f.child == 0 {
+        return true;
+    }
     if f.kind == 11 {
         return f.child < types;
     }
-    f.child == 0
+    false
 }
 
 // The key of an entry without its wire type, where it is good and stands behind the one whose key is `last`; else 0.
@@ -163,23 +167,20 @@ pub fn find(numbers: &[u32], owner: u32, number: u32) -> Place
 
 // ---- the tables
 
-// What is noted beside the kind: 255 where the field may be packed, and else the child type.
+// What is noted beside the kind: 255 where the field may be packed, and else the child type, which only kinds of wire type 2 have.
 fn inner_of(w: u8, repeated: u32, child: u32) -> u8
-    requires { ⌜ child < 256 ⌝ }
+    requires { ⌜ (repeated < 2) × (child < 256) × ((w ≡ 2 → ⊥) → child ≡ 0) ⌝ }
     ensures { λ r. ⌜ r ≡ innerIn w (eqb repeated 1) child ⌝ }
 {
     if w == 2 {
         return child as u8;
     }
-    if repeated == 1 {
-        return 255;
-    }
-    child as u8
+    (repeated * 255) as u8
 }
 
 // Entry e is noted, whose rank is `key` and whose wire type is w.
 fn note(e: usize, f: Five, key: u64, w: u8, keys: &mut [u64; 256], info: &mut [u8; 1024])
-    requires { ⌜ (e < 256) × (f .owner < 32) × (f .kind < 256) × (f .child < 256) × (key < 2 ^ 63) ⌝ }
+    requires { ⌜ (e < 256) × (f .owner < 32) × (f .kind < 256) × (f .repeated < 2) × (f .child < 256) × ((w ≡ 2 → ⊥) → f .child ≡ 0) × (key < 2 ^ 63) ⌝ }
     ensures { λ _. ⌜ (now (keys .exit) ≡ set (now (keys .entry)) e (key + w))
         × (now (info .exit) ≡ noted e (f .owner) (f .number) (f .kind) (innerIn w (eqb (f .repeated) 1) (f .child)) (now (info .entry))) ⌝ }
 {
@@ -285,7 +286,8 @@ fn index(byte: u8) -> usize
     byte as usize
 }
 
-// The entry of a tag in a message of this type, or 256: the guess where it is right, and else by search.
+// The entry of a tag in a message of this type, or 256: the guess where it is right, and else by search. A guess is right by type and number
+// alone: a packed field has another wire type than its entry, and no search is needed for it.
 fn entry_for(keys: &[u64; 256], info: &[u8; 1024], ty: u32, tag: u32) -> usize
     ensures { λ r. ⌜ r ≡ entryFor (now (keys .entry)) (now (info .entry)) ty tag ⌝ }
 {
@@ -293,7 +295,7 @@ fn entry_for(keys: &[u64; 256], info: &[u8; 1024], ty: u32, tag: u32) -> usize
     if tag < 128 {
         if ty < 32 {
             let guess = index(info[ty as usize * 16 + tag as usize / 8]);
-            if keys[guess] == key {
+            if keys[guess] / 8 == key / 8 {
                 return guess;
             }
         }

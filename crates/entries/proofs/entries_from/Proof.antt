@@ -9,7 +9,7 @@ use Rattle.entries.proofs.entries_from.Statement.{statement}
 use Rattle.entries.proofs.entries_from.Tie as tie
 
 abbrev Inv-loop : tie.InvT-loop
-Inv-loop numbers count entries₀ i₀ entries i = Here numbers count entries i
+Inv-loop numbers count entries₀ i₀ entries i = Here 257 numbers count entries i
 
 abbrev μ-loop : tie.MeasureT-loop
 μ-loop numbers count entries₀ i₀ entries i = count - i

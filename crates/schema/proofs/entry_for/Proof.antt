@@ -2,7 +2,7 @@
 use native.Mathlib.Omega.{arith}
 use borrow.Author.Needs.{needs}
 use mathlib.Core.Path.{sym, ap, _∙_}
-use Prim.Native.Nat.{ℕ}
+use Prim.Native.Nat.{ℕ, _/_}
 use lib.ListN.{getD}
 use mathlib.Core.Logic.{⊎-elim}
 use Rattle.schema.proofs.AskingLaws.{entry-guessed, entry-searched}
@@ -13,7 +13,7 @@ returns : tie.Need-returns
 returns c =
     let a = c .before .before .before .before .before .before .args in
     let g = c .before .before .index .ensures .0 in
-    let right = ap (λ (i : ℕ). getD (a .keys .now) i 0) (sym g) ∙ c .if3 .taken in
+    let right = ap (λ (i : ℕ). getD (a .keys .now) i 0 / 8) (sym g) ∙ c .if3 .taken in
     g ∙ sym (entry-guessed (a .keys .now) (a .info .now) (a .ty) (a .tag) (c .before .before .before .before .before .if1 .taken, c .before .before .before .before .if2 .taken, right))
 
 returns-2 : tie.Need-returns-2
@@ -22,7 +22,7 @@ returns-2 c =
     c .search .ensures
     ∙ sym (entry-searched (a .keys .now) (a .info .now) (a .ty) (a .tag) (λ r.
     ⊎-elim
-    (λ w. w .5 .left (ap (λ (i : ℕ). getD (a .keys .now) i 0) (w .3 .ensures .0) ∙ r .2))
+    (λ w. w .5 .left (ap (λ (i : ℕ). getD (a .keys .now) i 0 / 8) (w .3 .ensures .0) ∙ r .2))
     (λ w. ⊎-elim (λ v. omega (arith, v .1 .left)) (λ v. omega (arith, v .left)) w)
     (c .before .if1 .came)))
 

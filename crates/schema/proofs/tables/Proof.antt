@@ -8,7 +8,7 @@ use Prim.Native.Nat.{ℕ, _-_}
 use mathlib.Core.List.{List}
 use lib.ListN.{length, getD}
 use Rattle.schema.proofs.ValidLaws.{here-five}
-use Rattle.schema.proofs.MakingLaws.{Made, made-none, made-first, made-all, made-bad, made-fits, made-next}
+use Rattle.schema.proofs.MakingLaws.{Made, made-none, made-first, made-all, made-bad, made-fits, made-childless, made-next}
 use Rattle.schema.proofs.tables.Statement.{statement}
 use Rattle.schema.proofs.tables.Tie as tie
 
@@ -46,7 +46,10 @@ note-requires : tie.Need-note-requires Inv-loop μ-loop
 note-requires c κs =
     let d = c .before .before .before .before in
     let l = made-fits (d .before .before .before .loop .inv) (d .before .before .loop-test .taken) (d .before .five-at .ensures) (d .next-key .ensures) (c .before .before .before .if2 .left) in
-    (l .0, l .1, omega (arith, l .2), l .3, l .4)
+    let k : ℕ = d .before .five-at .result .kind in
+    let ws = c .before .before .before .before .before .before .before .before .kind-wires in
+    let z = made-childless (d .before .before .before .loop .inv) (d .before .before .loop-test .taken) (d .before .five-at .ensures) (d .next-key .ensures) (c .before .before .before .if2 .left) (getD (ws .result) k 0) (ap (λ (xs : List ℕ). getD xs k 0) (ws .ensures)) in
+    (l .0, l .1, omega (arith, l .2), l .3, l .4, z, l .5)
 
 loop-again : tie.Need-loop-again Inv-loop μ-loop
 loop-again c =

@@ -1,0 +1,15 @@
+-- The schema of the first sixteen entries of some numbers. Assumes nothing: these are definitions.
+use Prim.Native.Nat.{ℕ, _/_}
+use mathlib.Core.List.{List}
+use lib.Dec.{ltb}
+use lib.ListN.{length}
+use Rattle.spec.specs.Base.{if_then_else_}
+use Rattle.spec.specs.Schema.{Schema, entriesOf, entryStride}
+
+-- how many entries are made of so many numbers
+unfoldable pub firstCount : ℕ → ℕ
+firstCount n = if ltb 16 (n / entryStride) then 16 else n / entryStride
+
+-- Of at most sixteen entries with no rest behind them it is what `schemaOf` says (proofs/FirstLaws).
+unfoldable pub firstOf : ℕ → List ℕ → Schema
+firstOf types ns = record { types = types; entries = entriesOf (firstCount (length ns)) ns }
