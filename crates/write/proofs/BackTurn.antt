@@ -173,6 +173,17 @@ module _ {table list payload out now : List ℕ} {d upto pos b p : ℕ} (w : Tur
         lower-or-not m (b / 6) (λ l. l)
         (λ l. let same : m - 1 ≡ b / 6 - 1 = omega (arith, m-le) in absurd (omega (arith, head-depth, depth-here, ap (depthAt list) same)))
 
+    -- so that is a head
+    head-kind : isHead (kindAt list (m - 1)) ≡ true
+    head-kind = go (isHead (kindAt list (m - 1))) refl
+      where
+        go : (x : Bool) → isHead (kindAt list (m - 1)) ≡ x → isHead (kindAt list (m - 1)) ≡ true
+        go true e = e
+        go false e =
+            let next : depthAt list m ≤ depthAt list (m - 1) =
+            subst (λ (n : ℕ). depthAt list n ≤ depthAt list (m - 1)) after (leaf-next list (r .ends .passed) (m - 1) (omega (arith, some, has-some, placed .2)) e) in
+            absurd (omega (arith, deeper m (omega arith) has-some, head-depth))
+
     pub inner-run : Run (not (isPacked list (d + 1) b)) table list payload now (d + 1) b p
     inner-run = record {
       types = r .types;
@@ -204,6 +215,9 @@ module _ {table list payload out now : List ℕ} {d upto pos b p : ℕ} (w : Tur
   module _ {c q : ℕ} {next : List ℕ} (x : Ran (not (isPacked list (d + 1) b)) list payload now (d + 1) b p c q next) where
     place : (c - 6) / 6 ≡ m - 1
     place = omega (arith, x .begins, some)
+
+    pub head-here : d < getD list (b - 6) 0 → isHead (kindAt list ((c - 6) / 6)) ≡ true
+    head-here l = ap (λ (j : ℕ). isHead (kindAt list j)) place ∙ head-kind l
 
     pub below : 6 ≤ c
     below = omega (arith, x .begins, some)

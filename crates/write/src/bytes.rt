@@ -13,7 +13,7 @@ ghost use Rattle.spec.specs.Record.{recordsOf};
 ghost use Rattle.spec.specs.Writing.{tagOf, written};
 ghost use Rattle.spec.proofs.WritingLaws.{bytesIn};
 ghost use Rattle.rt.specs.SizeParts.{coded};
-ghost use Rattle.write.specs.Backward.{Stored, Room, at, kindAt, span, start, plain, Given, Here, leadOf, Upto, Run, Inner, isPacked, Values, Ran};
+ghost use Rattle.write.specs.Backward.{Stored, Room, at, kindAt, span, start, plain, Given, Here, leadOf, headOf, Leads, Upto, Run, Inner, isPacked, Values, Ran};
 use crate::sizes::is_head;
 use rt::compute_raw_varint64_size;
 use wire::zigzag::zigzag;
@@ -249,6 +249,27 @@ fn put_record(
     put_varint(out, q, tag)
 }
 
+// The head at b, in front of what is in it, which ends before `mark` and starts at p.
+fn put_head(
+    table: &[u8; 25],
+    list: &[u64],
+    out: &mut [u8],
+    b: usize,
+    mark: usize,
+    p: usize,
+) -> usize
+    requires { ⌜ Leads (now table) (now list) b × (p ≤ mark) × Room (headOf (now table) (now list) b (mark - p)) p (now out) ⌝ }
+    ensures { λ q. ⌜ Stored (headOf (now (table .entry)) (now (list .entry)) b (mark - p)) p (now (out .entry)) q (now (out .exit)) ⌝ }
+{
+    let number = list[b + 1];
+    let kind = list[b + 2];
+    let i = kind as usize;
+    let w = table[i];
+    let q = put_varint(out, p, (mark - p) as u64);
+    let tag = number * 8 + w as u64;
+    put_varint(out, q, tag)
+}
+
 // Where the values of a packed field begin that end before upto, or upto where the run there has tags. Its head says so, and stands right before
 // them: each record is looked at once, for its own run.
 fn packed_from(list: &[u64], depth: u64, upto: usize) -> usize
@@ -337,14 +358,14 @@ fn put_run(
         if d < depth {
             return Back { at: b, pos: p };
         }
-        let mark = p;
-        if depth < d {
+        if d == depth {
+            b -= 6;
+            p = put_record(table, list, payload, out, b, p, p);
+        } else {
             let r = put_inner(table, list, payload, out, depth + 1, b, p);
-            b = r.at;
-            p = r.pos;
+            b = r.at - 6;
+            p = put_head(table, list, out, b, p, r.pos);
         }
-        b -= 6;
-        p = put_record(table, list, payload, out, b, mark, p);
     }
     Back { at: b, pos: p }
 }
