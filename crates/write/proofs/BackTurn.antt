@@ -13,7 +13,7 @@ use Rattle.spec.specs.Writing.{body, tagOf}
 use Rattle.spec.proofs.VarintLaws.{lower-or-not}
 use Rattle.spec.proofs.WritingLaws.{bytesIn}
 use Rattle.write.specs.Backward.{Stored, Room, depthAt, kindAt, at, span, start, lead, isHead, Here, leadOf, runBytes, Run, Inner, isPacked, Ran}
-use Rattle.write.proofs.StoreLaws.{stored-then, stored-as, stored-at, stored-none, room-as}
+use Rattle.write.proofs.StoreLaws.{stored-then, stored-as, stored-none, room-as}
 use Rattle.write.proofs.SpanLaws.{bytes-none, bytes-at, bytes-from, start-le, start-over, start-low, start-same, start-here}
 use Rattle.write.proofs.CheckedLaws.{next-depth, leaf-next, deep-at}
 use Rattle.write.proofs.BodyLaws.{body-lead}
@@ -32,11 +32,6 @@ pub record Turned (table list payload out : List ℕ) (d upto pos b p : ℕ) (no
   pub back : Back list payload out d upto pos b p now
   pub more : 6 ≤ b
   pub deep : d ≤ getD list (b - 6) 0
-
--- the same answer, under other names
-pub ran-at : {tags : Bool} {list payload out now next : List ℕ} {d upto pos b c p q : ℕ} → Ran tags list payload out d upto pos b p now → c ≡ b → q ≡ p → next ≡ now
-    → Ran tags list payload out d upto pos c q next
-ran-at x e f g = record { begins = e ∙ x .begins; stored = stored-at (x .stored) f g }
 
 module _ {table list payload out : List ℕ} {d upto pos : ℕ} (r : Run true table list payload out d upto pos) where
   pub begin : Back list payload out d upto pos upto pos out

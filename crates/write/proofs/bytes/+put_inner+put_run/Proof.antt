@@ -1,12 +1,14 @@
 -- The cycle of calls {put_inner, put_run}: the loop over a run calls put_inner for the run in a record, which calls put_run where that run has tags.
 -- The measure is how many records are left to be written: those before `upto`, less the heads around the run, of which there is one for each level
 -- and which the callers write. Assumes nothing.
-use Prim.Native.Nat.{ℕ, _+_, _-_, _*_, _<_}
-use mathlib.Core.Path.{sym}
-use mathlib.Core.Bool.{not}
+use Prim.Native.Nat.{ℕ, _+_, _-_, _*_, _/_, _<_}
+use mathlib.Core.Path.{_≡_, sym, ap}
+use mathlib.Core.Bool.{true}
+use mathlib.Core.List.{List, _++_}
 use native.Mathlib.Omega.{arith}
 use lib.ListN.{getD}
-use Rattle.write.specs.Backward.{isPacked, Ran}
+use Rattle.spec.specs.Writing.{tagOf}
+use Rattle.write.specs.Backward.{at, leadOf}
 use Rattle.write.proofs.InnerLaws.{values, ran-values, run, ran-run}
 use Rattle.write.proofs.BackTurn.{Back, Turned, begin, ran-all, ran-to, inner-run, inner-in, falls as level-falls, fits, none-in, head-here, below, here, room, again, less}
 use Rattle.write.proofs.HereLaws.{leads, head-is}
@@ -116,11 +118,16 @@ put-run-returns : (t : ℕ) → put-run-lts.Need-returns (put-run-claims t) (put
 put-run-returns t c = ran-to (c .before .before .before .before .before .before .before .pre .1) (c .before .before .before .loop .inv) (c .before .before .loop-test .taken) (c .if1 .taken)
 
 -- nothing lies in a record at the run's own depth
+alone : (list payload : List ℕ) (b p : ℕ) → tagOf true (at list (b / 6)) ++ leadOf list payload b (p - p) ≡ tagOf true (at list (b / 6)) ++ leadOf list payload b 0
+alone list payload b p = let none : p - p ≡ 0 = omega arith in ap (λ (n : ℕ). tagOf true (at list (b / 6)) ++ leadOf list payload b n) none
+
 put-run-put-record-requires : (t : ℕ) → put-run-lts.Need-put-record-requires (put-run-claims t) (put-run-at t) put-run.Post put-run-Inv-loop put-run-μ-loop
 put-run-put-record-requires t c κs =
     let e = c .before .before in
+    let a = e .before .before .before .before .before .before .before .args in
+    let l = e .before .before .before .loop in
     let x = none-in (turned t e) (omega (arith, c .before .if2 .taken)) in
-    (e .before .before .before .before .before .before .before .pre .1 .types, here (turned t e) x, room (turned t e) x)
+    (e .before .before .before .before .before .before .before .pre .1 .types, here (turned t e) x, room-as (alone (a .list .now) (a .payload .now) (l .b - 6) (l .p)) (room (turned t e) x))
 
 put-run-loop-less : (t : ℕ) → put-run-lts.Need-loop-less (put-run-claims t) (put-run-at t) put-run.Post put-run-Inv-loop put-run-μ-loop
 put-run-loop-less t c = omega (arith, c .before .before .before .before .before .before .before .loop-test .taken)
@@ -128,7 +135,10 @@ put-run-loop-less t c = omega (arith, c .before .before .before .before .before 
 put-run-loop-again : (t : ℕ) → put-run-lts.Need-loop-again (put-run-claims t) (put-run-at t) put-run.Post put-run-Inv-loop put-run-μ-loop
 put-run-loop-again t c =
     let e = c .before .before .before .before .before in
-    again (turned t e) (none-in (turned t e) (omega (arith, c .before .before .before .before .if2 .taken))) (c .before .before .put-record .ensures)
+    let a = e .before .before .before .before .before .before .before .args in
+    let l = e .before .before .before .loop in
+    again (turned t e) (none-in (turned t e) (omega (arith, c .before .before .before .before .if2 .taken)))
+    (stored-as (sym (alone (a .list .now) (a .payload .now) (l .b - 6) (l .p))) (c .before .before .put-record .ensures))
 
 put-run-add-put-inner : (t : ℕ) → put-run-lts.Need-add-put-inner (put-run-claims t) (put-run-at t) put-run.Post put-run-Inv-loop put-run-μ-loop
 put-run-add-put-inner t c = omega (arith, fits (turned t (c .before .before)) (omega (arith, c .before .if2 .left, c .before .before .if1 .left)))
