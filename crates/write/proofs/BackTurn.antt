@@ -223,14 +223,8 @@ module _ {table list payload out now : List ℕ} {d upto pos b p : ℕ} (w : Tur
     own-is : tagOf true (at list ((c - 6) / 6)) ++ leadOf list payload (c - 6) (p - q) ≡ own
     own-is = ap₂ (λ (j n : ℕ). tagOf true (at list j) ++ lead (shape (kindAt list j)) payload (at list j) n) place count
 
-    pub here : Here list payload (c - 6) p q
-    here = record {
-      given = r .given;
-      six = omega (arith, x .begins, some);
-      inside = omega (arith, x .begins, some, m-le, placed .2);
-      before = omega (arith, x .stored .starts);
-      alone = λ e. omega (arith, x .stored .starts, ap length (leaf (sym (ap (λ (j : ℕ). isHead (kindAt list j)) place) ∙ e)));
-    }
+    pub here : Here list payload (c - 6)
+    here = record { given = r .given; six = omega (arith, x .begins, some); inside = omega (arith, x .begins, some, m-le, placed .2) }
 
     pub room : Room (tagOf true (at list ((c - 6) / 6)) ++ leadOf list payload (c - 6) (p - q)) q next
     room = room-as (sym own-is) (record {

@@ -34,7 +34,7 @@ content-lead (other startGroup) payload r n h = absurd (false≢true h)
 content-lead (other endGroup) payload r n h = absurd (false≢true h)
 content-lead (other nothing) payload r n h = absurd (false≢true h)
 
-module _ {list payload : List ℕ} {b mark p : ℕ} (h : Here list payload b mark p) where
+module _ {list payload : List ℕ} {b : ℕ} (h : Here list payload b) where
   -- the numbers of the record, as they are read at b
   pub read : (n : ℕ) → getD list (b + n) 0 ≡ getD list (6 * (b / 6) + n) 0
   read n = ap (λ (m : ℕ). getD list (m + n) 0) (h .six)

@@ -83,13 +83,11 @@ pub record Given (list payload : List ℕ) : Type 0 where
   pub passed : Passed (recordsOf list)
   pub held : Held payload (recordsOf list)
 
--- The record at the place b of the list. What is in it starts at p and ends before `mark`; where it is no head, that is nothing.
-pub record Here (list payload : List ℕ) (b mark p : ℕ) : Type 0 where
+-- the record at the place b of the list
+pub record Here (list payload : List ℕ) (b : ℕ) : Type 0 where
   pub given : Given list payload
   pub six : b ≡ 6 * (b / 6)
   pub inside : b + 6 ≤ length list
-  pub before : p ≤ mark
-  pub alone : isHead (kindAt list (b / 6)) ≡ false → mark ≡ p
 
 -- what stands between its tag and what is in it
 abbrev pub leadOf : List ℕ → List ℕ → ℕ → ℕ → List ℕ

@@ -205,7 +205,7 @@ fn put_content(payload: &[u8], out: &mut [u8], p: usize, start: u64, stop: u64) 
 
 // What stands behind the tag of the record at b, in which nothing is.
 fn put_body(list: &[u64], payload: &[u8], out: &mut [u8], b: usize, w: u8, p: usize) -> usize
-    requires { ⌜ Here (now list) (now payload) b p p × (w ≡ wire (kindAt (now list) (b / 6))) × Room (leadOf (now list) (now payload) b 0) p (now out) ⌝ }
+    requires { ⌜ Here (now list) (now payload) b × (w ≡ wire (kindAt (now list) (b / 6))) × Room (leadOf (now list) (now payload) b 0) p (now out) ⌝ }
     ensures { λ q. ⌜ Stored (leadOf (now (list .entry)) (now (payload .entry)) b 0) p (now (out .entry)) q (now (out .exit)) ⌝ }
 {
     let kind = list[b + 2];
@@ -228,7 +228,7 @@ fn put_record(
     b: usize,
     p: usize,
 ) -> usize
-    requires { ⌜ (now table ≡ take 25 wires) × Here (now list) (now payload) b p p × Room (tagOf true (at (now list) (b / 6)) ++ leadOf (now list) (now payload) b 0) p (now out) ⌝ }
+    requires { ⌜ (now table ≡ take 25 wires) × Here (now list) (now payload) b × Room (tagOf true (at (now list) (b / 6)) ++ leadOf (now list) (now payload) b 0) p (now out) ⌝ }
     ensures { λ q. ⌜ Stored (tagOf true (at (now (list .entry)) (b / 6)) ++ leadOf (now (list .entry)) (now (payload .entry)) b 0) p (now (out .entry)) q (now (out .exit)) ⌝ }
 {
     let number = list[b + 1];

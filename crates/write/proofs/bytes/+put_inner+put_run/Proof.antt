@@ -160,7 +160,7 @@ put-run-put-head-requires t c κs =
     let types = e .before .before .before .before .before .before .before .pre .1 .types in
     let h = here (turned t e) x in
     let is = head-here (turned t e) x (omega (arith, c .before .before .before .before .before .before .if2 .left, e .if1 .left)) in
-    (leads h types, h .before, room-as (sym (head-is h _ types is)) (room (turned t e) x))
+    (leads h types, omega (arith, x .stored .starts), room-as (sym (head-is h _ types is)) (room (turned t e) x))
 
 put-run-loop-less-2 : (t : ℕ) → put-run-lts.Need-loop-less-2 (put-run-claims t) (put-run-at t) put-run.Post put-run-Inv-loop put-run-μ-loop
 put-run-loop-less-2 t c = less (turned t (c .before .before .before .before .before .before .before .before .before .before)) (c .before .before .before .before .before .before .before .put-inner .ensures)
