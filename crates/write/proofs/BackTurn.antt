@@ -13,7 +13,7 @@ use Rattle.spec.specs.Writing.{body, tagOf}
 use Rattle.spec.proofs.VarintLaws.{lower-or-not}
 use Rattle.spec.proofs.WritingLaws.{bytesIn}
 use Rattle.write.specs.Backward.{Stored, Room, depthAt, kindAt, at, span, start, lead, isHead, Here, leadOf, runBytes, Run, Inner, isPacked, Ran}
-use Rattle.write.proofs.StoreLaws.{stored-then, stored-as, stored-at, stored-none, room-as}
+use Rattle.write.proofs.StoreLaws.{stored-then, stored-as, stored-none, room-as}
 use Rattle.write.proofs.SpanLaws.{bytes-none, bytes-at, bytes-from, start-le, start-over, start-low, start-same, start-here}
 use Rattle.write.proofs.CheckedLaws.{next-depth, leaf-next, deep-at}
 use Rattle.write.proofs.BodyLaws.{body-lead}
@@ -32,11 +32,6 @@ pub record Turned (table list payload out : List ℕ) (d upto pos b p : ℕ) (no
   pub back : Back list payload out d upto pos b p now
   pub more : 6 ≤ b
   pub deep : d ≤ getD list (b - 6) 0
-
--- the same answer, under other names
-pub ran-at : {tags : Bool} {list payload out now next : List ℕ} {d upto pos b c p q : ℕ} → Ran tags list payload out d upto pos b p now → c ≡ b → q ≡ p → next ≡ now
-    → Ran tags list payload out d upto pos c q next
-ran-at x e f g = record { begins = e ∙ x .begins; stored = stored-at (x .stored) f g }
 
 module _ {table list payload out : List ℕ} {d upto pos : ℕ} (r : Run true table list payload out d upto pos) where
   pub begin : Back list payload out d upto pos upto pos out
@@ -173,6 +168,17 @@ module _ {table list payload out now : List ℕ} {d upto pos b p : ℕ} (w : Tur
         lower-or-not m (b / 6) (λ l. l)
         (λ l. let same : m - 1 ≡ b / 6 - 1 = omega (arith, m-le) in absurd (omega (arith, head-depth, depth-here, ap (depthAt list) same)))
 
+    -- so that is a head
+    head-kind : isHead (kindAt list (m - 1)) ≡ true
+    head-kind = go (isHead (kindAt list (m - 1))) refl
+      where
+        go : (x : Bool) → isHead (kindAt list (m - 1)) ≡ x → isHead (kindAt list (m - 1)) ≡ true
+        go true e = e
+        go false e =
+            let next : depthAt list m ≤ depthAt list (m - 1) =
+            subst (λ (n : ℕ). depthAt list n ≤ depthAt list (m - 1)) after (leaf-next list (r .ends .passed) (m - 1) (omega (arith, some, has-some, placed .2)) e) in
+            absurd (omega (arith, deeper m (omega arith) has-some, head-depth))
+
     pub inner-run : Run (not (isPacked list (d + 1) b)) table list payload now (d + 1) b p
     inner-run = record {
       types = r .types;
@@ -205,6 +211,9 @@ module _ {table list payload out now : List ℕ} {d upto pos b p : ℕ} (w : Tur
     place : (c - 6) / 6 ≡ m - 1
     place = omega (arith, x .begins, some)
 
+    pub head-here : d < getD list (b - 6) 0 → isHead (kindAt list ((c - 6) / 6)) ≡ true
+    head-here l = ap (λ (j : ℕ). isHead (kindAt list j)) place ∙ head-kind l
+
     pub below : 6 ≤ c
     below = omega (arith, x .begins, some)
 
@@ -214,14 +223,8 @@ module _ {table list payload out now : List ℕ} {d upto pos b p : ℕ} (w : Tur
     own-is : tagOf true (at list ((c - 6) / 6)) ++ leadOf list payload (c - 6) (p - q) ≡ own
     own-is = ap₂ (λ (j n : ℕ). tagOf true (at list j) ++ lead (shape (kindAt list j)) payload (at list j) n) place count
 
-    pub here : Here list payload (c - 6) p q
-    here = record {
-      given = r .given;
-      six = omega (arith, x .begins, some);
-      inside = omega (arith, x .begins, some, m-le, placed .2);
-      before = omega (arith, x .stored .starts);
-      alone = λ e. omega (arith, x .stored .starts, ap length (leaf (sym (ap (λ (j : ℕ). isHead (kindAt list j)) place) ∙ e)));
-    }
+    pub here : Here list payload (c - 6)
+    here = record { given = r .given; six = omega (arith, x .begins, some); inside = omega (arith, x .begins, some, m-le, placed .2) }
 
     pub room : Room (tagOf true (at list ((c - 6) / 6)) ++ leadOf list payload (c - 6) (p - q)) q next
     room = room-as (sym own-is) (record {

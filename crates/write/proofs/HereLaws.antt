@@ -5,7 +5,7 @@ use native.Mathlib.Omega.{arith}
 use mathlib.Core.Path.{_≡_, refl, sym, ap, ap₂, _∙_}
 use mathlib.Core.Logic.{_≢_}
 use mathlib.Core.Bool.{true, false, false≢true}
-use mathlib.Core.List.{List}
+use mathlib.Core.List.{List, _++_}
 use lib.ListN.{length, take, getD}
 use lib.Dec.{leb}
 use borrow.Author.Tests.{leb-true}
@@ -17,7 +17,7 @@ use Rattle.spec.specs.Writing.{prefixed, tagOf}
 use Rattle.spec.proofs.RoundTrip.{hasContent, shape-11, shape-20}
 use Rattle.spec.proofs.Laws.{both}
 use Rattle.spec.proofs.RunLaws.{Fit, kind-small as kind-below, is-number, is-content}
-use Rattle.write.specs.Backward.{at, kindAt, plain, lead, isHead, Here, leadOf}
+use Rattle.write.specs.Backward.{at, kindAt, plain, lead, isHead, Here, leadOf, headOf, Leads}
 use Rattle.list.proofs.FitLaws.{type-of, type-small}
 use Rattle.write.proofs.KindLaws.{Head, of-message, of-packed, head}
 use Rattle.write.proofs.SpanLaws.{from}
@@ -34,7 +34,7 @@ content-lead (other startGroup) payload r n h = absurd (false≢true h)
 content-lead (other endGroup) payload r n h = absurd (false≢true h)
 content-lead (other nothing) payload r n h = absurd (false≢true h)
 
-module _ {list payload : List ℕ} {b mark p : ℕ} (h : Here list payload b mark p) where
+module _ {list payload : List ℕ} {b : ℕ} (h : Here list payload b) where
   -- the numbers of the record, as they are read at b
   pub read : (n : ℕ) → getD list (b + n) 0 ≡ getD list (6 * (b / 6) + n) 0
   read n = ap (λ (m : ℕ). getD list (m + n) 0) (h .six)
@@ -92,3 +92,11 @@ module _ {list payload : List ℕ} {b mark p : ℕ} (h : Here list payload b mar
   pub tag-at : {table : List ℕ} → table ≡ take 25 wires
       → encode (getD list (b + 1) 0 * 8 + getD table (getD list (b + 2) 0) 0) ≡ tagOf true (at list (b / 6))
   tag-at types = ap₂ (λ (m w : ℕ). encode (m * 8 + w)) (read 1) (type-at types)
+
+  -- a head, of the numbers as they are read
+  pub leads : {table : List ℕ} → table ≡ take 25 wires → Leads table list b
+  leads types = record { inside = h .inside; number = omega (arith, read 1, fit .small); kind = kind-small; type = byte-at types }
+
+  pub head-is : {table : List ℕ} (n : ℕ) → table ≡ take 25 wires → isHead (kindAt list (b / 6)) ≡ true
+      → headOf table list b n ≡ tagOf true (at list (b / 6)) ++ leadOf list payload b n
+  head-is n types is = ap₂ (λ (x y : List ℕ). x ++ y) (tag-at types) (sym (head-lead n is))

@@ -83,17 +83,25 @@ pub record Given (list payload : List ℕ) : Type 0 where
   pub passed : Passed (recordsOf list)
   pub held : Held payload (recordsOf list)
 
--- The record at the place b of the list. What is in it starts at p and ends before `mark`; where it is no head, that is nothing.
-pub record Here (list payload : List ℕ) (b mark p : ℕ) : Type 0 where
+-- the record at the place b of the list
+pub record Here (list payload : List ℕ) (b : ℕ) : Type 0 where
   pub given : Given list payload
   pub six : b ≡ 6 * (b / 6)
   pub inside : b + 6 ≤ length list
-  pub before : p ≤ mark
-  pub alone : isHead (kindAt list (b / 6)) ≡ false → mark ≡ p
 
 -- what stands between its tag and what is in it
 abbrev pub leadOf : List ℕ → List ℕ → ℕ → ℕ → List ℕ
 leadOf list payload b n = lead (shape (kindAt list (b / 6))) payload (at list (b / 6)) n
+
+-- a head in front of n bytes, of the numbers that are read at b
+abbrev pub headOf : List ℕ → List ℕ → ℕ → ℕ → List ℕ
+headOf table list b n = encode (getD list (b + 1) 0 * 8 + getD table (getD list (b + 2) 0) 0) ++ encode n
+
+pub record Leads (table list : List ℕ) (b : ℕ) : Type 0 where
+  pub inside : b + 6 ≤ length list
+  pub number : getD list (b + 1) 0 ≤ 536870911
+  pub kind : getD list (b + 2) 0 < 25
+  pub type : getD table (getD list (b + 2) 0) 0 ≤ 7
 
 -- whole records before the place `upto`
 pub record Upto (list : List ℕ) (upto : ℕ) : Type 0 where

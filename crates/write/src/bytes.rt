@@ -13,7 +13,7 @@ ghost use Rattle.spec.specs.Record.{recordsOf};
 ghost use Rattle.spec.specs.Writing.{tagOf, written};
 ghost use Rattle.spec.proofs.WritingLaws.{bytesIn};
 ghost use Rattle.rt.specs.SizeParts.{coded};
-ghost use Rattle.write.specs.Backward.{Stored, Room, at, kindAt, span, start, plain, Given, Here, leadOf, Upto, Run, Inner, isPacked, Values, Ran};
+ghost use Rattle.write.specs.Backward.{Stored, Room, at, kindAt, span, start, plain, Given, Here, leadOf, headOf, Leads, Upto, Run, Inner, isPacked, Values, Ran};
 use crate::sizes::is_head;
 use rt::compute_raw_varint64_size;
 use wire::zigzag::zigzag;
@@ -203,18 +203,10 @@ fn put_content(payload: &[u8], out: &mut [u8], p: usize, start: u64, stop: u64) 
     q
 }
 
-// What stands between the tag of the record at b and what is in it, which ends before `mark` and starts at p.
-fn put_body(
-    list: &[u64],
-    payload: &[u8],
-    out: &mut [u8],
-    b: usize,
-    w: u8,
-    mark: usize,
-    p: usize,
-) -> usize
-    requires { ⌜ Here (now list) (now payload) b mark p × (w ≡ wire (kindAt (now list) (b / 6))) × Room (leadOf (now list) (now payload) b (mark - p)) p (now out) ⌝ }
-    ensures { λ q. ⌜ Stored (leadOf (now (list .entry)) (now (payload .entry)) b (mark - p)) p (now (out .entry)) q (now (out .exit)) ⌝ }
+// What stands behind the tag of the record at b, in which nothing is.
+fn put_body(list: &[u64], payload: &[u8], out: &mut [u8], b: usize, w: u8, p: usize) -> usize
+    requires { ⌜ Here (now list) (now payload) b × (w ≡ wire (kindAt (now list) (b / 6))) × Room (leadOf (now list) (now payload) b 0) p (now out) ⌝ }
+    ensures { λ q. ⌜ Stored (leadOf (now (list .entry)) (now (payload .entry)) b 0) p (now (out .entry)) q (now (out .exit)) ⌝ }
 {
     let kind = list[b + 2];
     if w != 2 {
@@ -224,27 +216,47 @@ fn put_body(
     if !is_head(kind) {
         q = put_content(payload, out, p, list[b + 4], list[b + 5]);
     }
-    put_varint(out, q, (mark - q) as u64)
+    put_varint(out, q, (p - q) as u64)
 }
 
-// The record at b, in front of what is in it.
+// The record at b, in which nothing is.
 fn put_record(
     table: &[u8; 25],
     list: &[u64],
     payload: &[u8],
     out: &mut [u8],
     b: usize,
-    mark: usize,
     p: usize,
 ) -> usize
-    requires { ⌜ (now table ≡ take 25 wires) × Here (now list) (now payload) b mark p × Room (tagOf true (at (now list) (b / 6)) ++ leadOf (now list) (now payload) b (mark - p)) p (now out) ⌝ }
-    ensures { λ q. ⌜ Stored (tagOf true (at (now (list .entry)) (b / 6)) ++ leadOf (now (list .entry)) (now (payload .entry)) b (mark - p)) p (now (out .entry)) q (now (out .exit)) ⌝ }
+    requires { ⌜ (now table ≡ take 25 wires) × Here (now list) (now payload) b × Room (tagOf true (at (now list) (b / 6)) ++ leadOf (now list) (now payload) b 0) p (now out) ⌝ }
+    ensures { λ q. ⌜ Stored (tagOf true (at (now (list .entry)) (b / 6)) ++ leadOf (now (list .entry)) (now (payload .entry)) b 0) p (now (out .entry)) q (now (out .exit)) ⌝ }
 {
     let number = list[b + 1];
     let kind = list[b + 2];
     let i = kind as usize;
     let w = table[i];
-    let q = put_body(list, payload, out, b, w, mark, p);
+    let q = put_body(list, payload, out, b, w, p);
+    let tag = number * 8 + w as u64;
+    put_varint(out, q, tag)
+}
+
+// The head at b, in front of what is in it, which ends before `mark` and starts at p.
+fn put_head(
+    table: &[u8; 25],
+    list: &[u64],
+    out: &mut [u8],
+    b: usize,
+    mark: usize,
+    p: usize,
+) -> usize
+    requires { ⌜ Leads (now table) (now list) b × (p ≤ mark) × Room (headOf (now table) (now list) b (mark - p)) p (now out) ⌝ }
+    ensures { λ q. ⌜ Stored (headOf (now (table .entry)) (now (list .entry)) b (mark - p)) p (now (out .entry)) q (now (out .exit)) ⌝ }
+{
+    let number = list[b + 1];
+    let kind = list[b + 2];
+    let i = kind as usize;
+    let w = table[i];
+    let q = put_varint(out, p, (mark - p) as u64);
     let tag = number * 8 + w as u64;
     put_varint(out, q, tag)
 }
@@ -337,14 +349,14 @@ fn put_run(
         if d < depth {
             return Back { at: b, pos: p };
         }
-        let mark = p;
-        if depth < d {
+        if d == depth {
+            b -= 6;
+            p = put_record(table, list, payload, out, b, p);
+        } else {
             let r = put_inner(table, list, payload, out, depth + 1, b, p);
-            b = r.at;
-            p = r.pos;
+            b = r.at - 6;
+            p = put_head(table, list, out, b, p, r.pos);
         }
-        b -= 6;
-        p = put_record(table, list, payload, out, b, mark, p);
     }
     Back { at: b, pos: p }
 }

@@ -1,13 +1,18 @@
 -- The cycle of calls {put_inner, put_run}: the loop over a run calls put_inner for the run in a record, which calls put_run where that run has tags.
 -- The measure is how many records are left to be written: those before `upto`, less the heads around the run, of which there is one for each level
 -- and which the callers write. Assumes nothing.
-use Prim.Native.Nat.{ℕ, _+_, _-_, _*_, _<_}
-use mathlib.Core.Logic.{⊎-elim}
-use mathlib.Core.Bool.{not}
+use Prim.Native.Nat.{ℕ, _+_, _-_, _*_, _/_, _<_}
+use mathlib.Core.Path.{_≡_, sym, ap}
+use mathlib.Core.Bool.{true}
+use mathlib.Core.List.{List, _++_}
 use native.Mathlib.Omega.{arith}
-use Rattle.write.specs.Backward.{isPacked, Ran}
+use lib.ListN.{getD}
+use Rattle.spec.specs.Writing.{tagOf}
+use Rattle.write.specs.Backward.{at, leadOf}
 use Rattle.write.proofs.InnerLaws.{values, ran-values, run, ran-run}
-use Rattle.write.proofs.BackTurn.{Back, Turned, ran-at, begin, ran-all, ran-to, inner-run, inner-in, falls as level-falls, fits, none-in, below, here, room, again, less}
+use Rattle.write.proofs.BackTurn.{Back, Turned, begin, ran-all, ran-to, inner-run, inner-in, falls as level-falls, fits, none-in, head-here, below, here, room, again, less}
+use Rattle.write.proofs.HereLaws.{leads, head-is}
+use Rattle.write.proofs.StoreLaws.{stored-as, room-as}
 use borrow.Fn.Kinds.{In}
 use borrow.Fn.PlainCycle.{Measures, is, falls, and}
 use Rattle.write.proofs.bytes.put_inner.Reads as put-inner
@@ -17,6 +22,7 @@ use Rattle.write.proofs.bytes.put_run.Reads as put-run
 use Rattle.write.proofs.bytes.put_run.Kinds as put-run-kinds
 use Rattle.write.proofs.bytes.+put_inner+put_run.Lts-put_run as put-run-lts
 use Rattle.write.proofs.bytes.packed_from.Reads as packed-from-reads
+use Rattle.write.proofs.bytes.put_head.Reads as put-head-reads
 use Rattle.write.proofs.bytes.put_record.Reads as put-record-reads
 use Rattle.write.proofs.bytes.put_values.Reads as put-values-reads
 use Rattle.write.proofs.bytes.+put_inner+put_run.{statement}
@@ -76,7 +82,7 @@ put-inner-returns-2 t c =
     ran-run (o .pre .1 .0) (o .pre .1 .1) (c .before .before .before .before .before .packed-from .ensures) (omega arith) (c .before .before .put-run .ensures)
 
 abbrev put-run-claims : ℕ → put-run-lts.Claims
-put-run-claims t = (put-inner-below t, put-inner.Post, put-record-reads.Asked, put-record-reads.Learnt)
+put-run-claims t = (put-record-reads.Asked, put-record-reads.Learnt, put-inner-below t, put-inner.Post, put-head-reads.Asked, put-head-reads.Learnt)
 
 abbrev put-run-Inv-loop : put-run-lts.InvT-loop
 put-run-Inv-loop table list payload out₀ depth upto pos b₀ p₀ out b p = Back list payload out₀ depth upto pos b p out
@@ -111,41 +117,60 @@ put-run-same-length t c = c .before .before .before .loop .inv .stored .long
 put-run-returns : (t : ℕ) → put-run-lts.Need-returns (put-run-claims t) (put-run-at t) put-run.Post put-run-Inv-loop put-run-μ-loop
 put-run-returns t c = ran-to (c .before .before .before .before .before .before .before .pre .1) (c .before .before .before .loop .inv) (c .before .before .loop-test .taken) (c .if1 .taken)
 
+-- nothing lies in a record at the run's own depth
+alone : (list payload : List ℕ) (b p : ℕ) → tagOf true (at list (b / 6)) ++ leadOf list payload b (p - p) ≡ tagOf true (at list (b / 6)) ++ leadOf list payload b 0
+alone list payload b p = let none : p - p ≡ 0 = omega arith in ap (λ (n : ℕ). tagOf true (at list (b / 6)) ++ leadOf list payload b n) none
+
+put-run-put-record-requires : (t : ℕ) → put-run-lts.Need-put-record-requires (put-run-claims t) (put-run-at t) put-run.Post put-run-Inv-loop put-run-μ-loop
+put-run-put-record-requires t c κs =
+    let e = c .before .before in
+    let a = e .before .before .before .before .before .before .before .args in
+    let l = e .before .before .before .loop in
+    let x = none-in (turned t e) (omega (arith, c .before .if2 .taken)) in
+    (e .before .before .before .before .before .before .before .pre .1 .types, here (turned t e) x, room-as (alone (a .list .now) (a .payload .now) (l .b - 6) (l .p)) (room (turned t e) x))
+
+put-run-loop-less : (t : ℕ) → put-run-lts.Need-loop-less (put-run-claims t) (put-run-at t) put-run.Post put-run-Inv-loop put-run-μ-loop
+put-run-loop-less t c = omega (arith, c .before .before .before .before .before .before .before .loop-test .taken)
+
+put-run-loop-again : (t : ℕ) → put-run-lts.Need-loop-again (put-run-claims t) (put-run-at t) put-run.Post put-run-Inv-loop put-run-μ-loop
+put-run-loop-again t c =
+    let e = c .before .before .before .before .before in
+    let a = e .before .before .before .before .before .before .before .args in
+    let l = e .before .before .before .loop in
+    again (turned t e) (none-in (turned t e) (omega (arith, c .before .before .before .before .if2 .taken)))
+    (stored-as (sym (alone (a .list .now) (a .payload .now) (l .b - 6) (l .p))) (c .before .before .put-record .ensures))
+
 put-run-add-put-inner : (t : ℕ) → put-run-lts.Need-add-put-inner (put-run-claims t) (put-run-at t) put-run.Post put-run-Inv-loop put-run-μ-loop
-put-run-add-put-inner t c =
-    omega (arith, fits (turned t (c .before .before)) (c .before .if2 .taken))
+put-run-add-put-inner t c = omega (arith, fits (turned t (c .before .before)) (omega (arith, c .before .if2 .left, c .before .before .if1 .left)))
 
 put-run-put-inner-requires : (t : ℕ) → put-run-lts.Need-put-inner-requires (put-run-claims t) (put-run-at t) put-run.Post put-run-Inv-loop put-run-μ-loop
 put-run-put-inner-requires t c κs =
     let e = c .before .before in
-    (omega (arith, e .before .before .before .before .before .before .before .pre .0, level-falls (turned t e) (c .before .if2 .taken)), (inner-run (turned t e) (c .before .if2 .taken), inner-in (turned t e) (c .before .if2 .taken)))
-
--- what lies in the record before b was written, if there is any
-joined : (t : ℕ) (c : put-run-lts.Joined2 (put-run-claims t) (put-run-at t) put-run.Post put-run-Inv-loop put-run-μ-loop) →
-    let a = c .before .before .before .before .before .before .before .before .args in
-    let l = c .before .before .before .before .loop in
-    Ran (not (isPacked (a .list .now) (a .depth + 1) (l .b))) (a .list .now) (a .payload .now) (l .out) (a .depth + 1) (l .b) (l .p) (c .if2 .b) (c .if2 .p) (c .if2 .out)
-joined t c =
-    let e = c .before in
-    ⊎-elim (λ w. ran-at (w .2 .ensures) (w .6) (w .7) (w .5))
-    (λ w. ran-at (none-in (turned t e) (omega (arith, w .0 .left))) (w .2) (w .3) (w .1)) (c .if2 .came)
+    let a = e .before .before .before .before .before .before .before .args in
+    let more : a .depth < getD (a .list .now) (e .before .before .before .loop .b - 6) 0 = omega (arith, c .before .if2 .left, e .if1 .left) in
+    (omega (arith, e .before .before .before .before .before .before .before .pre .0, level-falls (turned t e) more), (inner-run (turned t e) more, inner-in (turned t e) more))
 
 put-run-sub-b : (t : ℕ) → put-run-lts.Need-sub-b (put-run-claims t) (put-run-at t) put-run.Post put-run-Inv-loop put-run-μ-loop
-put-run-sub-b t c =
-    below (turned t (c .before .before)) (joined t (c .before))
+put-run-sub-b t c = below (turned t (c .before .before .before .before .before .before)) (c .before .before .before .put-inner .ensures)
 
-put-run-put-record-requires : (t : ℕ) → put-run-lts.Need-put-record-requires (put-run-claims t) (put-run-at t) put-run.Post put-run-Inv-loop put-run-μ-loop
-put-run-put-record-requires t c κs =
-    let e = c .before .before .before in
-    (e .before .before .before .before .before .before .before .pre .1 .types, here (turned t e) (joined t (c .before .before)), room (turned t e) (joined t (c .before .before)))
+put-run-put-head-requires : (t : ℕ) → put-run-lts.Need-put-head-requires (put-run-claims t) (put-run-at t) put-run.Post put-run-Inv-loop put-run-μ-loop
+put-run-put-head-requires t c κs =
+    let e = c .before .before .before .before .before .before .before in
+    let x = c .before .before .before .before .put-inner .ensures in
+    let types = e .before .before .before .before .before .before .before .pre .1 .types in
+    let h = here (turned t e) x in
+    let is = head-here (turned t e) x (omega (arith, c .before .before .before .before .before .before .if2 .left, e .if1 .left)) in
+    (leads h types, omega (arith, x .stored .starts), room-as (sym (head-is h _ types is)) (room (turned t e) x))
 
-put-run-loop-less : (t : ℕ) → put-run-lts.Need-loop-less (put-run-claims t) (put-run-at t) put-run.Post put-run-Inv-loop put-run-μ-loop
-put-run-loop-less t c =
-    less (turned t (c .before .before .before .before .before .before)) (joined t (c .before .before .before .before .before))
+put-run-loop-less-2 : (t : ℕ) → put-run-lts.Need-loop-less-2 (put-run-claims t) (put-run-at t) put-run.Post put-run-Inv-loop put-run-μ-loop
+put-run-loop-less-2 t c = less (turned t (c .before .before .before .before .before .before .before .before .before .before)) (c .before .before .before .before .before .before .before .put-inner .ensures)
 
-put-run-loop-again : (t : ℕ) → put-run-lts.Need-loop-again (put-run-claims t) (put-run-at t) put-run.Post put-run-Inv-loop put-run-μ-loop
-put-run-loop-again t c =
-    again (turned t (c .before .before .before .before .before .before)) (joined t (c .before .before .before .before .before)) (c .before .before .put-record .ensures)
+put-run-loop-again-2 : (t : ℕ) → put-run-lts.Need-loop-again-2 (put-run-claims t) (put-run-at t) put-run.Post put-run-Inv-loop put-run-μ-loop
+put-run-loop-again-2 t c =
+    let e = c .before .before .before .before .before .before .before .before .before .before in
+    let x = c .before .before .before .before .before .before .before .put-inner .ensures in
+    let is = head-here (turned t e) x (omega (arith, c .before .before .before .before .before .before .before .before .before .if2 .left, e .if1 .left)) in
+    again (turned t e) x (stored-as (head-is (here (turned t e) x) _ (e .before .before .before .before .before .before .before .pre .1 .types) is) (c .before .before .put-head .ensures))
 
 put-run-same-length-2 : (t : ℕ) → put-run-lts.Need-same-length-2 (put-run-claims t) (put-run-at t) put-run.Post put-run-Inv-loop put-run-μ-loop
 put-run-same-length-2 t c = c .before .loop .inv .stored .long
@@ -175,11 +200,14 @@ pub +put-inner+put-run-spec : {M : Type 1} → statement M
     (put-run-shared-slice-read-d t)
     (put-run-same-length t)
     (put-run-returns t)
-    (put-run-add-put-inner t)
-    (put-run-put-inner-requires t)
-    (put-run-sub-b t)
     (put-run-put-record-requires t)
     (put-run-loop-less t)
     (put-run-loop-again t)
+    (put-run-add-put-inner t)
+    (put-run-put-inner-requires t)
+    (put-run-sub-b t)
+    (put-run-put-head-requires t)
+    (put-run-loop-less-2 t)
+    (put-run-loop-again-2 t)
     (put-run-same-length-2 t)
     (put-run-returns-2 t)

@@ -1,4 +1,4 @@
--- `write::bytes::put_body` meets its contract: a value, or the length of what ends before `mark`, which for a content was stored just before.
+-- `write::bytes::put_body` meets its contract: a value, or a length, with the content behind it where there is one.
 -- Assumes nothing.
 use Prim.Native.Nat.{ℕ, _+_, _-_, _/_, _≤_}
 use mathlib.Core.Path.{_≡_, sym, ap, _∙_}
@@ -21,10 +21,10 @@ use Rattle.write.proofs.bytes.put_body.Tie as tie
 plain-is : (c : tie.Then1) →
     let a = c .before .before .before .before .before .args in
     let kind = getD (a .list .now) (a .b + 2) 0 in
-    (isScalar (shape kind) ≡ true) × (plain (shape kind) (getD (a .list .now) (a .b + 3) 0) ≡ leadOf (a .list .now) (a .payload .now) (a .b) (a .mark - a .p))
+    (isScalar (shape kind) ≡ true) × (plain (shape kind) (getD (a .list .now) (a .b + 3) 0) ≡ leadOf (a .list .now) (a .payload .now) (a .b) 0)
 plain-is c =
     let o = c .before .before .before .before .before in
-    number-lead (o .pre .0) (o .args .mark - o .args .p) (λ e. c .if1 .taken (o .pre .1 ∙ e))
+    number-lead (o .pre .0) 0 (λ e. c .if1 .taken (o .pre .1 ∙ e))
 
 put-plain-requires : tie.Need-put-plain-requires
 put-plain-requires c κs =
@@ -57,21 +57,21 @@ put-content-requires c κs =
       x .0,
       x .1,
       record {
-        few = omega (arith, o .pre .2 .few, ap length (x .2 (o .args .mark - o .args .p)), length-append (encode (length a)) a);
+        few = omega (arith, o .pre .2 .few, ap length (x .2 0), length-append (encode (length a)) a);
         inside = o .pre .2 .inside;
       },
     )
 
 -- what was stored when the length is: a content, or nothing
-record Content (lead : List ℕ) (mark p : ℕ) (out₀ : List ℕ) (q : ℕ) (out : List ℕ) : Type 0 where
+record Content (lead : List ℕ) (p : ℕ) (out₀ : List ℕ) (q : ℕ) (out : List ℕ) : Type 0 where
   new : List ℕ
   stored : Stored new p out₀ q out
-  is : encode (mark - q) ++ new ≡ lead
-  before : q ≤ mark
+  is : encode (p - q) ++ new ≡ lead
+  before : q ≤ p
 
 content : (c : tie.Joined2) →
     let a = c .before .before .before .before .before .before .before .args in
-    Content (leadOf (a .list .now) (a .payload .now) (a .b) (a .mark - a .p)) (a .mark) (a .p) (a .out .now) (c .if2 .q) (c .if2 .out)
+    Content (leadOf (a .list .now) (a .payload .now) (a .b) 0) (a .p) (a .out .now) (c .if2 .q) (c .if2 .out)
 content c =
     let o = c .before .before .before .before .before .before .before in
     let a = o .args in
@@ -81,16 +81,16 @@ content c =
     let x = content-at (o .pre .0) (delimited (c .before)) none in
     let new : List ℕ = part (getD (a .list .now) (a .b + 4) 0) (getD (a .list .now) (a .b + 5) 0) (a .payload .now) in
     let s : Stored new (a .p) (a .out .now) (c .if2 .q) (c .if2 .out) = stored-at (w .4 .ensures) (w .8) (w .7) in
-    let count : a .mark - c .if2 .q ≡ length new = omega (arith, o .pre .0 .alone none, s .starts) in
-    record { new = new; stored = s; is = ap (λ (m : ℕ). encode m ++ new) count ∙ sym (x .2 (a .mark - a .p)); before = omega (arith, o .pre .0 .before, s .starts) })
+    let count : a .p - c .if2 .q ≡ length new = omega (arith, s .starts) in
+    record { new = new; stored = s; is = ap (λ (m : ℕ). encode m ++ new) count ∙ sym (x .2 0); before = omega (arith, s .starts) })
     (λ w.
     let is = sym (ap isHead (read (o .pre .0) 2)) ∙ sym (c .before .is-head .ensures) ∙ sym (Bool·not-not (c .before .is-head .result)) ∙ ap not (w .0 .left) in
-    let count : a .mark - c .if2 .q ≡ a .mark - a .p = omega (arith, w .2) in
+    let count : a .p - c .if2 .q ≡ 0 = omega (arith, w .2) in
     record {
       new = [];
       stored = stored-at (stored-none (a .p) (a .out .now)) (w .2) (w .1);
-      is = append-nil (encode (a .mark - c .if2 .q)) ∙ ap encode count ∙ sym (head-lead (o .pre .0) (a .mark - a .p) is);
-      before = omega (arith, o .pre .0 .before, w .2);
+      is = append-nil (encode (a .p - c .if2 .q)) ∙ ap encode count ∙ sym (head-lead (o .pre .0) 0 is);
+      before = omega (arith, w .2);
     })
     (c .if2 .came)
 
@@ -103,14 +103,13 @@ put-varint-requires c κs =
     let x = content (c .before .before) in
     let q : ℕ = c .before .before .if2 .q in
     record {
-      few = omega (arith, o .pre .2 .few, ap length (x .is), x .stored .starts, length-append (encode (o .args .mark - q)) (x .new));
+      few = omega (arith, o .pre .2 .few, ap length (x .is), x .stored .starts, length-append (encode (o .args .p - q)) (x .new));
       inside = omega (arith, o .pre .2 .inside, x .stored .starts, x .stored .long);
     }
 
 returns-2 : tie.Need-returns-2
 returns-2 c =
     let j = c .before .before .before .before .before in
-    let o = j .before .before .before .before .before .before .before in
     let x = content j in
     stored-as (x .is) (stored-then (x .stored) (c .before .before .put-varint .ensures))
 

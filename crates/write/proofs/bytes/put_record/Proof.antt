@@ -16,9 +16,9 @@ element-copy-out-w : tie.Need-element-copy-out-w
 element-copy-out-w c = kind-small (c .before .before .before .before .before .pre .1)
 
 -- how many bytes go before p
-parts : (c : tie.Start) → let a = c .args in let own = at (a .list .now) (a .b / 6) in let body = leadOf (a .list .now) (a .payload .now) (a .b) (a .mark - a .p) in
+parts : (c : tie.Start) → let a = c .args in let own = at (a .list .now) (a .b / 6) in let body = leadOf (a .list .now) (a .payload .now) (a .b) 0 in
     length (tagOf true own) + length body ≤ a .p
-parts c = omega (arith, c .pre .2 .few, length-append (tagOf true (at (c .args .list .now) (c .args .b / 6))) (leadOf (c .args .list .now) (c .args .payload .now) (c .args .b) (c .args .mark - c .args .p)))
+parts c = omega (arith, c .pre .2 .few, length-append (tagOf true (at (c .args .list .now) (c .args .b / 6))) (leadOf (c .args .list .now) (c .args .payload .now) (c .args .b) 0))
 
 put-body-requires : tie.Need-put-body-requires
 put-body-requires c κs =
