@@ -46,6 +46,11 @@ pub record Storing (value : ℕ) (before : List ℕ) (at : ℕ) (out : List ℕ)
 pub storing-begins : {value at : ℕ} {before : List ℕ} → at + length (encode value) ≤ length before → value < 2 ^ 64 → Storing value before at before value at
 storing-begins h below = record { same = refl; place = refl; long = refl; room = h; below = below }
 
+-- v is what is left of it
+pub storing-left : {value at v i : ℕ} {before out : List ℕ} → i + length (encode v) ≡ at + length (encode value) → sets out i (encode v) ≡ sets before at (encode value)
+    → length out ≡ length before → at + length (encode value) ≤ length before → v < 2 ^ 64 → Storing value before at out v i
+storing-left place same long h below = record { same = same; place = place; long = long; room = omega arith; below = below }
+
 module _ {value : ℕ} {before : List ℕ} {at : ℕ} {out : List ℕ} {v i : ℕ} (h : Storing value before at out v i) where
   -- one run of stores behind another
   pub storing-on : {out′ : List ℕ} {v′ i′ : ℕ} → Storing v out i out′ v′ i′ → Storing value before at out′ v′ i′

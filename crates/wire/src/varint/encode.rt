@@ -17,14 +17,41 @@ pub fn encoded_varint64_len(value: u64) -> usize
     (640 - 9 * zeros) / 64
 }
 
-// Stores the varint from `at` on, where there is room for it, and returns the position behind it: four bytes a turn, then two, as most
-// of the time goes into the turns.
+// Stores the first eight bytes of a varint of nine or ten, each of which has more behind it, and returns what is left of the value.
+fn store_eight(value: u64, out: &mut [u8], at: usize) -> u64
+    requires { ⌜ (0x100_0000_0000_0000 ≤ value) × (at + length (encode value) ≤ length (now out)) ⌝ }
+    ensures { λ r. ⌜ (8 + length (encode r) ≡ length (encode value)) × (sets (now (out .exit)) (at + 8) (encode r) ≡ sets (now (out .entry)) at (encode value)) ⌝ }
+{
+    let v1 = value / 128;
+    let v2 = v1 / 128;
+    let v3 = v2 / 128;
+    let v4 = v3 / 128;
+    let v5 = v4 / 128;
+    let v6 = v5 / 128;
+    let v7 = v6 / 128;
+    out[at] = (128 + value % 128) as u8;
+    out[at + 1] = (128 + v1 % 128) as u8;
+    out[at + 2] = (128 + v2 % 128) as u8;
+    out[at + 3] = (128 + v3 % 128) as u8;
+    out[at + 4] = (128 + v4 % 128) as u8;
+    out[at + 5] = (128 + v5 % 128) as u8;
+    out[at + 6] = (128 + v6 % 128) as u8;
+    out[at + 7] = (128 + v7 % 128) as u8;
+    v7 / 128
+}
+
+// Stores the varint from `at` on, where there is room for it, and returns the position behind it: eight bytes at once, then four a turn, then
+// two, as most of the time goes into the turns.
 fn store(value: u64, out: &mut [u8], at: usize) -> usize
     requires { ⌜ at + length (encode value) ≤ length (now out) ⌝ }
     ensures { λ r. ⌜ (r ≡ at + length (encode value)) × (now (out .exit) ≡ sets (now (out .entry)) at (encode value)) ⌝ }
 {
     let mut v = value;
     let mut i = at;
+    if 0x100_0000_0000_0000 <= v {
+        v = store_eight(v, out, i);
+        i += 8;
+    }
     while 0x1000_0000 <= v {
         let v1 = v / 128;
         let v2 = v1 / 128;

@@ -1,16 +1,18 @@
--- `wire::varint::encode::store` meets its contract. Both loops keep `Storing`, whose laws answer each store; their measure is what is still to be stored.
+-- `wire::varint::encode::store` meets its contract. The eight bytes at once and both loops keep `Storing`, whose laws answer each store; the loops' measure is what is
+-- still to be stored.
 -- Assumes nothing.
 use Prim.Native.Nat.{_+_, _<_}
 use native.Mathlib.Omega.{arith}
 use mathlib.Core.Path.{refl, ap}
+use mathlib.Core.Logic.{⊎-elim}
 use borrow.Author.Needs.{needs}
 use lib.ListN.{length, length-set}
-use Rattle.wire.proofs.VarintStores.{Storing, encode-ends, bytes-beyond, storing-begins, storing-on, stored-byte, stored-last}
+use Rattle.wire.proofs.VarintStores.{Storing, encode-ends, bytes-beyond, storing-begins, storing-left, storing-on, stored-byte, stored-last}
 use Rattle.wire.proofs.varint.encode.store.Statement.{statement}
 use Rattle.wire.proofs.varint.encode.store.Tie as tie
 
 abbrev Inv-loop : tie.InvT-loop
-Inv-loop value out₀ at v₀ i₀ out v i = Storing value out₀ at out v i
+Inv-loop value out₀ at v₀ i₀ out v i = Storing v₀ out₀ i₀ out v i
 
 abbrev μ-loop : tie.MeasureT-loop
 μ-loop value out₀ at v₀ i₀ out v i = v
@@ -21,39 +23,56 @@ Inv-loop2 value out₀ at v₀ i₀ out v i = Storing v₀ out₀ i₀ out v i
 abbrev μ-loop2 : tie.MeasureT-loop2
 μ-loop2 value out₀ at v₀ i₀ out v i = v
 
+store-eight-requires : tie.Need-store-eight-requires Inv-loop μ-loop Inv-loop2 μ-loop2
+store-eight-requires c κs = (c .before .if1 .taken, c .before .before .before .pre)
+
+add-i : tie.Need-add-i Inv-loop μ-loop Inv-loop2 μ-loop2
+add-i c = omega arith
+
+-- before the loops, whether eight bytes were stored or none
+joined : (c : tie.Joined1 Inv-loop μ-loop Inv-loop2 μ-loop2) →
+    let a = c .before .before .args in
+    Storing (a .value) (a .out .now) (a .at) (c .if1 .out) (c .if1 .v) (c .if1 .i)
+joined c =
+    let start = c .before .before in
+    ⊎-elim
+    (λ w. rw (w .5, w .6, w .7) (storing-left (omega (arith, w .2 .ensures .0)) (w .2 .ensures .1) (w .3 .given) (start .pre) (omega arith)))
+    (λ w. rw (w .1, w .2, w .3) (storing-begins (start .pre) (omega arith)))
+    (c .if1 .came)
+
 loop-holds : tie.Need-loop-holds Inv-loop μ-loop Inv-loop2 μ-loop2
-loop-holds c = storing-begins (c .pre) (omega arith)
+loop-holds c = storing-begins (joined c .room) (joined c .below)
 
 -- four bytes, with one more behind them
 four : (c : tie.In-loop Inv-loop μ-loop Inv-loop2 μ-loop2) → c .before .loop .i + 4 < length (c .before .loop .out)
 four c = omega (arith, bytes-beyond 4 (c .before .loop .v) (c .loop-test .taken) (c .before .loop .inv .below))
 
 slice-write-out : tie.Need-slice-write-out Inv-loop μ-loop Inv-loop2 μ-loop2
-slice-write-out c = omega (arith, four c)
+slice-write-out c = omega (arith, four (c .before))
 
 slice-write-out-2 : tie.Need-slice-write-out-2 Inv-loop μ-loop Inv-loop2 μ-loop2
-slice-write-out-2 c = simp length-set (omega (arith, four c))
+slice-write-out-2 c = simp length-set (omega (arith, four (c .before .before)))
 
 slice-write-out-3 : tie.Need-slice-write-out-3 Inv-loop μ-loop Inv-loop2 μ-loop2
-slice-write-out-3 c = simp length-set (omega (arith, four c))
+slice-write-out-3 c = simp length-set (omega (arith, four (c .before .before)))
 
 slice-write-out-4 : tie.Need-slice-write-out-4 Inv-loop μ-loop Inv-loop2 μ-loop2
-slice-write-out-4 c = simp length-set (omega (arith, four c))
+slice-write-out-4 c = simp length-set (omega (arith, four (c .before .before)))
 
 add-out-3 : tie.Need-add-out-3 Inv-loop μ-loop Inv-loop2 μ-loop2
-add-out-3 c = omega (arith, four c)
+add-out-3 c = omega (arith, four (c .before .before), joined (c .before .before .before .before) .long)
 
 add-out-5 : tie.Need-add-out-5 Inv-loop μ-loop Inv-loop2 μ-loop2
-add-out-5 c = omega (arith, four c)
+add-out-5 c = omega (arith, four (c .before .before), joined (c .before .before .before .before) .long)
 
 add-out-7 : tie.Need-add-out-7 Inv-loop μ-loop Inv-loop2 μ-loop2
-add-out-7 c = omega (arith, four c)
+add-out-7 c = omega (arith, four (c .before .before), joined (c .before .before .before .before) .long)
 
-add-i : tie.Need-add-i Inv-loop μ-loop Inv-loop2 μ-loop2
-add-i c = omega (arith, four c)
+add-i-2 : tie.Need-add-i-2 Inv-loop μ-loop Inv-loop2 μ-loop2
+add-i-2 c = omega (arith, four (c .before .before), joined (c .before .before .before .before) .long)
 
 loop-again : tie.Need-loop-again Inv-loop μ-loop Inv-loop2 μ-loop2
-loop-again c = stored-byte (stored-byte (stored-byte (stored-byte (c .before .loop .inv) (omega arith) refl) (omega arith) (omega arith)) (omega arith) (omega arith)) (omega arith) (omega arith)
+loop-again c = stored-byte (stored-byte (stored-byte (stored-byte (c .before .before .before .loop .inv) (omega arith) refl) (omega arith) (omega arith)) (omega arith) (omega arith)) (omega arith) (omega arith)
 
 loop2-holds : tie.Need-loop2-holds Inv-loop μ-loop Inv-loop2 μ-loop2
 loop2-holds c = storing-begins (c .before .loop .inv .room) (c .before .loop .inv .below)
@@ -63,58 +82,59 @@ two : (c : tie.In-loop2 Inv-loop μ-loop Inv-loop2 μ-loop2) → c .before .loop
 two c = omega (arith, bytes-beyond 2 (c .before .loop2 .v) (c .loop2-test .taken) (c .before .loop2 .inv .below))
 
 slice-write-out-5 : tie.Need-slice-write-out-5 Inv-loop μ-loop Inv-loop2 μ-loop2
-slice-write-out-5 c = omega (arith, two c)
+slice-write-out-5 c = omega (arith, two (c .before))
 
 slice-write-out-6 : tie.Need-slice-write-out-6 Inv-loop μ-loop Inv-loop2 μ-loop2
-slice-write-out-6 c = simp length-set (omega (arith, two c))
+slice-write-out-6 c = simp length-set (omega (arith, two (c .before .before)))
 
 add-out-10 : tie.Need-add-out-10 Inv-loop μ-loop Inv-loop2 μ-loop2
-add-out-10 c = omega (arith, two c)
+add-out-10 c = omega (arith, two (c .before .before), joined (c .before .before .before .before .before .before) .long)
 
-add-i-2 : tie.Need-add-i-2 Inv-loop μ-loop Inv-loop2 μ-loop2
-add-i-2 c = omega (arith, two c)
+add-i-3 : tie.Need-add-i-3 Inv-loop μ-loop Inv-loop2 μ-loop2
+add-i-3 c = omega (arith, two (c .before .before), joined (c .before .before .before .before .before .before) .long)
 
 loop2-again : tie.Need-loop2-again Inv-loop μ-loop Inv-loop2 μ-loop2
-loop2-again c = stored-byte (stored-byte (c .before .loop2 .inv) (omega arith) refl) (omega arith) (omega arith)
+loop2-again c = stored-byte (stored-byte (c .before .before .before .loop2 .inv) (omega arith) refl) (omega arith) (omega arith)
 
 -- behind both loops
 whole : (c : tie.After-loop2 Inv-loop μ-loop Inv-loop2 μ-loop2)
-    → Storing (c .before .before .before .before .args .value) (c .before .before .before .before .args .out .now) (c .before .before .before .before .args .at) (c .before .loop2 .out) (c .before .loop2 .v) (c .before .loop2 .i)
-whole c = storing-on (c .before .before .before .loop .inv) (c .before .loop2 .inv)
+    → let a = c .before .before .before .before .before .before .args in
+    Storing (a .value) (a .out .now) (a .at) (c .before .loop2 .out) (c .before .loop2 .v) (c .before .loop2 .i)
+whole c = storing-on (storing-on (joined (c .before .before .before .before)) (c .before .before .before .loop .inv)) (c .before .loop2 .inv)
 
 slice-write-out-7 : tie.Need-slice-write-out-7 Inv-loop μ-loop Inv-loop2 μ-loop2
-slice-write-out-7 c = omega (arith, whole (c .before) .room, ap length (encode-ends (c .before .before .loop2 .v) (omega arith)))
+slice-write-out-7 c = omega (arith, whole (c .before .before) .room, ap length (encode-ends (c .before .before .before .loop2 .v) (omega arith)))
 
 add-result : tie.Need-add-result Inv-loop μ-loop Inv-loop2 μ-loop2
-add-result c = omega (arith, slice-write-out-7 c)
+add-result c = omega (arith, slice-write-out-7 (c .before), whole (c .before .before .before) .long)
 
 same-length : tie.Need-same-length Inv-loop μ-loop Inv-loop2 μ-loop2
-same-length c = simp length-set (whole (c .before) .long)
+same-length c = simp length-set (whole (c .before .before .before) .long)
 
 returns : tie.Need-returns Inv-loop μ-loop Inv-loop2 μ-loop2
-returns c = stored-last (whole (c .before)) (omega arith) refl
+returns c = stored-last (whole (c .before .before .before)) (omega arith) refl
 
 -- one byte, with one more behind it
-one : (c : tie.Else1 Inv-loop μ-loop Inv-loop2 μ-loop2) → c .before .before .loop2 .i + 1 < length (c .before .before .loop2 .out)
+one : (c : tie.Else2 Inv-loop μ-loop Inv-loop2 μ-loop2) → c .before .before .loop2 .i + 1 < length (c .before .before .loop2 .out)
 one c = omega (arith, bytes-beyond 1 (c .before .before .loop2 .v) (omega arith) (c .before .before .loop2 .inv .below))
 
 slice-write-out-8 : tie.Need-slice-write-out-8 Inv-loop μ-loop Inv-loop2 μ-loop2
-slice-write-out-8 c = omega (arith, one c)
+slice-write-out-8 c = omega (arith, one (c .before))
 
 slice-write-out-9 : tie.Need-slice-write-out-9 Inv-loop μ-loop Inv-loop2 μ-loop2
-slice-write-out-9 c = simp length-set (omega (arith, one c))
+slice-write-out-9 c = simp length-set (omega (arith, one (c .before .before)))
 
 add-out-12 : tie.Need-add-out-12 Inv-loop μ-loop Inv-loop2 μ-loop2
-add-out-12 c = omega (arith, one c)
+add-out-12 c = omega (arith, one (c .before .before), whole (c .before .before .before) .long)
 
 add-result-2 : tie.Need-add-result-2 Inv-loop μ-loop Inv-loop2 μ-loop2
-add-result-2 c = omega (arith, one c)
+add-result-2 c = omega (arith, one (c .before .before), whole (c .before .before .before) .long)
 
 same-length-2 : tie.Need-same-length-2 Inv-loop μ-loop Inv-loop2 μ-loop2
-same-length-2 c = simp length-set (whole (c .before) .long)
+same-length-2 c = simp length-set (whole (c .before .before .before) .long)
 
 returns-2 : tie.Need-returns-2 Inv-loop μ-loop Inv-loop2 μ-loop2
-returns-2 c = stored-last (stored-byte (whole (c .before)) (omega arith) refl) (omega arith) (omega arith)
+returns-2 c = stored-last (stored-byte (whole (c .before .before .before)) (omega arith) refl) (omega arith) (omega arith)
 
 pub store-spec : {M : Type 1} → statement M
 store-spec =
@@ -124,6 +144,8 @@ store-spec =
     μ-loop
     Inv-loop2
     μ-loop2
+    store-eight-requires
+    add-i
     loop-holds
     (λ c. search needs)
     (λ c. search needs)
@@ -140,7 +162,7 @@ store-spec =
     (λ c. search needs)
     add-out-7
     slice-write-out-4
-    add-i
+    add-i-2
     (λ c. search needs)
     loop-again
     loop2-holds
@@ -151,7 +173,7 @@ store-spec =
     (λ c. search needs)
     add-out-10
     slice-write-out-6
-    add-i-2
+    add-i-3
     (λ c. search needs)
     loop2-again
     (λ c. search needs)
