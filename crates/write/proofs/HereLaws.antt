@@ -8,7 +8,7 @@ use mathlib.Core.Bool.{true, false, false≢true}
 use mathlib.Core.List.{List, _++_}
 use lib.ListN.{length, take, getD}
 use lib.Dec.{leb}
-use borrow.Author.Tests.{leb-true}
+use borrow.Author.Tests.{leb-true, lt-ltb}
 use Rattle.spec.specs.Base.{part}
 use Rattle.spec.specs.Varint.{encode}
 use Rattle.spec.specs.Kind.{Shape, one, other, string, bytes, message, packed, startGroup, endGroup, nothing, wires, shape, wire, isScalar}
@@ -17,9 +17,11 @@ use Rattle.spec.specs.Writing.{prefixed, tagOf}
 use Rattle.spec.proofs.RoundTrip.{hasContent, shape-11, shape-20}
 use Rattle.spec.proofs.Laws.{both}
 use Rattle.spec.proofs.RunLaws.{Fit, kind-small as kind-below, is-number, is-content}
-use Rattle.write.specs.Backward.{at, kindAt, plain, lead, isHead, Here, leadOf, headOf, Leads}
+use Rattle.write.specs.Backward.{at, kindAt, plain, lead, isHead, Here, leadOf, numberOf, headOf, Leads}
 use Rattle.list.proofs.FitLaws.{type-of, type-small}
 use Rattle.write.proofs.KindLaws.{Head, of-message, of-packed, head}
+use Rattle.rt.specs.SizeParts.{coded}
+use Rattle.write.proofs.BodyLaws.{plain-by-wire}
 use Rattle.write.proofs.SpanLaws.{from}
 use Rattle.write.proofs.CheckedLaws.{fit-at, lies-at}
 
@@ -100,3 +102,15 @@ module _ {list payload : List ℕ} {b : ℕ} (h : Here list payload b) where
   pub head-is : {table : List ℕ} (n : ℕ) → table ≡ take 25 wires → isHead (kindAt list (b / 6)) ≡ true
       → headOf table list b n ≡ tagOf true (at list (b / 6)) ++ leadOf list payload b n
   head-is n types is = ap₂ (λ (x y : List ℕ). x ++ y) (tag-at types) (sym (head-lead n is))
+
+  -- a varint, of the numbers as they are read
+  pub number-is : {table : List ℕ} → table ≡ take 25 wires → getD table (getD list (b + 2) 0) 0 < 1
+      → numberOf list b (getD table (getD list (b + 2) 0) 0) ≡ tagOf true (at list (b / 6)) ++ leadOf list payload b 0
+  number-is {table} types small =
+      let kind : ℕ = getD list (b + 2) 0 in
+      let v : ℕ = getD list (b + 3) 0 in
+      let w : ℕ = getD table kind 0 in
+      let x = number-lead 0 (λ e. omega (arith, small, type-at types, e)) in
+      let plainly : plain (shape kind) v ≡ encode (coded kind v) =
+      simp (lt-ltb w 1 small) at (plain-by-wire kind v w (x .0) (type-at types ∙ ap wire (sym (read 2)))) in
+      ap₂ (λ (l r : List ℕ). l ++ r) (tag-at types) (sym plainly ∙ x .1)

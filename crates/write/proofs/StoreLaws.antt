@@ -1,5 +1,5 @@
 -- Laws of bytes that are stored in the output: byte by byte, and one run of bytes before another. Assumes nothing.
-use Prim.Native.Nat.{ℕ, suc, _+_, _≤_}
+use Prim.Native.Nat.{ℕ, suc, _+_, _-_, _≤_}
 use mathlib.Core.Path.{_≡_, refl, sym, ap, ap₂, _∙_, subst}
 use mathlib.Core.List.{List, [], _∷_, _++_, append-assoc}
 use native.Mathlib.Omega.{arith}
@@ -100,3 +100,11 @@ module _ {new todo out₀ out : List ℕ} {q p i : ℕ} (g : Going new todo out�
         behind = ap (drop q) holds ∙ from-store q new out₀ (omega (arith, g .starts, g .inside, g .long)) ∙ ap (λ (n : ℕ). new ++ drop n out₀) (g .starts);
         long = g .long;
       }
+
+-- three bytes before p
+pub stored-three : (a b c p : ℕ) (out : List ℕ) → 3 ≤ p → p ≤ length out → Stored (a ∷ b ∷ c ∷ []) p out (p - 3) (set (set (set out (p - 3) a) (p - 2) b) (p - 1) c)
+stored-three a b c p out h l =
+    let g = going (a ∷ b ∷ c ∷ []) out (p - 3) p (p - 3) refl (omega arith) l in
+    let g₁ = gone-on g (p - 2) a (b ∷ c ∷ []) (omega arith) refl in
+    let g₂ = gone-on g₁ (p - 1) b (c ∷ []) (omega arith) refl in
+    gone (gone-on g₂ p c [] (omega arith) refl) refl

@@ -1,9 +1,9 @@
 -- What the backward writer asks, and what it answers: bytes that end before a place of the output, and the records of a list by their index.
 -- Record i has the six numbers of the list from 6 * i on. Assumes nothing: these are definitions.
-use Prim.Native.Nat.{ℕ, zero, suc, _+_, _-_, _*_, _/_, _≤_, _<_}
+use Prim.Native.Nat.{ℕ, zero, suc, _+_, _-_, _*_, _/_, _%_, _≤_, _<_}
 use mathlib.Core.Path.{_≡_}
 use mathlib.Core.Bool.{Bool, true, false, _||_}
-use mathlib.Core.List.{List, [], _++_}
+use mathlib.Core.List.{List, [], _∷_, _++_}
 use lib.ListN.{length, take, drop, getD}
 use lib.Dec.{ltb, eqb}
 use Rattle.spec.specs.Base.{if_then_else_, part}
@@ -14,6 +14,7 @@ use Rattle.spec.specs.Writing.{prefixed}
 use Rattle.spec.proofs.WritingLaws.{bytesIn}
 use Rattle.spec.proofs.SizeLaws.{Held}
 use Rattle.spec.proofs.RunLaws.{Passed}
+use Rattle.rt.specs.SizeParts.{coded}
 
 -- ---- bytes in the output
 
@@ -27,6 +28,10 @@ pub record Stored (new : List ℕ) (p : ℕ) (out : List ℕ) (q : ℕ) (now : L
 pub record Room (new : List ℕ) (p : ℕ) (out : List ℕ) : Type 0 where
   pub few : length new ≤ p
   pub inside : p ≤ length out
+
+-- four bytes of the varint of v, behind which others stand
+abbrev pub four : ℕ → List ℕ
+four v = (128 + v % 128) ∷ (128 + v / 128 % 128) ∷ (128 + v / 128 / 128 % 128) ∷ (128 + v / 128 / 128 / 128 % 128) ∷ []
 
 -- ---- records by their index
 
@@ -92,6 +97,10 @@ pub record Here (list payload : List ℕ) (b : ℕ) : Type 0 where
 -- what stands between its tag and what is in it
 abbrev pub leadOf : List ℕ → List ℕ → ℕ → ℕ → List ℕ
 leadOf list payload b n = lead (shape (kindAt list (b / 6))) payload (at list (b / 6)) n
+
+-- a record whose value is a varint, of the numbers that are read at b
+abbrev pub numberOf : List ℕ → ℕ → ℕ → List ℕ
+numberOf list b w = encode (getD list (b + 1) 0 * 8 + w) ++ encode (coded (getD list (b + 2) 0) (getD list (b + 3) 0))
 
 -- a head in front of n bytes, of the numbers that are read at b
 abbrev pub headOf : List ℕ → List ℕ → ℕ → ℕ → List ℕ

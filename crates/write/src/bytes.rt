@@ -4,8 +4,8 @@
 ghost use mathlib.Core.Path.{_≡_};
 ghost use mathlib.Core.Bool.{true, false, not};
 ghost use mathlib.Core.List.{_++_};
-ghost use Prim.Native.Nat.{_-_, _*_, _/_, _%_, _≤_};
-ghost use lib.ListN.{length, take};
+ghost use Prim.Native.Nat.{_+_, _-_, _*_, _/_, _%_, _≤_};
+ghost use lib.ListN.{length, take, getD};
 ghost use Rattle.spec.specs.Base.{if_then_else_, part, filled};
 ghost use Rattle.spec.specs.Varint.{encode, little};
 ghost use Rattle.spec.specs.Kind.{wires, shape, wire, isScalar};
@@ -13,7 +13,7 @@ ghost use Rattle.spec.specs.Record.{recordsOf};
 ghost use Rattle.spec.specs.Writing.{tagOf, written};
 ghost use Rattle.spec.proofs.WritingLaws.{bytesIn};
 ghost use Rattle.rt.specs.SizeParts.{coded};
-ghost use Rattle.write.specs.Backward.{Stored, Room, at, kindAt, span, start, plain, Given, Here, leadOf, headOf, Leads, Upto, Run, Inner, isPacked, Values, Ran};
+ghost use Rattle.write.specs.Backward.{Stored, Room, four, at, kindAt, span, start, plain, Given, Here, leadOf, numberOf, headOf, Leads, Upto, Run, Inner, isPacked, Values, Ran};
 use crate::sizes::is_head;
 use rt::compute_raw_varint64_size;
 use wire::zigzag::zigzag;
@@ -22,6 +22,12 @@ use wire::zigzag::zigzag;
 struct Back {
     at: usize,
     pos: usize,
+}
+
+// A place in the output from which on it is written, and what is guessed of the values before it.
+struct Hinted {
+    pos: usize,
+    hint: u64,
 }
 
 fn low_byte(v: u64) -> u8
@@ -65,6 +71,85 @@ fn put_varint(out: &mut [u8], p: usize, v: u64) -> usize
         return q;
     }
     long_varint(out, p, v)
+}
+
+// Four bytes of the varint of v, behind which others stand.
+fn put_four(out: &mut [u8], p: usize, v: u64) -> usize
+    requires { ⌜ (4 ≤ p) × (p ≤ length (now out)) ⌝ }
+    ensures { λ q. ⌜ Stored (four v) p (now (out .entry)) q (now (out .exit)) ⌝ }
+{
+    let v1 = v / 128;
+    let v2 = v1 / 128;
+    let v3 = v2 / 128;
+    let q = p - 4;
+    out[q] = low_byte(v % 128 + 128);
+    out[q + 1] = low_byte(v1 % 128 + 128);
+    out[q + 2] = low_byte(v2 % 128 + 128);
+    out[q + 3] = low_byte(v3 % 128 + 128);
+    q
+}
+
+// A varint of nine or ten bytes, as negative numbers have.
+fn put_far(out: &mut [u8], p: usize, v: u64) -> usize
+    requires { ⌜ (72057594037927936 ≤ v) × Room (encode v) p (now out) ⌝ }
+    ensures { λ q. ⌜ Stored (encode v) p (now (out .entry)) q (now (out .exit)) ⌝ }
+{
+    let high = v / 268435456;
+    let q = put_varint(out, p, high / 268435456);
+    let r = put_four(out, q, high);
+    put_four(out, r, v)
+}
+
+// The same where sizes change from one varint to the next: those of up to three bytes without a branch on how many they have, which would be foretold wrongly.
+// Three bytes are stored, the last in its place; what that leaves before the first is overwritten by what stands before it.
+fn put_mixed(out: &mut [u8], p: usize, v: u64) -> usize
+    requires { ⌜ Room (encode v) p (now out) ⌝ }
+    ensures { λ q. ⌜ Stored (encode v) p (now (out .entry)) q (now (out .exit)) ⌝ }
+{
+    if 72057594037927936 <= v {
+        return put_far(out, p, v);
+    }
+    if 2097152 <= v {
+        return long_varint(out, p, v);
+    }
+    if p < 3 {
+        return long_varint(out, p, v);
+    }
+    let mut z = v * 16384;
+    let mut q = p - 1;
+    if 128 <= v {
+        z = v * 128;
+        q = p - 2;
+    }
+    if 16384 <= v {
+        z = v;
+        q = p - 3;
+    }
+    out[p - 3] = low_byte(z % 128 + 128);
+    out[p - 2] = low_byte(z / 128 % 128 + 128);
+    out[p - 1] = low_byte(z / 16384);
+    q
+}
+
+// A value as a varint. The hint is 0 while values have one byte, and else how many more are put as if their sizes changed.
+fn put_value(out: &mut [u8], p: usize, v: u64, hint: u64) -> Hinted
+    requires { ⌜ Room (encode v) p (now out) ⌝ }
+    ensures { λ r. ⌜ Stored (encode v) p (now (out .entry)) (r .pos) (now (out .exit)) ⌝ }
+{
+    if 0 < hint {
+        let pos = put_mixed(out, p, v);
+        return Hinted {
+            pos,
+            hint: hint - 1,
+        };
+    }
+    if v < 128 {
+        let pos = p - 1;
+        out[pos] = low_byte(v);
+        return Hinted { pos, hint: 0 };
+    }
+    let pos = long_varint(out, p, v);
+    Hinted { pos, hint: 32 }
 }
 
 fn put_fixed32(out: &mut [u8], p: usize, v: u64) -> usize
@@ -240,6 +325,41 @@ fn put_record(
     put_varint(out, q, tag)
 }
 
+// The same of one whose value is a varint, and whose wire type is w.
+fn put_number(list: &[u64], out: &mut [u8], b: usize, w: u8, p: usize, hint: u64) -> Hinted
+    requires { ⌜ (b + 6 ≤ length (now list)) × (getD (now list) (b + 1) 0 ≤ 536870911) × (w ≤ 7) × Room (numberOf (now list) b w) p (now out) ⌝ }
+    ensures { λ r. ⌜ Stored (numberOf (now (list .entry)) b w) p (now (out .entry)) (r .pos) (now (out .exit)) ⌝ }
+{
+    let kind = list[b + 2];
+    let r = put_value(out, p, coded_of(kind, list[b + 3]), hint);
+    let tag = list[b + 1] * 8 + w as u64;
+    let pos = put_varint(out, r.pos, tag);
+    Hinted { pos, hint: r.hint }
+}
+
+// The record at b, in which nothing is, by its wire type.
+fn put_leaf(
+    table: &[u8; 25],
+    list: &[u64],
+    payload: &[u8],
+    out: &mut [u8],
+    b: usize,
+    p: usize,
+    hint: u64,
+) -> Hinted
+    requires { ⌜ (now table ≡ take 25 wires) × Here (now list) (now payload) b × Room (tagOf true (at (now list) (b / 6)) ++ leadOf (now list) (now payload) b 0) p (now out) ⌝ }
+    ensures { λ r. ⌜ Stored (tagOf true (at (now (list .entry)) (b / 6)) ++ leadOf (now (list .entry)) (now (payload .entry)) b 0) p (now (out .entry)) (r .pos) (now (out .exit)) ⌝ }
+{
+    let kind = list[b + 2];
+    let i = kind as usize;
+    let w = table[i];
+    if w < 1 {
+        return put_number(list, out, b, w, p, hint);
+    }
+    let pos = put_record(table, list, payload, out, b, p);
+    Hinted { pos, hint }
+}
+
 // The head at b, in front of what is in it, which ends before `mark` and starts at p.
 fn put_head(
     table: &[u8; 25],
@@ -344,6 +464,7 @@ fn put_run(
 {
     let mut b = upto;
     let mut p = pos;
+    let mut hint: u64 = 0;
     while 6 <= b {
         let d = list[b - 6];
         if d < depth {
@@ -351,7 +472,9 @@ fn put_run(
         }
         if d == depth {
             b -= 6;
-            p = put_record(table, list, payload, out, b, p);
+            let r = put_leaf(table, list, payload, out, b, p, hint);
+            p = r.pos;
+            hint = r.hint;
         } else {
             let r = put_inner(table, list, payload, out, depth + 1, b, p);
             b = r.at - 6;

@@ -23,7 +23,7 @@ use Rattle.write.proofs.bytes.put_run.Kinds as put-run-kinds
 use Rattle.write.proofs.bytes.+put_inner+put_run.Lts-put_run as put-run-lts
 use Rattle.write.proofs.bytes.packed_from.Reads as packed-from-reads
 use Rattle.write.proofs.bytes.put_head.Reads as put-head-reads
-use Rattle.write.proofs.bytes.put_record.Reads as put-record-reads
+use Rattle.write.proofs.bytes.put_leaf.Reads as put-leaf-reads
 use Rattle.write.proofs.bytes.put_values.Reads as put-values-reads
 use Rattle.write.proofs.bytes.+put_inner+put_run.{statement}
 use Rattle.write.proofs.bytes.+put_inner+put_run.Tie.{close}
@@ -82,13 +82,13 @@ put-inner-returns-2 t c =
     ran-run (o .pre .1 .0) (o .pre .1 .1) (c .before .before .before .before .before .packed-from .ensures) (omega arith) (c .before .before .put-run .ensures)
 
 abbrev put-run-claims : ℕ → put-run-lts.Claims
-put-run-claims t = (put-record-reads.Asked, put-record-reads.Learnt, put-inner-below t, put-inner.Post, put-head-reads.Asked, put-head-reads.Learnt)
+put-run-claims t = (put-leaf-reads.Asked, put-leaf-reads.Learnt, put-inner-below t, put-inner.Post, put-head-reads.Asked, put-head-reads.Learnt)
 
 abbrev put-run-Inv-loop : put-run-lts.InvT-loop
-put-run-Inv-loop table list payload out₀ depth upto pos b₀ p₀ out b p = Back list payload out₀ depth upto pos b p out
+put-run-Inv-loop table list payload out₀ depth upto pos b₀ p₀ hint₀ out b p hint = Back list payload out₀ depth upto pos b p out
 
 abbrev put-run-μ-loop : put-run-lts.MeasureT-loop
-put-run-μ-loop table list payload out₀ depth upto pos b₀ p₀ out b p = b
+put-run-μ-loop table list payload out₀ depth upto pos b₀ p₀ hint₀ out b p hint = b
 
 -- in a turn of the loop
 turned : (t : ℕ) (e : put-run-lts.Else1 (put-run-claims t) (put-run-at t) put-run.Post put-run-Inv-loop put-run-μ-loop) →
@@ -121,8 +121,8 @@ put-run-returns t c = ran-to (c .before .before .before .before .before .before 
 alone : (list payload : List ℕ) (b p : ℕ) → tagOf true (at list (b / 6)) ++ leadOf list payload b (p - p) ≡ tagOf true (at list (b / 6)) ++ leadOf list payload b 0
 alone list payload b p = let none : p - p ≡ 0 = omega arith in ap (λ (n : ℕ). tagOf true (at list (b / 6)) ++ leadOf list payload b n) none
 
-put-run-put-record-requires : (t : ℕ) → put-run-lts.Need-put-record-requires (put-run-claims t) (put-run-at t) put-run.Post put-run-Inv-loop put-run-μ-loop
-put-run-put-record-requires t c κs =
+put-run-put-leaf-requires : (t : ℕ) → put-run-lts.Need-put-leaf-requires (put-run-claims t) (put-run-at t) put-run.Post put-run-Inv-loop put-run-μ-loop
+put-run-put-leaf-requires t c κs =
     let e = c .before .before in
     let a = e .before .before .before .before .before .before .before .args in
     let l = e .before .before .before .loop in
@@ -138,7 +138,7 @@ put-run-loop-again t c =
     let a = e .before .before .before .before .before .before .before .args in
     let l = e .before .before .before .loop in
     again (turned t e) (none-in (turned t e) (omega (arith, c .before .before .before .before .if2 .taken)))
-    (stored-as (sym (alone (a .list .now) (a .payload .now) (l .b - 6) (l .p))) (c .before .before .put-record .ensures))
+    (stored-as (sym (alone (a .list .now) (a .payload .now) (l .b - 6) (l .p))) (c .before .before .put-leaf .ensures))
 
 put-run-add-put-inner : (t : ℕ) → put-run-lts.Need-add-put-inner (put-run-claims t) (put-run-at t) put-run.Post put-run-Inv-loop put-run-μ-loop
 put-run-add-put-inner t c = omega (arith, fits (turned t (c .before .before)) (omega (arith, c .before .if2 .left, c .before .before .if1 .left)))
@@ -200,7 +200,7 @@ pub +put-inner+put-run-spec : {M : Type 1} → statement M
     (put-run-shared-slice-read-d t)
     (put-run-same-length t)
     (put-run-returns t)
-    (put-run-put-record-requires t)
+    (put-run-put-leaf-requires t)
     (put-run-loop-less t)
     (put-run-loop-again t)
     (put-run-add-put-inner t)

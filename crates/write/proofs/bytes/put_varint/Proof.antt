@@ -6,13 +6,10 @@ use native.Mathlib.Omega.{arith}
 use borrow.Author.Needs.{needs}
 use lib.ListN.{length, length-set}
 use Rattle.spec.specs.Varint.{encode}
-use Rattle.write.proofs.EncodeLaws.{encode-ends, encode-goes-on}
+use Rattle.write.proofs.EncodeLaws.{encode-ends, encode-two}
 use Rattle.write.proofs.StoreLaws.{going, gone-on, gone}
 use Rattle.write.proofs.bytes.put_varint.Statement.{statement}
 use Rattle.write.proofs.bytes.put_varint.Tie as tie
-
-two : (v : ℕ) → 128 ≤ v → v < 16384 → encode v ≡ (128 + v % 128) ∷ (v / 128) ∷ []
-two v h l = encode-goes-on v h (omega arith) ∙ ap (_∷_ (128 + v % 128)) (encode-ends (v / 128) (omega arith))
 
 sub-q : tie.Need-sub-q
 sub-q c = omega (arith, ap length (encode-ends (c .before .before .args .v) (c .if1 .taken)))
@@ -30,14 +27,14 @@ returns c =
     gone (gone-on g (q + 1) _ _ refl e) refl
 
 sub-q-2 : tie.Need-sub-q-2
-sub-q-2 c = omega (arith, ap length (two (c .before .before .before .args .v) (omega arith) (c .if2 .taken)))
+sub-q-2 c = omega (arith, ap length (encode-two (c .before .before .before .args .v) (omega arith) (c .if2 .taken)))
 
 slice-write-out-2 : tie.Need-slice-write-out-2
-slice-write-out-2 c = omega (arith, ap length (two (c .before .before .before .before .args .v) (omega arith) (c .before .if2 .taken)))
+slice-write-out-2 c = omega (arith, ap length (encode-two (c .before .before .before .before .args .v) (omega arith) (c .before .if2 .taken)))
 
 slice-write-out-3 : tie.Need-slice-write-out-3
 slice-write-out-3 c =
-    simp length-set (omega (arith, ap length (two (c .before .before .before .before .before .args .v) (omega arith) (c .before .before .if2 .taken))))
+    simp length-set (omega (arith, ap length (encode-two (c .before .before .before .before .before .args .v) (omega arith) (c .before .before .if2 .taken))))
 
 returns-2 : tie.Need-returns-2
 returns-2 c =
@@ -46,7 +43,7 @@ returns-2 c =
     let a : ℕ = c .before .low-byte2 .result in
     let b : ℕ = c .low-byte3 .result in
     let e : encode v ≡ a ∷ b ∷ [] =
-    two v (omega arith) (c .before .before .if2 .taken) ∙ ap₂ (λ (x y : ℕ). x ∷ y ∷ []) (omega arith) (omega arith) in
+    encode-two v (omega arith) (c .before .before .if2 .taken) ∙ ap₂ (λ (x y : ℕ). x ∷ y ∷ []) (omega arith) (omega arith) in
     let q : ℕ = o .args .p - 2 in
     let g = going (encode v) (o .args .out .now) q (o .args .p) q refl (omega (arith, ap length e)) (o .pre .inside) in
     gone (gone-on (gone-on g (q + 1) _ _ refl e) (q + 1 + 1) _ _ refl refl) refl
