@@ -4,7 +4,7 @@ use mathlib.Core.Path.{_≡_, refl, sym}
 use mathlib.Core.List.{List, [], _∷_}
 use native.Mathlib.Omega.{arith}
 use borrow.Author.Needs.{needs}
-use lib.ListN.{length, getD, length-set}
+use lib.ListN.{getD, length-set}
 use Rattle.spec.specs.Base.{part}
 use Rattle.write.proofs.CopyLaws.{eight}
 use Rattle.write.proofs.StoreLaws.{stored-as, going, gone-on, gone}

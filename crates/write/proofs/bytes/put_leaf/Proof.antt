@@ -1,6 +1,5 @@
 -- `write::bytes::put_leaf` meets its contract: a varint by its numbers, and else any record. Assumes nothing.
 use mathlib.Core.Path.{sym}
-use native.Mathlib.Omega.{arith}
 use borrow.Author.Needs.{needs}
 use Rattle.write.proofs.HereLaws.{leads, kind-small, byte-at, number-is}
 use Rattle.write.proofs.StoreLaws.{stored-as, room-as}

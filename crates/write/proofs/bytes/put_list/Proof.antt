@@ -1,5 +1,5 @@
 -- `write::bytes::put_list` meets its contract: the list is the run at depth 0 that ends where it ends, and begins at its front. Assumes nothing.
-use Prim.Native.Nat.{ℕ, _+_, _-_, _/_}
+use Prim.Native.Nat.{ℕ, _-_, _/_}
 use mathlib.Core.Path.{_≡_, ap, _∙_}
 use mathlib.Core.Bool.{true}
 use mathlib.Core.List.{List, _++_}

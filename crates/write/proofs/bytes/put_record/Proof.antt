@@ -1,5 +1,5 @@
 -- `write::bytes::put_record` meets its contract: the table has the record's wire type, and the tag goes in front. Assumes nothing.
-use Prim.Native.Nat.{_+_, _-_, _/_, _≤_}
+use Prim.Native.Nat.{_+_, _/_, _≤_}
 use mathlib.Core.Path.{ap}
 use mathlib.Core.Bool.{true}
 use native.Mathlib.Omega.{arith}
