@@ -1,7 +1,7 @@
 -- What the pull loop over a message of bench/bench.proto comes to: the exclusive or of all values and of the lengths of contents. Assumes nothing: these are definitions.
-use Prim.Native.Nat.{ℕ, zero, suc, _+_, _-_, _≤_}
+use Prim.Native.Nat.{ℕ, zero, suc, _-_, _≤_}
 use mathlib.Core.Path.{_≡_}
-use mathlib.Core.Bool.{Bool, true, false}
+use mathlib.Core.Bool.{Bool, true}
 use mathlib.Core.List.{List}
 use lib.Bits.{bitXor}
 use lib.Dec.{eqb, leb}

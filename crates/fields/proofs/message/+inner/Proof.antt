@@ -1,6 +1,6 @@
 -- `fields::message::inner` meets its contract. It calls itself for a message within, one level up: the measure is how many levels are left. The loop's invariant: what
 -- there is in all is what the fields from here come to. Assumes nothing.
-use Prim.Native.Nat.{ℕ, _+_, _-_, _≤_, _<_}
+use Prim.Native.Nat.{ℕ, _-_, _≤_, _<_}
 use native.Mathlib.Omega.{arith}
 use mathlib.Core.Path.{_≡_}
 use lib.Bits.{bitXor}

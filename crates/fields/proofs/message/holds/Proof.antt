@@ -1,5 +1,5 @@
 -- `fields::message::holds` meets its contract. Assumes nothing.
-use mathlib.Core.Path.{_≡_, refl, sym}
+use mathlib.Core.Path.{refl}
 use borrow.Author.Tests.{ne-eqb}
 use Rattle.fields.specs.Fields.{rootHolds}
 use Rattle.fields.proofs.message.holds.Statement.{statement}

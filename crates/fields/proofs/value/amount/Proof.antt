@@ -1,5 +1,4 @@
 -- `fields::value::amount` meets its contract: by what was said. Assumes nothing.
-use Prim.Native.Nat.{ℕ}
 use mathlib.Core.Path.{sym, ap}
 use borrow.Author.Needs.{needs}
 use Rattle.pull.specs.Told.{saidTold}
