@@ -1,7 +1,8 @@
 #!/bin/bash
 # build.sh: proves the libraries `calf`, `perf`, `fields` and `lent` and makes work/bench, one static x86-64 program of them, their peers and the driver bench.c; the inputs, in
-# work/data; and the counter, work/icount.so. On aarch64 also work/native/bench: the same for this processor, with the proved libraries' own LLVM modules, as the
-# prover handed them to its compiler, compiled for it. On x86-64 that is work/bench itself. After setup.sh.
+# work/data; and the counter, work/icount.so. Also work/native/bench, for times: the same for this processor, with the proved libraries' own LLVM modules, as the
+# prover handed them to its compiler, compiled for it. On x86-64 that means that the branches of the modules and of the peers are kept within blocks of 32 bytes: some
+# processors take longer over others, and where a branch falls else depends on what is linked before it. After setup.sh.
 set -eu
 cd "$(dirname "$0")"; P=$PWD; R=$P/root; W=$P/work; N=$W/native; M=$(uname -m)
 K=${RATTLE_HOME:-$(dirname "$(dirname "$(readlink -f "$(command -v rt)")")")}/on/$M; T=$K/toolchain
@@ -14,18 +15,19 @@ own() { LD_LIBRARY_PATH=$R/usr/lib/$M-linux-gnu "$@"; }
 own "$R/usr/bin/protoc" --cpp_out="$W/gen" bench.proto
 own "$R/usr/bin/protoc" --plugin=protoc-gen-c="$R/usr/bin/protoc-gen-c" --c_out="$W/gen" bench.proto
 
-# FOLDER MACHINE GCC GXX LINK LIBRARIES..: the program in FOLDER; its peers are for that machine
+# FOLDER MACHINE GCC GXX LINK LIBRARIES..: the program in FOLDER; its peers are for that machine, with the flags AS for gcc and RUST for rustc
+AS=; RUST=
 program() {
     local folder=$1 machine=$2 gcc=$3 gxx=$4 link=$5; shift 5
     for f in leaves pulls fields records objects; do
-        (cd peers && RUSTC=$R/usr/bin/rustc CARGO_TARGET_DIR=$W/peers own cargo build -q --release --offline --target "$machine-unknown-linux-gnu" --features $f \
+        (cd peers && RUSTC=$R/usr/bin/rustc RUSTFLAGS=$RUST CARGO_TARGET_DIR=$folder/peers own cargo build -q --release --offline --target "$machine-unknown-linux-gnu" --features $f \
             --config 'source.crates-io.replace-with="debian"' --config "source.debian.directory=\"$R/usr/share/cargo/registry\"")
-        cp "$W/peers/$machine-unknown-linux-gnu/release/libpeers.a" "$folder/lib$f.a"
+        cp "$folder/peers/$machine-unknown-linux-gnu/release/libpeers.a" "$folder/lib$f.a"
     done
-    own "$gcc" -O2 -c -I"$W/gen" -I"$R/usr/include" peers/pbc.c -o "$folder/pbc.o"
-    own "$gcc" -O2 -c -I"$W/gen" -I"$R/usr/include" "$W/gen/bench.pb-c.c" -o "$folder/pbc_gen.o"
-    own "$gxx" -O2 -c -I"$W/gen" -I"$R/usr/include" peers/cpp.cc -o "$folder/cpp.o"
-    own "$gxx" -O2 -c -I"$W/gen" -I"$R/usr/include" "$W/gen/bench.pb.cc" -o "$folder/cpp_gen.o"
+    own "$gcc" -O2 $AS -c -I"$W/gen" -I"$R/usr/include" peers/pbc.c -o "$folder/pbc.o"
+    own "$gcc" -O2 $AS -c -I"$W/gen" -I"$R/usr/include" "$W/gen/bench.pb-c.c" -o "$folder/pbc_gen.o"
+    own "$gxx" -O2 $AS -c -I"$W/gen" -I"$R/usr/include" peers/cpp.cc -o "$folder/cpp.o"
+    own "$gxx" -O2 $AS -c -I"$W/gen" -I"$R/usr/include" "$W/gen/bench.pb.cc" -o "$folder/cpp_gen.o"
     own "$gcc" -O2 -c bench.c -o "$folder/bench.o"
     own "$gxx" $link -Wl,-z,muldefs -o "$folder/bench" "$folder"/{bench,pbc,pbc_gen,cpp,cpp_gen}.o "$@" "$folder"/lib{leaves,pulls,fields,records,objects}.a \
         "$R/usr/lib/$machine-linux-gnu/libprotobuf.a" "$R/usr/lib/$machine-linux-gnu/libprotobuf-c.a" -lpthread -ldl -lm
@@ -33,28 +35,31 @@ program() {
 
 X=; [ "$M" = x86_64 ] || X=$R/usr/bin/x86_64-linux-gnu-
 program "$W" x86_64 "${X}gcc${X:+-12}" "${X}g++${X:+-12}" "-static -no-pie" ../target/staticlib/lib{calf,perf,fields,lent}.a
-if [ "$M" = x86_64 ]; then
-    ln -sf ../bench "$N/bench"
-else
-    # a toolchain folder whose clang keeps the module that it is handed
-    mkdir -p "$W/tc/bin" "$W/tc/kept"
-    ln -sfn "$T/lib" "$W/tc/lib"
-    for t in "$T"/bin/*; do ln -sf "$t" "$W/tc/bin/"; done
-    rm "$W/tc/bin/clang"
-    printf '%s\n' '#!/bin/bash' "for a in \"\$@\"; do case \$a in *.bc | *.ll) cp \"\$a\" '$W/tc/kept/module' ;; esac; done" "exec -a clang '$T/bin/clang' \"\$@\"" >"$W/tc/bin/clang"
-    chmod +x "$W/tc/bin/clang"
-    for c in calf perf fields lent; do
-        deps=$(sed -n "s/^$c: *//p" ../crates.txt); set --
-        for d in $deps; do set -- "$@" --extern "$d=../target/rlib/$d.rlib"; done
-        "$K/bin/rattle" build --crate-name $c ../crates/$c/src/lib.rt --extern "std=$K/rlib/std.rlib" "$@" -L dependency=../target/rlib -L "dependency=$K/rlib" \
-            --antt-project "$K/../../logic/antt-project.json" --logic-built "$K/logic-built" --toolchain "$W/tc" --crate-type staticlib -o "$W/tc/lib$c.a" >/dev/null
-        cmp "$W/tc/lib$c.a" ../target/staticlib/lib$c.a
+
+# a toolchain folder whose clang keeps the module that it is handed
+mkdir -p "$W/tc/bin" "$W/tc/kept"
+ln -sfn "$T/lib" "$W/tc/lib"
+for t in "$T"/bin/*; do ln -sf "$t" "$W/tc/bin/"; done
+rm "$W/tc/bin/clang"
+printf '%s\n' '#!/bin/bash' "for a in \"\$@\"; do case \$a in *.bc | *.ll) cp \"\$a\" '$W/tc/kept/module' ;; esac; done" "exec -a clang '$T/bin/clang' \"\$@\"" >"$W/tc/bin/clang"
+chmod +x "$W/tc/bin/clang"
+for c in calf perf fields lent; do
+    deps=$(sed -n "s/^$c: *//p" ../crates.txt); set --
+    for d in $deps; do set -- "$@" --extern "$d=../target/rlib/$d.rlib"; done
+    "$K/bin/rattle" build --crate-name $c ../crates/$c/src/lib.rt --extern "std=$K/rlib/std.rlib" "$@" -L dependency=../target/rlib -L "dependency=$K/rlib" \
+        --antt-project "$K/../../logic/antt-project.json" --logic-built "$K/logic-built" --toolchain "$W/tc" --crate-type staticlib -o "$W/tc/lib$c.a" >/dev/null
+    cmp "$W/tc/lib$c.a" ../target/staticlib/lib$c.a
+    "$T/bin/clang" --target=x86_64-unknown-linux-gnu -S -emit-llvm -Xclang -disable-llvm-passes -x ir "$W/tc/kept/module" -o "$W/tc/$c.ll"
+    flags=-mbranches-within-32B-boundaries
+    if [ "$M" = aarch64 ]; then
         # the module is for x86-64: its lines that say so are replaced
-        "$T/bin/clang" --target=x86_64-unknown-linux-gnu -S -emit-llvm -Xclang -disable-llvm-passes -x ir "$W/tc/kept/module" -o "$W/tc/$c.ll"
         sed -i -e 's/^target datalayout = .*/target datalayout = "e-m:e-p270:32:32-p271:32:32-p272:64:64-i8:8:32-i16:16:32-i64:64-i128:128-n32:64-S128-Fn32"/' \
             -e 's/^target triple = .*/target triple = "aarch64-unknown-linux-gnu"/' -e 's/ "target-cpu"="x86-64"//; s/ "probe-stack"="inline-asm"//' "$W/tc/$c.ll"
-        "$T/bin/clang" --target=aarch64-unknown-linux-gnu -ffunction-sections -fdata-sections -fPIC -O3 -c -x ir "$W/tc/$c.ll" -o "$N/$c.o"
-    done
-    program "$N" aarch64 gcc g++ "" "$N/calf.o" "$N/perf.o" "$N/fields.o" "$N/lent.o"
-fi
+        flags=
+    fi
+    "$T/bin/clang" --target=$M-unknown-linux-gnu -ffunction-sections -fdata-sections -fPIC -O3 $flags -c -x ir "$W/tc/$c.ll" -o "$N/$c.o"
+done
+L=
+[ "$M" = aarch64 ] || { L="-static -no-pie"; AS=-Wa,-mbranches-within-32B-boundaries; RUST='-C llvm-args=-x86-branches-within-32B-boundaries'; }
+program "$N" $M gcc g++ "$L" "$N"/{calf,perf,fields,lent}.o
 echo "build: done; now ./run.sh"
