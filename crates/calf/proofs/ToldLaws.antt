@@ -10,7 +10,7 @@ use mathlib.Core.Bool.{Bool, true, false}
 use Rattle.spec.specs.Base.{if_then_else_, Read, refusal}
 use Rattle.spec.specs.Varint.{varint}
 use Rattle.spec.specs.Pull.{rawTag}
-use Rattle.wire.specs.Answers.{told, Stored}
+use Rattle.wire.specs.Answers.{asRead, Stored}
 use Rattle.wire.specs.declared.found.Found.{Found}
 use Rattle.wire.specs.declared.found.Found.the-variants.{Value, Refused}
 use Rattle.wire.specs.declared.put.Put.{Put}
@@ -18,12 +18,12 @@ use Rattle.wire.specs.declared.put.Put.the-variants.{Next, NoRoom}
 use Rattle.wire.proofs.FoundLaws.{varint-placed}
 use Rattle.calf.specs.Told.{behind, refused, pair, placeOf, askedBy}
 
-pub refused-told : (at : ℕ) (f : Found) {r : Read} → told at f ≡ r → refused f ≡ refusal r
+pub refused-told : (at : ℕ) (f : Found) {r : Read} → asRead at f ≡ r → refused f ≡ refusal r
 unfolding refusal
 refused-told at (Value v next) e = rw (← e) refl
 refused-told at (Refused k) e = rw (← e) refl
 
-pub pair-told : (k last : ℕ) (s : List ℕ) (at : ℕ) (f : Found) → told at f ≡ varint k last (drop at s) → pair f ≡ behind at (varint k last (drop at s))
+pub pair-told : (k last : ℕ) (s : List ℕ) (at : ℕ) (f : Found) → asRead at f ≡ varint k last (drop at s) → pair f ≡ behind at (varint k last (drop at s))
 unfolding behind
 pair-told k last s at (Value v next) e =
     let h = varint-placed k last s at e refl in

@@ -45,7 +45,7 @@ fn asked(kind: u32, tag: u32) -> Ask
 }
 
 fn step_number(m: Moved) -> u32
-    ensures { λ r. ⌜ r ≡ stepNumber (pulling.told m) ⌝ }
+    ensures { λ r. ⌜ r ≡ stepNumber (pulling.asMoved m) ⌝ }
 {
     let said = m.said;
     match said {
@@ -58,7 +58,7 @@ fn step_number(m: Moved) -> u32
 
 // What a step says, in numbers: 0 the end, 1 a number, 2 the bounds of a content, 3 the place of a refusal; and the position then.
 fn step_answer(m: Moved) -> [u64; 4]
-    ensures { λ r. ⌜ r ≡ stepAnswer (pulling.told m) ⌝ }
+    ensures { λ r. ⌜ r ≡ stepAnswer (pulling.asMoved m) ⌝ }
 {
     let said = m.said;
     let at = m.at as u64;

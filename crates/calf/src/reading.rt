@@ -7,7 +7,7 @@ ghost use Rattle.spec.specs.Record.{stride};
 ghost use Rattle.spec.specs.Schema.{badSchema, schemaOf};
 ghost use Rattle.spec.specs.Reading.{reading, number, place, listed, roomAfter};
 ghost use Rattle.schema.specs.Tables.{soundOf, keysWith, infoWith, tableSays};
-ghost use Rattle.schema.specs.Told.{told};
+ghost use Rattle.schema.specs.Told.{badPlace};
 ghost use Rattle.read.specs.Answers.{readingBy};
 ghost use Rattle.calf.specs.Told.{numberOf, entryOf};
 use schema::Verdict;
@@ -21,7 +21,7 @@ pub extern "C" fn calf_record_numbers() -> usize
 }
 
 fn number_of(v: Verdict) -> u32
-    ensures { λ r. ⌜ r ≡ numberOf (told v) ⌝ }
+    ensures { λ r. ⌜ r ≡ numberOf (badPlace v) ⌝ }
 {
     match v {
         Verdict::Valid => 0,
@@ -30,7 +30,7 @@ fn number_of(v: Verdict) -> u32
 }
 
 fn entry_of(v: Verdict) -> usize
-    ensures { λ r. ⌜ r ≡ entryOf (told v) ⌝ }
+    ensures { λ r. ⌜ r ≡ entryOf (badPlace v) ⌝ }
 {
     match v {
         Verdict::Valid => 0,

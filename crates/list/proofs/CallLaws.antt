@@ -16,7 +16,7 @@ use Rattle.schema.specs.Tables.{soundOf, keysWith, infoWith}
 use Rattle.schema.proofs.MakingLaws.{wire-below}
 use Rattle.schema.proofs.StoredLaws.{keys-at, keys-else}
 use Rattle.schema.proofs.TableLaws.{sound-valid, made-says}
-use Rattle.list.specs.Told.{told}
+use Rattle.list.specs.Told.{asVerdict}
 use Rattle.list.specs.Checking.{Made}
 use Rattle.list.proofs.FitLaws.{type-known}
 use Rattle.list.specs.declared.Verdict.{Verdict}
@@ -67,8 +67,8 @@ module _ (sch : Schema) (payload : List ℕ) (rs : List Record) where
   check-valid e = sym (rw e refl)
 
 -- any two answers to a call are equal
-pub one-answer : (v : spec.Verdict) (a b : Verdict) → told a ≡ v → told b ≡ v → a ≡ b
-unfolding told
+pub one-answer : (v : spec.Verdict) (a b : Verdict) → asVerdict a ≡ v → asVerdict b ≡ v → a ≡ b
+unfolding asVerdict
 one-answer v Fine Fine p q = refl
 one-answer v Fine (Faulty k i) p q = let z : _≡_ {A = ℕ} 0 1 = cc in absurd (omega arith)
 one-answer v (Faulty k i) Fine p q = let z : _≡_ {A = ℕ} 0 1 = cc in absurd (omega arith)

@@ -19,7 +19,7 @@ use Rattle.spec.specs.declared.Entry.{Entry}
 use Rattle.spec.proofs.Laws.{both, both-true, by-test}
 use Rattle.spec.proofs.VarintLaws.{lower-or-not}
 use Rattle.spec.proofs.FlatLaws.{records-nil, records-broken}
-use Rattle.spec.proofs.ListLaws.{kind-11, kind-20}
+use Rattle.spec.proofs.ListLaws.{is-message-kind, is-packed-head}
 use Rattle.spec.proofs.RunLaws.{records-at}
 use Rattle.spec.proofs.SchemaLaws.{valid-types}
 use Rattle.schema.specs.Tables.{tableSays}
@@ -260,8 +260,8 @@ module _ (payload : List ℕ) (r : Record) (rs : List Record) where
         go : {x : Shape} → Delimited x → shape (r .kind) ≡ x → rangeFault payload (r .kind) (r .start) (r .stop) ≡ restFault payload r rs
         go a-string e = alike e (rw value-is refl)
         go a-content e = alike e (rw value-is refl)
-        go a-message e = absurd (m (kind-11 (r .kind) e))
-        go a-packed e = absurd (p (kind-20 (r .kind) e))
+        go a-message e = absurd (m (is-message-kind (r .kind) e))
+        go a-packed e = absurd (p (is-packed-head (r .kind) e))
 
 -- ---- the fault of a content
 

@@ -3,7 +3,7 @@ ghost use mathlib.Core.Path.{_≡_};
 ghost use Rattle.spec.specs.Record.{recordsOf};
 ghost use Rattle.spec.specs.Schema.{schemaOf};
 ghost use Rattle.spec.specs.Writing.{listCheck};
-ghost use Rattle.list.specs.Told.{told};
+ghost use Rattle.list.specs.Told.{asVerdict};
 
 mod record;
 mod run;
@@ -19,7 +19,7 @@ pub enum Verdict {
 
 // Checks a list of six numbers a record, whose contents lie in `payload`, under a schema of five numbers an entry.
 pub fn check(types: u32, numbers: &[u32], list: &[u64], payload: &[u8]) -> Verdict
-    ensures { λ r. ⌜ told r ≡ listCheck (schemaOf types (now (numbers .entry))) (now (payload .entry)) (recordsOf (now (list .entry))) ⌝ }
+    ensures { λ r. ⌜ asVerdict r ≡ listCheck (schemaOf types (now (numbers .entry))) (now (payload .entry)) (recordsOf (now (list .entry))) ⌝ }
 {
     let mut keys: [u64; 256] = [0xffff_ffff_ffff_ffff; 256];
     let mut info: [u8; 1024] = [0; 1024];

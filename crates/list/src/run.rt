@@ -6,7 +6,7 @@ ghost use lib.ListN.{length};
 ghost use Rattle.spec.specs.Record.{recordsOf};
 ghost use Rattle.spec.specs.Schema.{Schema};
 ghost use Rattle.spec.specs.Writing.{Fields, Faulty, listFault};
-ghost use Rattle.list.specs.Told.{told};
+ghost use Rattle.list.specs.Told.{asVerdict};
 ghost use Rattle.list.specs.Checking.{Made, Elapsed};
 use crate::Verdict;
 use crate::record::Asked;
@@ -49,7 +49,7 @@ fn elements(list: &[u64], from: usize, depth: u64, number: u64, kind: u64) -> Be
 }
 
 fn faulty(number: u32, at: usize) -> Verdict
-    ensures { λ r. ⌜ told r ≡ Faulty number (at / 6) ⌝ }
+    ensures { λ r. ⌜ asVerdict r ≡ Faulty number (at / 6) ⌝ }
 {
     Verdict::Faulty {
         number,
@@ -65,7 +65,7 @@ pub(crate) fn list_fault(
     payload: &[u8],
 ) -> Verdict
     ensures { λ r. ⌜ ((sch : Schema) → Made sch (now (keys .entry)) (now (info .entry))
-        → told r ≡ listFault sch (now (payload .entry)) 0 (Fields 0 ∷ []) (recordsOf (now (list .entry)))) ⌝ }
+        → asVerdict r ≡ listFault sch (now (payload .entry)) 0 (Fields 0 ∷ []) (recordsOf (now (list .entry)))) ⌝ }
 {
     let table = record_wires();
     let mut open: [u8; 101] = [0; 101];

@@ -19,7 +19,7 @@ use Rattle.pull.specs.declared.reader.Opened.{Opened}
 use Rattle.pull.specs.declared.reader.Stepped.{Stepped}
 use Rattle.pull.specs.declared.reader.Entered.{Entered}
 use Rattle.pull.specs.declared.reader.Once.{Once}
-use Rattle.pull.specs.Told.{saidTold, told, asked, Gated}
+use Rattle.pull.specs.Told.{saidTold, asMoved, asked, Gated}
 use Rattle.pull.specs.Reader.{readerTold, openedTold, steppedTold, enteredTold, Entering, onceTold, openNumber, firstPart}
 use Rattle.pull.proofs.StepLaws.{one-said}
 
@@ -46,7 +46,7 @@ abbrev pub stepping : Reader → Moved → Stepped
 stepping d m = record { said = m .said; reader = record { s = d .s; at = m .at; level = d .level } }
 
 module _ (d : Reader) (ask : Ask) where
-  pub step-says : (m : Moved) → told m ≡ stepAt (now (d .s)) (d .at) (d .level) (asked ask) → steppedTold (stepping d m) ≡ stepped (readerTold d) (asked ask)
+  pub step-says : (m : Moved) → asMoved m ≡ stepAt (now (d .s)) (d .at) (d .level) (asked ask) → steppedTold (stepping d m) ≡ stepped (readerTold d) (asked ask)
   unfolding stepped
   step-says m e = ap (λ (x : spec.Moved). record { said = x .said; reader = reader (now (d .s)) (x .at) (d .level) }) e
 

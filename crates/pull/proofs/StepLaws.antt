@@ -28,7 +28,7 @@ use Rattle.pull.specs.declared.value.Span.the-variants as span
 use Rattle.pull.specs.declared.step.Said.{Said}
 use Rattle.pull.specs.declared.step.Said.the-variants as said
 use Rattle.pull.specs.declared.step.Moved.{Moved}
-use Rattle.pull.specs.Told.{saidTold, told, numberOf, spanAt, contentOf, shutAt, Gated}
+use Rattle.pull.specs.Told.{saidTold, asMoved, numberOf, spanAt, contentOf, shutAt, Gated}
 
 -- ---- varints of few bytes, which are the same at both widths
 
@@ -38,16 +38,16 @@ later-byte : (k last at : ℕ) (s : List ℕ) {v n : ℕ} → at < length s → 
 unfolding digit
 later-byte k last at s h l e = rw (drop-cons s at 0, varint-goes-on k last (getD s at 0) (drop (suc at) s) l, ← add-one at, e)
 
-at-width : (narrow : Bool) (at v n : ℕ) (s : List ℕ) → ((k last : ℕ) → varint (suc (suc (suc k))) last (drop at s) ≡ Took v n) → wire.told at (found.Value v (at + n)) ≡ varintOf narrow (drop at s)
+at-width : (narrow : Bool) (at v n : ℕ) (s : List ℕ) → ((k last : ℕ) → varint (suc (suc (suc k))) last (drop at s) ≡ Took v n) → wire.asRead at (found.Value v (at + n)) ≡ varintOf narrow (drop at s)
 at-width true at v n s h = ap (Took v) (omega arith) ∙ sym (h 1 15)
 at-width false at v n s h = ap (Took v) (omega arith) ∙ sym (h 6 1)
 
 module _ (narrow : Bool) (at : ℕ) (s : List ℕ) (inside : at < length s) where
-  pub one-told : getD s at 0 < 128 → wire.told at (found.Value (getD s at 0) (at + 1)) ≡ varintOf narrow (drop at s)
+  pub one-told : getD s at 0 < 128 → wire.asRead at (found.Value (getD s at 0) (at + 1)) ≡ varintOf narrow (drop at s)
   one-told h = at-width narrow at (getD s at 0) 1 s (λ k last. one-byte (suc (suc k)) last at s inside h)
 
   pub two-told : 128 ≤ getD s at 0 → at + 1 < length s → getD s (at + 1) 0 < 128 → {v : ℕ} → v ≡ getD s at 0 % 128 + getD s (at + 1) 0 * 128
-      → wire.told at (found.Value v (at + 2)) ≡ varintOf narrow (drop at s)
+      → wire.asRead at (found.Value v (at + 2)) ≡ varintOf narrow (drop at s)
   two-told b i h {v} e =
       at-width narrow at v 2 s (λ k last. later-byte (suc (suc k)) last at s inside b (one-byte (suc k) last (at + 1) s i h) ∙ ap (λ (x : ℕ). Took x 2) (omega arith))
 
@@ -56,14 +56,14 @@ module _ (narrow : Bool) (at : ℕ) (s : List ℕ) (inside : at < length s) wher
 least : {l most v n : ℕ} → Takes l most (Took v n) → l ≤ n
 least (took h j) = h
 
-pub number-told : (at : ℕ) {most : ℕ} (f : Found) {r : Read} → Takes 1 most r → wire.told at f ≡ r → told (numberOf at f) ≡ numbered at r
+pub number-told : (at : ℕ) {most : ℕ} (f : Found) {r : Read} → Takes 1 most r → wire.asRead at f ≡ r → asMoved (numberOf at f) ≡ numbered at r
 unfolding moved
 number-told at (found.Value v n) t e = rw (← e) (ap (λ (x : ℕ). says (spec.Number v) x) (omega (arith, least (rw (← e) at t))))
 number-told at (found.Refused k) t e = rw (← e) refl
 
 -- ---- contents
 
-pub width-placed : (narrow : Bool) (s : List ℕ) (at : ℕ) {v next : ℕ} → wire.told at (found.Value v next) ≡ varintOf narrow (drop at s) → (at < next) × (next ≤ length s)
+pub width-placed : (narrow : Bool) (s : List ℕ) (at : ℕ) {v next : ℕ} → wire.asRead at (found.Value v next) ≡ varintOf narrow (drop at s) → (at < next) × (next ≤ length s)
 width-placed true s at e = let p = varint-placed 4 15 s at e refl in (p .past, p .inside)
 width-placed false s at e = let p = varint-placed 9 1 s at e refl in (p .past, p .inside)
 
@@ -102,7 +102,7 @@ span-in narrow at s {a} {e} h =
         (omega arith, omega arith, omega (arith, length-drop at s))
     go (No k) Holds.none q = let z : _≡_ {A = ℕ} 0 1 = cc in absurd (omega arith)
 
-pub content-told : (at : ℕ) (r : Read) → told (contentOf at (spanAt at r)) ≡ bounded at r
+pub content-told : (at : ℕ) (r : Read) → asMoved (contentOf at (spanAt at r)) ≡ bounded at r
 unfolding spanAt moved
 content-told at (Took a z) = refl
 content-told at (No k) = refl
@@ -182,7 +182,7 @@ one-said {x} {y} e = sym (back x) ∙ ap untold e ∙ back y
     back (said.Refused k p) = refl
 
 -- every call that ends in a `Moved`: each of these promises names what its answer tells
-pub one-move : {x y : Moved} {m : spec.Moved} → told x ≡ m → told y ≡ m → x ≡ y
+pub one-move : {x y : Moved} {m : spec.Moved} → asMoved x ≡ m → asMoved y ≡ m → x ≡ y
 one-move {x} {y} e f =
-    let h : told x ≡ told y = e ∙ sym f in
+    let h : asMoved x ≡ asMoved y = e ∙ sym f in
     ap₂ (λ (a : Said) (b : ℕ). record { said = a; at = b }) (one-said (ap (λ (m : spec.Moved). m .said) h)) (ap (λ (m : spec.Moved). m .at) h)

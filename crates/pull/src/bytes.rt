@@ -4,13 +4,13 @@ ghost use mathlib.Core.Path.{_≡_};
 ghost use Prim.Native.Nat.{_+_, _*_, _^_, _<_, _≤_};
 ghost use lib.ListN.{length, drop};
 ghost use Rattle.spec.specs.Varint.{varint};
-ghost use Rattle.wire.specs.Answers.{told};
+ghost use Rattle.wire.specs.Answers.{asRead};
 use wire::found::Found;
 
 // At most `more` bytes behind which another stands, and one of at most `last`: a byte a turn, up to the end of the slice.
 pub(crate) fn by_bytes(s: &[u8], at: usize, more: usize, last: u64) -> Found
     requires { ⌜ (128 ^ more < 2 ^ 64) × ((last + 1) * 128 ^ more ≤ 2 ^ 64) × (at < length (now s)) ⌝ }
-    ensures { λ r. ⌜ told at r ≡ varint more last (drop at (now (s .entry))) ⌝ }
+    ensures { λ r. ⌜ asRead at r ≡ varint more last (drop at (now (s .entry))) ⌝ }
 {
     let size = s.len() - at;
     let mut n = 0;

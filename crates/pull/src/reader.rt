@@ -6,7 +6,7 @@ ghost use Prim.Native.Nat.{_≤_};
 ghost use lib.ListN.{length};
 ghost use Rattle.spec.specs.Base.{part};
 ghost use Rattle.spec.specs.Pull.{opened, stepped, entered, stepAt, reader};
-ghost use Rattle.pull.specs.Told.{told, asked};
+ghost use Rattle.pull.specs.Told.{asMoved, asked};
 ghost use Rattle.pull.specs.Reader.{readerTold, openedTold, steppedTold, enteredTold, onceTold, entering, firstPart, openNumber};
 use crate::step::Ask;
 use crate::step::Moved;
@@ -124,7 +124,7 @@ pub fn enter<'a>(r: Reader<'a>) -> Entered<'a>
 
 // A step of a reader at a position and a level.
 pub fn step_once(s: &[u8], at: usize, level: u32, ask: Ask) -> Moved
-    ensures { λ r. ⌜ told r ≡ stepAt (now (s .entry)) at level (asked ask) ⌝ }
+    ensures { λ r. ⌜ asMoved r ≡ stepAt (now (s .entry)) at level (asked ask) ⌝ }
 {
     let n = step(Reader { s, at, level }, ask);
     Moved {

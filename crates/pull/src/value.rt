@@ -6,7 +6,7 @@ ghost use Rattle.spec.specs.Varint as spec;
 ghost use Rattle.spec.specs.Varint.{varint32};
 ghost use Rattle.spec.specs.Kind.{scalar, int32, bool, sfixed32};
 ghost use Rattle.spec.specs.Skip.{content};
-ghost use Rattle.wire.specs.Answers.{told};
+ghost use Rattle.wire.specs.Answers.{asRead};
 ghost use Rattle.wire.specs.Reached.{varintOf};
 ghost use Rattle.pull.specs.Told.{spanAt};
 use crate::bytes::by_bytes;
@@ -20,7 +20,7 @@ use wire::zigzag::unzigzag;
 
 // A varint32, as a tag is. Those of one or two bytes are read in place, as most are, and the others a byte at a time.
 pub(crate) fn narrow_found(s: &[u8], at: usize) -> Found
-    ensures { λ r. ⌜ told at r ≡ varint32 (drop at (now (s .entry))) ⌝ }
+    ensures { λ r. ⌜ asRead at r ≡ varint32 (drop at (now (s .entry))) ⌝ }
 {
     if s.len() <= at {
         return Found::Refused(1);
@@ -43,7 +43,7 @@ pub(crate) fn narrow_found(s: &[u8], at: usize) -> Found
 
 // A varint of either width, for what is read at both.
 fn varint_found(s: &[u8], at: usize, narrow: bool) -> Found
-    ensures { λ r. ⌜ told at r ≡ varintOf narrow (drop at (now (s .entry))) ⌝ }
+    ensures { λ r. ⌜ asRead at r ≡ varintOf narrow (drop at (now (s .entry))) ⌝ }
 {
     if narrow {
         return narrow_found(s, at);
@@ -53,7 +53,7 @@ fn varint_found(s: &[u8], at: usize, narrow: bool) -> Found
 
 // An int32: a varint64 whose signed number has 32 bits.
 pub(crate) fn int32_found(s: &[u8], at: usize) -> Found
-    ensures { λ r. ⌜ told at r ≡ scalar int32 (drop at (now (s .entry))) ⌝ }
+    ensures { λ r. ⌜ asRead at r ≡ scalar int32 (drop at (now (s .entry))) ⌝ }
 {
     match wide_found(s, at) {
         Found::Value { value, next } => {
@@ -70,7 +70,7 @@ pub(crate) fn int32_found(s: &[u8], at: usize) -> Found
 }
 
 pub(crate) fn bool_found(s: &[u8], at: usize) -> Found
-    ensures { λ r. ⌜ told at r ≡ scalar bool (drop at (now (s .entry))) ⌝ }
+    ensures { λ r. ⌜ asRead at r ≡ scalar bool (drop at (now (s .entry))) ⌝ }
 {
     match wide_found(s, at) {
         Found::Value { value, next } => {
@@ -85,7 +85,7 @@ pub(crate) fn bool_found(s: &[u8], at: usize) -> Found
 
 // A zigzag value of either width.
 pub(crate) fn sint_found(s: &[u8], at: usize, narrow: bool) -> Found
-    ensures { λ r. ⌜ told at r ≡ meaning spec.unzigzag (varintOf narrow (drop at (now (s .entry)))) ⌝ }
+    ensures { λ r. ⌜ asRead at r ≡ meaning spec.unzigzag (varintOf narrow (drop at (now (s .entry)))) ⌝ }
 {
     match varint_found(s, at, narrow) {
         Found::Value { value, next } => {
@@ -97,7 +97,7 @@ pub(crate) fn sint_found(s: &[u8], at: usize, narrow: bool) -> Found
 }
 
 pub(crate) fn sfixed32_found(s: &[u8], at: usize) -> Found
-    ensures { λ r. ⌜ told at r ≡ scalar sfixed32 (drop at (now (s .entry))) ⌝ }
+    ensures { λ r. ⌜ asRead at r ≡ scalar sfixed32 (drop at (now (s .entry))) ⌝ }
 {
     match decode_fixed32(s, at) {
         Found::Value { value, next } => {

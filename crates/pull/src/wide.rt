@@ -3,7 +3,7 @@ ghost use mathlib.Core.Path.{_≡_};
 ghost use Prim.Native.Nat.{_+_, _≤_, _<_};
 ghost use lib.ListN.{length, getD, drop};
 ghost use Rattle.spec.specs.Varint.{varint64};
-ghost use Rattle.wire.specs.Answers.{told};
+ghost use Rattle.wire.specs.Answers.{asRead};
 ghost use Rattle.wire.specs.Reached.{Reached};
 use crate::bytes::by_bytes;
 use wire::found::Found;
@@ -11,7 +11,7 @@ use wire::found::Found;
 // Those of one to three bytes are read in place, as most are, and the others by a call. It is just small enough that the compiler puts it in place wherever it is called:
 // for the second and the third byte it asks at once whether they are there.
 pub(crate) fn wide_found(s: &[u8], at: usize) -> Found
-    ensures { λ r. ⌜ told at r ≡ varint64 (drop at (now (s .entry))) ⌝ }
+    ensures { λ r. ⌜ asRead at r ≡ varint64 (drop at (now (s .entry))) ⌝ }
 {
     if s.len() <= at {
         return Found::Refused(1);
@@ -42,7 +42,7 @@ pub(crate) fn wide_found(s: &[u8], at: usize) -> Found
 // Two or more bytes. Called at two places, and so stays a call where `wide_found` is used more than once.
 fn wide_long(s: &[u8], at: usize) -> Found
     requires { ⌜ (at < length (now s)) × (128 ≤ getD (now s) at 0) ⌝ }
-    ensures { λ r. ⌜ told at r ≡ varint64 (drop at (now (s .entry))) ⌝ }
+    ensures { λ r. ⌜ asRead at r ≡ varint64 (drop at (now (s .entry))) ⌝ }
 {
     if 10 <= s.len() - at {
         return of_ten(s, at);
@@ -53,7 +53,7 @@ fn wide_long(s: &[u8], at: usize) -> Found
 // A varint of two or more bytes, where ten bytes are there: with no call, so that a long value costs a reader little more than its bytes.
 fn of_ten(s: &[u8], at: usize) -> Found
     requires { ⌜ (at + 10 ≤ length (now s)) × (128 ≤ getD (now s) at 0) ⌝ }
-    ensures { λ r. ⌜ told at r ≡ varint64 (drop at (now (s .entry))) ⌝ }
+    ensures { λ r. ⌜ asRead at r ≡ varint64 (drop at (now (s .entry))) ⌝ }
 {
     let b0 = s[at] as u64;
     let b1 = s[at + 1] as u64;
@@ -80,7 +80,7 @@ fn of_ten(s: &[u8], at: usize) -> Found
 // The fifth to the tenth byte, of which all are there; `v4` is the value of the four before them.
 fn from_fifth(s: &[u8], at: usize, v4: u64) -> Found
     requires { ⌜ (at + 10 ≤ length (now s)) × Reached 9 1 (now s) at 4 5 v4 ⌝ }
-    ensures { λ r. ⌜ told at r ≡ varint64 (drop at (now (s .entry))) ⌝ }
+    ensures { λ r. ⌜ asRead at r ≡ varint64 (drop at (now (s .entry))) ⌝ }
 {
     let b4 = s[at + 4] as u64;
     let v5 = v4 + b4 % 128 * 0x1000_0000;
@@ -106,7 +106,7 @@ fn from_fifth(s: &[u8], at: usize, v4: u64) -> Found
 // The eighth to the tenth, likewise.
 fn from_eighth(s: &[u8], at: usize, v7: u64) -> Found
     requires { ⌜ (at + 10 ≤ length (now s)) × Reached 9 1 (now s) at 7 2 v7 ⌝ }
-    ensures { λ r. ⌜ told at r ≡ varint64 (drop at (now (s .entry))) ⌝ }
+    ensures { λ r. ⌜ asRead at r ≡ varint64 (drop at (now (s .entry))) ⌝ }
 {
     let b7 = s[at + 7] as u64;
     let v8 = v7 + b7 % 128 * 0x2_0000_0000_0000;

@@ -22,7 +22,7 @@ use Rattle.spec.proofs.SkipLaws.{good-tag}
 use Rattle.schema.specs.Tables.{tableSays}
 use Rattle.schema.proofs.AskingLaws.{Right, guessed, says-guessed}
 use Rattle.skip.proofs.PastLaws.{one-byte, tag-refused, tag-good, tag-bad, content-short, content-refused}
-use Rattle.wire.specs.Answers.{told}
+use Rattle.wire.specs.Answers.{asRead}
 use Rattle.wire.specs.Reached.{varintOf}
 use Rattle.wire.proofs.FoundLaws.{Placed, varint-placed}
 use Rattle.wire.specs.declared.found.Found.the-variants as found
@@ -72,10 +72,10 @@ module _ (say : ℕ → Says) (at : ℕ) (s : List ℕ) where
   unfolding tagAt
   tag-took e = rw e
 
-  pub refused-tag : {k : ℕ} → told at (found.Refused k) ≡ varint32 (drop at s) → tagged.Bad k ≡ tagAt say at (tag (drop at s))
+  pub refused-tag : {k : ℕ} → asRead at (found.Refused k) ≡ varint32 (drop at s) → tagged.Bad k ≡ tagAt say at (tag (drop at s))
   refused-tag e = tag-no (tag-refused (drop at s) (sym e))
 
-  module _ {v : ℕ} (next : ℕ) (e : told at (found.Value v next) ≡ varint32 (drop at s)) where
+  module _ {v : ℕ} (next : ℕ) (e : asRead at (found.Value v next) ≡ varint32 (drop at s)) where
     pub bad-tag : goodTag v ≡ false → tagged.Bad 3 ≡ tagAt say at (tag (drop at s))
     bad-tag g = tag-no (tag-bad (drop at s) (sym e) g)
 
@@ -109,7 +109,7 @@ module _ (keys info : List ℕ) (ty at : ℕ) (s : List ℕ) (inside : at < leng
 
 -- ---- lengths and contents
 
-pub width-placed : (narrow : Bool) (s : List ℕ) (at : ℕ) {v next : ℕ} → told at (found.Value v next) ≡ varintOf narrow (drop at s) → (at < next) × (next ≤ length s)
+pub width-placed : (narrow : Bool) (s : List ℕ) (at : ℕ) {v next : ℕ} → asRead at (found.Value v next) ≡ varintOf narrow (drop at s) → (at < next) × (next ≤ length s)
 width-placed true s at e = let p = varint-placed 4 15 s at e refl in (p .past, p .inside)
 width-placed false s at e = let p = varint-placed 9 1 s at e refl in (p .past, p .inside)
 
@@ -232,7 +232,7 @@ unsized (other endGroup) at s h = absurd (omega arith)
 unsized (other nothing) at s h = refl
 
 module _ (x : Shape) (at : ℕ) (s : List ℕ) (h : sortOf x ≡ 0) where
-  pub value-body : {v next : ℕ} → told at (found.Value v next) ≡ scalarOf x s → body.Is v at next ≡ bodied x 0 at s
+  pub value-body : {v next : ℕ} → asRead at (found.Value v next) ≡ scalarOf x s → body.Is v at next ≡ bodied x 0 at s
   unfolding valued
   value-body {v} {next} e = go (scalarOf x s) (takes-scalarOf x s) e ∙ sym (unsized x at s h)
     where
@@ -243,7 +243,7 @@ module _ (x : Shape) (at : ℕ) (s : List ℕ) (h : sortOf x ≡ 0) where
           ap₂ (λ (a e : ℕ). body.Is a at e) z (omega arith)
       go (No k) none q = let z : _≡_ {A = ℕ} 0 1 = cc in absurd (omega arith)
 
-  pub refused-body : {k : ℕ} → told at (found.Refused k) ≡ scalarOf x s → body.Bad k ≡ bodied x 0 at s
+  pub refused-body : {k : ℕ} → asRead at (found.Refused k) ≡ scalarOf x s → body.Bad k ≡ bodied x 0 at s
   unfolding valued
   refused-body e = rw (unsized x at s h, ← e) refl
 

@@ -18,7 +18,7 @@ use Rattle.spec.proofs.Laws.{Takes, took, none, takes-scalar}
 use Rattle.spec.proofs.ReadingLaws.{elements-cons}
 use Rattle.wire.specs.declared.found.Found.{Found}
 use Rattle.wire.specs.declared.found.Found.the-variants as found
-use Rattle.wire.specs.Answers.{told}
+use Rattle.wire.specs.Answers.{asRead}
 use Rattle.read.specs.Answers.{scalarOf, Shortly, is-short, meantAs, meantBy, isInt, sizeOne, sizeOf}
 use Rattle.read.specs.Emit.{Left, left, placed, emit, Further}
 use Rattle.read.specs.declared.room.Step.the-variants.{Go, Stop}
@@ -176,17 +176,17 @@ module _ (p : List ℕ) (off depth number kind tag : ℕ) where
     element-bad i e = contents-bad depth number kind tag (shape kind) (off + at) (drop at p) (omega (arith, length-drop at p)) i e
 
     -- the same of an element that was found with the place behind it
-    found-size : {r : Found} {v next : ℕ} → r ≡ found.Value v next → told at r ≡ scalarOf (shape kind) (drop at p) → (at < next) × (next ≤ length p)
+    found-size : {r : Found} {v next : ℕ} → r ≡ found.Value v next → asRead at r ≡ scalarOf (shape kind) (drop at p) → (at < next) × (next ≤ length p)
     found-size {r} {v} {next} is e =
-        let k = element-size {v = v} {n = next - at} (sym e ∙ ap (told at) is) in
+        let k = element-size {v = v} {n = next - at} (sym e ∙ ap (asRead at) is) in
         (omega (arith, k .0), omega (arith, k .0, k .1))
 
-    found-here : {r : Found} {v next : ℕ} → r ≡ found.Value v next → told at r ≡ scalarOf (shape kind) (drop at p)
+    found-here : {r : Found} {v next : ℕ} → r ≡ found.Value v next → asRead at r ≡ scalarOf (shape kind) (drop at p)
         → content at ≡ (row depth number kind v (off + at) (off + next) tag then content next)
     found-here {r} {v} {next} is e =
         let k = found-size is e in
         let behind : at + (next - at) ≡ next = omega (arith, k .0) in
-        element-here {v = v} {n = next - at} (sym e ∙ ap (told at) is) ∙ rw behind
+        element-here {v = v} {n = next - at} (sym e ∙ ap (asRead at) is) ∙ rw behind
 
 -- a loop over its elements
 module _ (depth number kind tag : ℕ) {p : List ℕ} {off : ℕ} {room₀ : List ℕ} {from : ℕ} {room : List ℕ} {at to : ℕ}
@@ -201,9 +201,9 @@ module _ (depth number kind tag : ℕ) {p : List ℕ} {off : ℕ} {room₀ : Lis
   elements-end l =
       from-first (ends (h .further) (ap (contents (shape kind) depth number kind tag (off + at)) (drop-of-length-le p {i = at} l) ∙ contents-none depth number kind tag (shape kind) (off + at)))
 
-  module _ (lt : at < length p) {r : Found} (e : told at r ≡ scalarOf (shape kind) (drop at p)) where
+  module _ (lt : at < length p) {r : Found} (e : asRead at r ≡ scalarOf (shape kind) (drop at p)) where
     pub element-refused : {k : ℕ} → isScalar (shape kind) ≡ true → r ≡ found.Refused k → left (Stop k to tag) room ≡ all
-    element-refused i is = from-first (stops (h .further) (element-bad p off depth number kind tag lt i (sym e ∙ ap (told at) is)))
+    element-refused i is = from-first (stops (h .further) (element-bad p off depth number kind tag lt i (sym e ∙ ap (asRead at) is)))
 
     pub element-full : {v next : ℕ} → r ≡ found.Value v next → length room - to < stride → left (Stop 8 to tag) room ≡ all
     element-full is l = from-first (full (h .further) (found-here p off depth number kind tag lt is e) l)

@@ -37,7 +37,7 @@ fn counted(number: u32, to: usize, place: usize) -> Answer
     }
 }
 
-fn told(step: Step) -> Answer
+fn answered(step: Step) -> Answer
     ensures { λ r. ⌜ r ≡ answered step ⌝ }
 {
     match step {
@@ -60,7 +60,7 @@ pub fn read_prepared(keys: &[u64; 256], info: &[u8; 1024], s: &[u8], room: &mut 
             place: 0,
         };
     }
-    told(message(keys, info, s, 0, 0, 0, room, 0))
+    answered(message(keys, info, s, 0, 0, 0, room, 0))
 }
 
 // Reads the message `s` under a schema of five numbers an entry.

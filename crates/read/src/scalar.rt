@@ -5,7 +5,7 @@ ghost use lib.ListN.{length, drop};
 ghost use Rattle.spec.specs.Varint.{fixed};
 ghost use Rattle.spec.specs.Base.{if_then_else_, No, meaning};
 ghost use Rattle.spec.specs.Kind.{shape, extend};
-ghost use Rattle.wire.specs.Answers.{told};
+ghost use Rattle.wire.specs.Answers.{asRead};
 ghost use Rattle.wire.specs.Reached.{varintOf};
 ghost use Rattle.read.specs.Answers.{scalarOf, meantBy, isInt, isSigned, isNarrow, inRange, intBy, sizeOf, Shortly};
 use wire::fixed::decode_fixed32;
@@ -143,7 +143,7 @@ fn is_narrow(kind: u64) -> bool
 }
 
 pub(crate) fn varint_at(s: &[u8], at: usize, narrow: bool) -> Found
-    ensures { λ r. ⌜ told at r ≡ varintOf narrow (drop at (now (s .entry))) ⌝ }
+    ensures { λ r. ⌜ asRead at r ≡ varintOf narrow (drop at (now (s .entry))) ⌝ }
 {
     if narrow {
         return decode_varint32(s, at);
@@ -153,7 +153,7 @@ pub(crate) fn varint_at(s: &[u8], at: usize, narrow: bool) -> Found
 
 // A value of a kind whose values are varints.
 pub(crate) fn int_at(s: &[u8], at: usize, kind: u64) -> Found
-    ensures { λ r. ⌜ told at r ≡ intBy (shape kind) (isSigned kind) (varintOf (isNarrow kind) (drop at (now (s .entry)))) ⌝ }
+    ensures { λ r. ⌜ asRead at r ≡ intBy (shape kind) (isSigned kind) (varintOf (isNarrow kind) (drop at (now (s .entry)))) ⌝ }
 {
     match varint_at(s, at, is_narrow(kind)) {
         Found::Value { value, next } => {
@@ -172,7 +172,7 @@ pub(crate) fn int_at(s: &[u8], at: usize, kind: u64) -> Found
 // ---- numbers of four bytes with a sign
 
 fn sfixed32_at(s: &[u8], at: usize) -> Found
-    ensures { λ r. ⌜ told at r ≡ meaning extend (fixed 4 (drop at (now (s .entry)))) ⌝ }
+    ensures { λ r. ⌜ asRead at r ≡ meaning extend (fixed 4 (drop at (now (s .entry)))) ⌝ }
 {
     match decode_fixed32(s, at) {
         Found::Value { value, next } => {
@@ -197,7 +197,7 @@ pub(crate) fn fixed_size(kind: u64) -> usize
 }
 
 fn int_or_none(s: &[u8], at: usize, kind: u64) -> Found
-    ensures { λ r. ⌜ told at r ≡ (if isInt (shape kind) then scalarOf (shape kind) (drop at (now (s .entry))) else No 3) ⌝ }
+    ensures { λ r. ⌜ asRead at r ≡ (if isInt (shape kind) then scalarOf (shape kind) (drop at (now (s .entry))) else No 3) ⌝ }
 {
     if !is_int(kind) {
         return Found::Refused(3);
@@ -207,7 +207,7 @@ fn int_or_none(s: &[u8], at: usize, kind: u64) -> Found
 
 // A value of a kind that is one number, and else refusal 3.
 pub(crate) fn scalar_at(s: &[u8], at: usize, kind: u64) -> Found
-    ensures { λ r. ⌜ told at r ≡ scalarOf (shape kind) (drop at (now (s .entry))) ⌝ }
+    ensures { λ r. ⌜ asRead at r ≡ scalarOf (shape kind) (drop at (now (s .entry))) ⌝ }
 {
     match kind {
         1 | 6 | 16 | 22 => decode_fixed64(s, at),

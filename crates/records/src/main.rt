@@ -1,8 +1,8 @@
 // Prints the records of one message on standard input, read under schema A of the rules: at most 65,536 bytes, and room for 1,024 records.
 use libc::STDIN_FILENO;
 use libc::STDOUT_FILENO;
-use lines::put_byte;
-use lines::put_listing;
+use printing::put_byte;
+use printing::put_listing;
 use read::Answer;
 
 // Schema A: owner, number, kind, repeated, child of each entry.

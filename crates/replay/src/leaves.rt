@@ -11,9 +11,9 @@ use crate::words::done;
 use crate::words::hex;
 use crate::words::number32;
 use crate::words::number64;
-use lines::put_decimal;
-use lines::put_hex;
-use lines::put_text;
+use printing::put_decimal;
+use printing::put_hex;
+use printing::put_text;
 use wire::put::Put;
 use wire::varint::decode::decode_varint32;
 use wire::varint::decode::decode_varint64;
@@ -63,7 +63,7 @@ pub fn vsize(line: &[u8], at: usize, out: &mut [u8]) -> usize {
     if !done(line, v.next) {
         return 0;
     }
-    one(rt::compute_raw_varint64_size(v.value), out)
+    one(sizes::compute_raw_varint64_size(v.value), out)
 }
 
 // `tagsize NUMBER`: how many bytes a tag takes.
@@ -72,7 +72,7 @@ pub fn tagsize(line: &[u8], at: usize, out: &mut [u8]) -> usize {
     if !done(line, n.next) {
         return 0;
     }
-    one(rt::tag_size(n.value), out)
+    one(sizes::tag_size(n.value), out)
 }
 
 // `zdec32 N`: the pattern of the number that N stands for.

@@ -5,7 +5,7 @@ mod pulls;
 mod readings;
 mod schemas;
 mod signs;
-mod sizes;
+mod sizings;
 mod skips;
 mod told;
 mod words;
@@ -17,8 +17,8 @@ use crate::input::next_line;
 use crate::words::name_in;
 use crate::words::past;
 use libc::STDOUT_FILENO;
-use lines::put_byte;
-use lines::put_text;
+use printing::put_byte;
+use printing::put_text;
 
 // The most characters of a line.
 const LONGEST: usize = 65536;
@@ -47,8 +47,8 @@ fn leaf(
         11 => leaves::msgsize(line, at, out),
         12 => leaves::wire(line, at, out),
         13 => leaves::utf8(line, at, bytes, out),
-        14 => sizes::fieldsize(line, at, out),
-        15 => sizes::packedsize(line, at, list, out),
+        14 => sizings::fieldsize(line, at, out),
+        15 => sizings::packedsize(line, at, list, out),
         16 => skips::skip(line, at, false, bytes, out),
         17 => skips::skip(line, at, true, bytes, out),
         18 => skips::document(line, at, bytes, out),

@@ -6,9 +6,9 @@ use crate::told::touched;
 use crate::words::done;
 use crate::words::hex;
 use crate::words::number32;
-use lines::put_listing;
-use lines::put_records;
-use lines::put_text;
+use printing::put_listing;
+use printing::put_records;
+use printing::put_text;
 use read::Answer;
 
 // What each number of the room is where nothing is stored.

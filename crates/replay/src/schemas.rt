@@ -8,8 +8,8 @@ use crate::words::done;
 use crate::words::groups;
 use crate::words::number32;
 use crate::words::past;
-use lines::put_decimal;
-use lines::put_text;
+use printing::put_decimal;
+use printing::put_text;
 use schema::Place;
 use schema::Verdict;
 

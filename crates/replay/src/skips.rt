@@ -4,7 +4,7 @@ use crate::told::spaced;
 use crate::words::done;
 use crate::words::hex;
 use crate::words::number32;
-use lines::put_text;
+use printing::put_text;
 use skip::unknown_or_group::Skipped;
 use skip::unknown_or_group::read_unknown_or_skip_group;
 use skip::unknown_or_group::skip_field_for_tag;

@@ -1,6 +1,6 @@
 // Answers that several verbs give.
-use lines::put_decimal;
-use lines::put_text;
+use printing::put_decimal;
+use printing::put_text;
 use wire::found::Found;
 use wire::wire_format::Sized;
 

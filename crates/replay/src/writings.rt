@@ -8,9 +8,9 @@ use crate::words::done;
 use crate::words::groups;
 use crate::words::hex;
 use crate::words::number32;
-use lines::put_byte;
-use lines::put_hex;
-use lines::put_text;
+use printing::put_byte;
+use printing::put_hex;
+use printing::put_text;
 use write::Answer;
 
 // What each byte of the output is where nothing is written.

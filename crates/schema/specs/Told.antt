@@ -20,9 +20,9 @@ abbrev pub fiveAt : List ℕ → ℕ → Five
 fiveAt ns i = record { owner = getD ns i 0; number = getD ns (i + 1) 0; kind = getD ns (i + 2) 0; repeated = getD ns (i + 3) 0; child = getD ns (i + 4) 0 }
 
 -- the place of the first bad entry
-abbrev pub told : Verdict → Option ℕ
-told Valid = none
-told (Bad i) = some i
+abbrev pub badPlace : Verdict → Option ℕ
+badPlace Valid = none
+badPlace (Bad i) = some i
 
 abbrev pub place : Place → Option ℕ
 place (At i) = some i

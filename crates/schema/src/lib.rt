@@ -7,7 +7,7 @@ ghost use lib.ListN.{length, set};
 ghost use Rattle.spec.specs.Schema.{goodEntry, badSchema, schemaOf};
 ghost use Rattle.schema.specs.Search.{seek, findIn};
 ghost use Rattle.schema.specs.Tables.{counted, nextKey, innerIn, noted, soundOf, keysWith, infoWith, keyAt, entryFor, unknown, typed, tableSays};
-ghost use Rattle.schema.specs.Told.{entry, fiveAt, told, place, said};
+ghost use Rattle.schema.specs.Told.{entry, fiveAt, badPlace, place, said};
 use wire::wire_format;
 
 // The numbers of an entry.
@@ -118,7 +118,7 @@ fn next_key(types: u32, last: u64, f: Five) -> u64
 
 // Whether a schema is valid.
 pub fn check(types: u32, numbers: &[u32]) -> Verdict
-    ensures { λ r. ⌜ told r ≡ badSchema (schemaOf types (now (numbers .entry))) ⌝ }
+    ensures { λ r. ⌜ badPlace r ≡ badSchema (schemaOf types (now (numbers .entry))) ⌝ }
 {
     if !counts_ok(types, numbers.len()) {
         return Verdict::Bad(0);
@@ -194,7 +194,7 @@ fn note(e: usize, f: Five, key: u64, w: u8, keys: &mut [u64; 256], info: &mut [u
 
 // The tables of a schema; of the entries before the first bad one where it is not valid.
 pub fn tables(types: u32, numbers: &[u32], keys: &mut [u64; 256], info: &mut [u8; 1024]) -> Verdict
-    ensures { λ r. ⌜ (told r ≡ badSchema (schemaOf types (now (numbers .entry))))
+    ensures { λ r. ⌜ (badPlace r ≡ badSchema (schemaOf types (now (numbers .entry))))
         × (now (keys .exit) ≡ keysWith 0 (soundOf (schemaOf types (now (numbers .entry)))) (now (keys .entry)))
         × (now (info .exit) ≡ infoWith 0 (soundOf (schemaOf types (now (numbers .entry)))) (now (info .entry))) ⌝ }
 {

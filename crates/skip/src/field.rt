@@ -5,7 +5,7 @@ ghost use lib.ListN.{length, drop};
 ghost use Rattle.spec.specs.Varint.{varint32, varint64, fixed, tag};
 ghost use Rattle.spec.specs.Skip.{content, plain};
 ghost use Rattle.skip.specs.declared.field.Past.the-variants.{To};
-ghost use Rattle.wire.specs.Answers.{told};
+ghost use Rattle.wire.specs.Answers.{asRead};
 ghost use Rattle.skip.specs.Passed.{behind};
 use wire::found::Found;
 use wire::varint::decode::decode_varint32;
@@ -18,7 +18,7 @@ pub enum Past {
 
 // The tag at a position. Most have one byte: those are read in place.
 pub(crate) fn tag_at(s: &[u8], at: usize) -> Found
-    ensures { λ r. ⌜ told at r ≡ tag (drop at (now (s .entry))) ⌝ }
+    ensures { λ r. ⌜ asRead at r ≡ tag (drop at (now (s .entry))) ⌝ }
 {
     if s.len() <= at {
         return Found::Refused(1);
@@ -38,7 +38,7 @@ pub(crate) fn tag_at(s: &[u8], at: usize) -> Found
 }
 
 fn long_tag(s: &[u8], at: usize) -> Found
-    ensures { λ r. ⌜ told at r ≡ tag (drop at (now (s .entry))) ⌝ }
+    ensures { λ r. ⌜ asRead at r ≡ tag (drop at (now (s .entry))) ⌝ }
 {
     let f = decode_varint32(s, at);
     let Found::Value { value, next: _ } = f else {

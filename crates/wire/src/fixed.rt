@@ -8,7 +8,7 @@ ghost use lib.Seq.{sets};
 ghost use Rattle.spec.specs.Base.{Took};
 ghost use Rattle.spec.specs.Varint.{fixed, little};
 ghost use Rattle.spec.specs.Kind.{extend};
-ghost use Rattle.wire.specs.Answers.{told, Stored};
+ghost use Rattle.wire.specs.Answers.{asRead, Stored};
 
 // The number of four bytes.
 fn four(s: &[u8], at: usize) -> u64
@@ -23,7 +23,7 @@ fn four(s: &[u8], at: usize) -> u64
 }
 
 pub fn decode_fixed32(s: &[u8], at: usize) -> Found
-    ensures { λ r. ⌜ told at r ≡ fixed 4 (drop at (now (s .entry))) ⌝ }
+    ensures { λ r. ⌜ asRead at r ≡ fixed 4 (drop at (now (s .entry))) ⌝ }
 {
     if s.len() < at {
         return Found::Refused(1);
@@ -37,7 +37,7 @@ pub fn decode_fixed32(s: &[u8], at: usize) -> Found
 }
 
 pub fn decode_fixed64(s: &[u8], at: usize) -> Found
-    ensures { λ r. ⌜ told at r ≡ fixed 8 (drop at (now (s .entry))) ⌝ }
+    ensures { λ r. ⌜ asRead at r ≡ fixed 8 (drop at (now (s .entry))) ⌝ }
 {
     if s.len() < at {
         return Found::Refused(1);

@@ -11,10 +11,10 @@ use Rattle.spec.specs.Varint.{encode, zigzag, little}
 use Rattle.spec.specs.Kind.{int32, uint32, uint64, bool, sint32, sint64, fixed32, sfixed32, fixed64, Shape, one, other, string, bytes, message, packed, startGroup, endGroup, nothing, shape, wire, isScalar, encoded}
 use Rattle.spec.specs.Record.{Record}
 use Rattle.spec.specs.Writing.{body}
-use Rattle.spec.proofs.RoundTrip.{shape-11, shape-20}
+use Rattle.spec.proofs.RoundTrip.{shape-message, shape-packed}
 use Rattle.spec.proofs.KindLaws.{wireOne, wireOf, wire-shape}
-use Rattle.rt.specs.SizeParts.{coded}
-use Rattle.rt.proofs.ValueSizes.{zigzags, zigzag-kind}
+use Rattle.sizes.specs.SizeParts.{coded}
+use Rattle.sizes.proofs.ValueSizes.{zigzags, zigzag-kind}
 use Rattle.write.specs.Backward.{plain, lead, isHead}
 
 unfoldable byWire : ℕ → Bool → ℕ → List ℕ
@@ -53,7 +53,7 @@ heads (other nothing) = false
 headless : (k : ℕ) → heads (shape k) ≡ false → isHead k ≡ false
 unfolding heads
 headless k h =
-    ap₂ _||_ (ne-eqb k 11 (λ e. false≢true (sym h ∙ ap heads (ap shape e ∙ shape-11)))) (ne-eqb k 20 (λ e. false≢true (sym h ∙ ap heads (ap shape e ∙ shape-20))))
+    ap₂ _||_ (ne-eqb k 11 (λ e. false≢true (sym h ∙ ap heads (ap shape e ∙ shape-message)))) (ne-eqb k 20 (λ e. false≢true (sym h ∙ ap heads (ap shape e ∙ shape-packed))))
 
 -- where a record is no head, there is none in it
 pub body-lead : (k : ℕ) (payload : List ℕ) (r : Record) (inner : List ℕ) → (isHead k ≡ false → inner ≡ [])

@@ -11,7 +11,7 @@ use Rattle.spec.specs.Record.{Record, recordsOf}
 use Rattle.spec.specs.Writing.{lies}
 use Rattle.spec.proofs.VarintLaws.{lower-or-not}
 use Rattle.spec.proofs.RoundTrip.{hasContent}
-use Rattle.spec.proofs.ListLaws.{kind-11, kind-20, Low}
+use Rattle.spec.proofs.ListLaws.{is-message-kind, is-packed-head, Low}
 use Rattle.spec.proofs.SizeLaws.{Held, held-cons, held-drop}
 use Rattle.spec.proofs.RunLaws.{Row, row-end, row-more, Nested, a-scalar, a-string, a-bytes, a-message, a-row, Fit, is-row, Sane, sane-first, sane-drop, Passed, records-drop, sane-whole}
 use Rattle.write.specs.Backward.{depthAt, numberAt, kindAt, at, isHead}
@@ -30,8 +30,8 @@ nested-leaf : {r q : Record} {rs : List Record} {x : Shape} → Nested r (q ∷ 
 nested-leaf (a-scalar f l) e h = omega arith
 nested-leaf (a-string o l) e h = omega arith
 nested-leaf (a-bytes o l) e h = omega arith
-nested-leaf {r} (a-message l) e h = absurd (false≢true (sym h ∙ ap isHead (kind-11 (r .kind) e)))
-nested-leaf {r} (a-row sh dep num w) e h = absurd (false≢true (sym h ∙ ap isHead (kind-20 (r .kind) e)))
+nested-leaf {r} (a-message l) e h = absurd (false≢true (sym h ∙ ap isHead (is-message-kind (r .kind) e)))
+nested-leaf {r} (a-row sh dep num w) e h = absurd (false≢true (sym h ∙ ap isHead (is-packed-head (r .kind) e)))
 
 row-first : {d m k : ℕ} {r : Record} {rs : List Record} → Row d m k (r ∷ rs) → d ≤ r .depth → (r .depth ≡ d) × (r .number ≡ m) × (r .kind ≡ k) × Row d m k rs
 row-first (row-end l) h = absurd (omega arith)

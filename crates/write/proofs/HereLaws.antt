@@ -14,13 +14,13 @@ use Rattle.spec.specs.Varint.{encode}
 use Rattle.spec.specs.Kind.{Shape, one, other, string, bytes, message, packed, startGroup, endGroup, nothing, wires, shape, wire, isScalar}
 use Rattle.spec.specs.Record.{Record}
 use Rattle.spec.specs.Writing.{prefixed, tagOf}
-use Rattle.spec.proofs.RoundTrip.{hasContent, shape-11, shape-20}
+use Rattle.spec.proofs.RoundTrip.{hasContent, shape-message, shape-packed}
 use Rattle.spec.proofs.Laws.{both}
 use Rattle.spec.proofs.RunLaws.{Fit, kind-small as kind-below, is-number, is-content}
 use Rattle.write.specs.Backward.{at, kindAt, plain, lead, isHead, Here, leadOf, numberOf, headOf, Leads}
 use Rattle.list.proofs.FitLaws.{type-of, type-small}
 use Rattle.write.proofs.KindLaws.{Head, of-message, of-packed, head}
-use Rattle.rt.specs.SizeParts.{coded}
+use Rattle.sizes.specs.SizeParts.{coded}
 use Rattle.write.proofs.BodyLaws.{plain-by-wire}
 use Rattle.write.proofs.SpanLaws.{from}
 use Rattle.write.proofs.CheckedLaws.{fit-at, lies-at}
@@ -76,8 +76,8 @@ module _ {list payload : List ℕ} {b : ℕ} (h : Here list payload b) where
   head-lead n is = go (head (kindAt list (b / 6)) is)
     where
       go : {k : ℕ} → Head k → lead (shape k) payload (at list (b / 6)) n ≡ encode n
-      go of-message = ap (λ (x : Shape). lead x payload (at list (b / 6)) n) shape-11
-      go of-packed = ap (λ (x : Shape). lead x payload (at list (b / 6)) n) shape-20
+      go of-message = ap (λ (x : Shape). lead x payload (at list (b / 6)) n) shape-message
+      go of-packed = ap (λ (x : Shape). lead x payload (at list (b / 6)) n) shape-packed
 
   pub kind-small : getD list (b + 2) 0 < 25
   kind-small = omega (arith, read 2, kind-below fit)

@@ -15,12 +15,12 @@ use Rattle.spec.specs.Record.{Record, row, recordsOf}
 use Rattle.spec.specs.Sizes.{scalarSize, prefixedSize, valueSize, bodySize, sizeUpTo}
 use Rattle.spec.proofs.VarintLaws.{lower-or-not}
 use Rattle.spec.proofs.FlatLaws.{records-nil}
-use Rattle.spec.proofs.RoundTrip.{hasContent, shape-11, shape-20}
+use Rattle.spec.proofs.RoundTrip.{hasContent, shape-message, shape-packed}
 use Rattle.spec.proofs.ListLaws.{Low}
 use Rattle.spec.proofs.SizeLaws.{sizeIn}
 use Rattle.spec.proofs.RunLaws.{front, behind, front-low, behind-drop, low-behind, front-length, front-size, Row, row-end, row-more, row-low, Nested, a-row, Fit, Content, Sane, sane-first, sane-rest, sane-drop, is-number, is-content, is-message, is-row, records-at, records-drop, sane-whole}
-use Rattle.rt.specs.SizeParts.{capped}
-use Rattle.rt.proofs.ValueSizes.{size-most}
+use Rattle.sizes.specs.SizeParts.{capped}
+use Rattle.sizes.proofs.ValueSizes.{size-most}
 use Rattle.write.specs.Summing.{recordsFrom, runFrom, Summed, Lent, Elements, Below}
 use Rattle.write.proofs.KindLaws.{Head, of-message, of-packed}
 
@@ -157,8 +157,8 @@ content-body (other nothing) r i e = absurd (false≢true e)
 
 head-body : {k : ℕ} (r : Record) (i : ℕ) → Head k → bodySize (shape k) r i ≡ prefixedSize i
 unfolding bodySize
-head-body r i of-message = ap (λ (x : Shape). bodySize x r i) shape-11
-head-body r i of-packed = ap (λ (x : Shape). bodySize x r i) shape-20
+head-body r i of-message = ap (λ (x : Shape). bodySize x r i) shape-message
+head-body r i of-packed = ap (λ (x : Shape). bodySize x r i) shape-packed
 
 capped-prefixed : (m n : ℕ) → capped m ≡ capped n → capped (prefixedSize m) ≡ capped (prefixedSize n)
 unfolding prefixedSize

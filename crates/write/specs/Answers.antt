@@ -6,8 +6,8 @@ use Rattle.spec.specs.Writing.{Writing, number, size, index}
 use Rattle.write.specs.declared.Answer.{Answer}
 
 -- the answer that tells a writing
-unfoldable pub told : Writing → Answer
-told w = record { number = number w; size = size w; index = index w }
+unfoldable pub answerOfWriting : Writing → Answer
+answerOfWriting w = record { number = number w; size = size w; index = index w }
 
 -- The answer for a list without fault, from its size alone: 11 above the limit, 12 where the room is too short for it.
 unfoldable pub bySize : (room n : ℕ) → Answer

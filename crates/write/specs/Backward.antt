@@ -14,7 +14,7 @@ use Rattle.spec.specs.Writing.{prefixed}
 use Rattle.spec.proofs.WritingLaws.{bytesIn}
 use Rattle.spec.proofs.SizeLaws.{Held}
 use Rattle.spec.proofs.RunLaws.{Passed}
-use Rattle.rt.specs.SizeParts.{coded}
+use Rattle.sizes.specs.SizeParts.{coded}
 
 -- ---- bytes in the output
 

@@ -11,7 +11,7 @@ use Rattle.spec.specs.Record.{Record, recordsOf}
 use Rattle.spec.proofs.ListLaws.{Low}
 use Rattle.spec.proofs.SizeLaws.{sizeIn}
 use Rattle.spec.proofs.RunLaws.{front, Row, Sane}
-use Rattle.rt.specs.SizeParts.{capped}
+use Rattle.sizes.specs.SizeParts.{capped}
 
 -- the records from a place on, and those of them that are the run at depth d
 abbrev pub recordsFrom : List ℕ → ℕ → List Record

@@ -12,10 +12,10 @@ ghost use Rattle.spec.specs.Kind.{wires, shape, wire, isScalar};
 ghost use Rattle.spec.specs.Record.{recordsOf};
 ghost use Rattle.spec.specs.Writing.{tagOf, written};
 ghost use Rattle.spec.proofs.WritingLaws.{bytesIn};
-ghost use Rattle.rt.specs.SizeParts.{coded};
+ghost use Rattle.sizes.specs.SizeParts.{coded};
 ghost use Rattle.write.specs.Backward.{Stored, Room, four, at, kindAt, span, start, plain, Given, Here, leadOf, numberOf, headOf, Leads, Upto, Run, Inner, isPacked, Values, Ran};
-use crate::sizes::is_head;
-use rt::compute_raw_varint64_size;
+use crate::measure::is_head;
+use sizes::compute_raw_varint64_size;
 use wire::zigzag::zigzag;
 
 // A place in the list, and one in the output: from there on it is written.

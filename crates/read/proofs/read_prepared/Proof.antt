@@ -14,7 +14,7 @@ message-requires c κs = omega (arith, c .before .if1 .left)
 returns-2 : tie.Need-returns-2
 returns-2 c =
     let m = c .before .before .before in
-    answers-prepared _ _ _ (m .before .before .if1 .left) (m .message .ensures) (c .told .ensures)
+    answers-prepared _ _ _ (m .before .before .if1 .left) (m .message .ensures) (c .answered .ensures)
 
 pub read-prepared-spec : {M : Type 1} → statement M
 read-prepared-spec =

@@ -7,7 +7,7 @@ use Rattle.spec.specs.Record.{recordsOf}
 use Rattle.spec.specs.Schema.{Schema, schemaOf}
 use Rattle.spec.specs.Writing.{listCheck}
 use Rattle.spec.specs.declared.Entry.{Entry}
-use Rattle.list.specs.Told.{told}
+use Rattle.list.specs.Told.{asVerdict}
 use Rattle.list.specs.declared.Verdict.{Verdict}
 use Rattle.entries.specs.Copied.{copiedTo, lentOf}
 use Rattle.entries.proofs.LentLaws.{lent-alike, alike-check}
@@ -16,7 +16,7 @@ abbrev pub Copied : List Entry → List ℕ → ℕ → List ℕ → Type 0
 Copied ys a₀ n a = (n ≡ length ys) × (a ≡ copiedTo ys a₀)
 
 abbrev Under : Schema → List ℕ → List ℕ → Verdict → Type 0
-Under sch list payload r = told r ≡ listCheck sch payload (recordsOf list)
+Under sch list payload r = asVerdict r ≡ listCheck sch payload (recordsOf list)
 
 abbrev pub Told : ℕ → ℕ → List ℕ → List ℕ → List ℕ → Verdict → Type 0
 Told types n a = Under (schemaOf types (take (lentOf n) a))

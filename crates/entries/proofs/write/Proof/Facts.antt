@@ -7,7 +7,7 @@ use Rattle.spec.specs.Record.{recordsOf}
 use Rattle.spec.specs.Schema.{Schema, schemaOf}
 use Rattle.spec.specs.Writing.{writing, output, Writing}
 use Rattle.spec.specs.declared.Entry.{Entry}
-use Rattle.write.specs.Answers.{told}
+use Rattle.write.specs.Answers.{answerOfWriting}
 use Rattle.write.specs.declared.Answer.{Answer}
 use Rattle.entries.specs.Copied.{copiedTo, lentOf}
 use Rattle.entries.proofs.LentLaws.{lent-alike, alike-writing}
@@ -16,7 +16,7 @@ abbrev pub Copied : List Entry → List ℕ → ℕ → List ℕ → Type 0
 Copied ys a₀ n a = (n ≡ length ys) × (a ≡ copiedTo ys a₀)
 
 abbrev Under : Schema → List ℕ → List ℕ → List ℕ → Answer → List ℕ → Type 0
-Under sch list payload out r z = (r ≡ told (writing sch (length out) payload (recordsOf list))) × (z ≡ output (writing sch (length out) payload (recordsOf list)) out)
+Under sch list payload out r z = (r ≡ answerOfWriting (writing sch (length out) payload (recordsOf list))) × (z ≡ output (writing sch (length out) payload (recordsOf list)) out)
 
 abbrev pub Told : ℕ → ℕ → List ℕ → List ℕ → List ℕ → List ℕ → Answer → List ℕ → Type 0
 Told types n a = Under (schemaOf types (take (lentOf n) a))
@@ -29,4 +29,4 @@ ends types ys list payload out a₀ a n r z len wide e t =
     let alike = lent-alike types ys a₀ a len wide (e .1) in
     let same : writing (schemaOf types (take (lentOf n) a)) (length out) payload (recordsOf list) ≡ writing (record { types = types; entries = ys }) (length out) payload (recordsOf list) =
     ap (λ (k : ℕ). writing (schemaOf types (take (lentOf k) a)) (length out) payload (recordsOf list)) (e .0) ∙ alike-writing alike (length out) payload (recordsOf list) in
-    (t .0 ∙ ap told same, t .1 ∙ ap (λ (w : Writing). output w out) same)
+    (t .0 ∙ ap answerOfWriting same, t .1 ∙ ap (λ (w : Writing). output w out) same)

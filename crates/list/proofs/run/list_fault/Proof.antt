@@ -6,7 +6,7 @@ use mathlib.Core.Logic.{⊎-elim}
 use borrow.Author.Needs.{needs}
 use borrow.Author.Tests.{not-true, not-false}
 use lib.ListN.{length, getD, length-replicate, getD-replicate}
-use Rattle.list.specs.Told.{told}
+use Rattle.list.specs.Told.{asVerdict}
 use Rattle.list.specs.Checking.{Typed, Answers, Elapsed}
 use Rattle.list.specs.declared.record.Asked.the-variants.{Expected}
 use Rattle.list.proofs.RunTurn.{Going, Standing, here, go-end, go-rest, go-deep, go-same, go-out, wire-is, stand-other, stand-value-bad, stand-value, stand-fault, stand-low, stand-content, stand-message, stand-elements, elements-on, stand-bad-element}
@@ -211,7 +211,7 @@ returns-6 c =
     λ sch m. c .faulty6 .ensures ∙ go-rest (i .before .loop .inv .0) (c .before .if8 .taken) (i .loop-test .left) sch m
 
 returns-7 : tie.Need-returns-7 Inv-loop μ-loop
-unfolding told
+unfolding asVerdict
 returns-7 c = λ sch m. go-end (c .before .before .loop .inv .0) (c .if8 .left) sch m
 
 pub list-fault-spec : {M : Type 1} → statement M

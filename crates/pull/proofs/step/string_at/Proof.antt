@@ -9,7 +9,7 @@ use Rattle.spec.specs.Base.{if_then_else_}
 use Rattle.spec.specs.Varint.{varint32}
 use Rattle.spec.specs.Skip.{content}
 use Rattle.spec.specs.Pull.{Content, Refused, says, spelled, stepAt}
-use Rattle.pull.specs.Told.{spanAt, told}
+use Rattle.pull.specs.Told.{spanAt, asMoved}
 use Rattle.pull.specs.declared.value.Span.the-variants as span
 use Rattle.pull.proofs.StepLaws.{span-in, text-told, text-refused}
 use borrow.Author.Needs.{needs}
@@ -52,7 +52,7 @@ returns : tie.Need-returns
 unfolding stepAt
 returns c =
     let t = c .before .before in
-    ap told (c .refused .ensures) ∙ (rw (not-true (t .is-utf8 .result) (c .before .if1 .taken)) at (text t))
+    ap asMoved (c .refused .ensures) ∙ (rw (not-true (t .is-utf8 .result) (c .before .if1 .taken)) at (text t))
 
 returns-2 : tie.Need-returns-2
 unfolding stepAt
@@ -63,7 +63,7 @@ unfolding stepAt
 returns-3 c =
     let k = c .before .before in
     let a = k .before .before .before .before .args in
-    ap told (c .refused2 .ensures) ∙ text-refused (a .at) (a .s .now) (content varint32 (drop (a .at) (a .s .now))) (sym (k .k .given .1) ∙ k .before .before .span-at .ensures)
+    ap asMoved (c .refused2 .ensures) ∙ text-refused (a .at) (a .s .now) (content varint32 (drop (a .at) (a .s .now))) (sym (k .k .given .1) ∙ k .before .before .span-at .ensures)
 
 pub string-at-spec : {M : Type 1} → statement M
 string-at-spec = tie.close (tie.spec (λ c κs. search needs) (λ c. search needs) sub-is-utf8 part-is-utf8-start part-is-utf8-end (λ c κs. search needs) (λ c κs. search needs) returns (λ c. search needs) (λ c κs. search needs) returns-2 returns-3)

@@ -4,7 +4,7 @@ use lib.ListN.{drop}
 use borrow.Author.Tests.{ne-eqb}
 use borrow.Author.Needs.{needs}
 use Rattle.spec.specs.Kind.{shape, shapes}
-use Rattle.wire.specs.Answers.{told}
+use Rattle.wire.specs.Answers.{asRead}
 use Rattle.read.specs.Answers.{bodied}
 use Rattle.read.proofs.KindTests.{sortOf, sort-kind}
 use Rattle.read.proofs.ClassifyLaws.{value-body, refused-body}
@@ -30,13 +30,13 @@ returns-3 : tie.Need-returns-3
 returns-3 c =
     let n = c .before .before .before in
     let a = n .before .before .before .args in
-    value-body (shape (a .kind)) (a .at) (drop (a .at) (a .s .now)) (number n) (ap (told (a .at)) (sym (c .before .value .given .1)) ∙ n .scalar-at .ensures)
+    value-body (shape (a .kind)) (a .at) (drop (a .at) (a .s .now)) (number n) (ap (asRead (a .at)) (sym (c .before .value .given .1)) ∙ n .scalar-at .ensures)
 
 returns-4 : tie.Need-returns-4
 returns-4 c =
     let n = c .before .before .before in
     let a = n .before .before .before .args in
-    refused-body (shape (a .kind)) (a .at) (drop (a .at) (a .s .now)) (number n) (ap (told (a .at)) (sym (c .before .k .given .1)) ∙ n .scalar-at .ensures)
+    refused-body (shape (a .kind)) (a .at) (drop (a .at) (a .s .now)) (number n) (ap (asRead (a .at)) (sym (c .before .k .given .1)) ∙ n .scalar-at .ensures)
 
 pub plain-spec : {M : Type 1} → statement M
 plain-spec =

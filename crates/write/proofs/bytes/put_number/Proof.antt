@@ -5,7 +5,7 @@ use native.Mathlib.Omega.{arith}
 use borrow.Author.Needs.{needs}
 use lib.ListN.{length, getD, length-append}
 use Rattle.spec.specs.Varint.{encode}
-use Rattle.rt.specs.SizeParts.{coded}
+use Rattle.sizes.specs.SizeParts.{coded}
 use Rattle.write.proofs.StoreLaws.{stored-then, stored-as}
 use Rattle.write.proofs.bytes.put_number.Statement.{statement}
 use Rattle.write.proofs.bytes.put_number.Tie as tie

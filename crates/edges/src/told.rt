@@ -1,0 +1,34 @@
+// What lines are made of.
+use printing::put_decimal;
+use printing::put_text;
+
+// What a line is about, with how many numbers there are.
+pub fn put_name(name: &[u8], n: usize, at: usize, out: &mut [u8]) -> usize {
+    let named = put_text(name, at, out);
+    let space = put_text(b" ", named, out);
+    let counted = put_decimal(n as u64, space, out);
+    put_text(b": ", counted, out)
+}
+
+// A call's name and two numbers.
+pub fn put_two(call: &[u8], a: u64, b: u64, at: usize, out: &mut [u8]) -> usize {
+    let named = put_text(call, at, out);
+    let first = put_decimal(a, named, out);
+    let space = put_text(b" ", first, out);
+    put_decimal(b, space, out)
+}
+
+// A call's name and three numbers.
+pub fn put_three(call: &[u8], a: u64, b: u64, c: u64, at: usize, out: &mut [u8]) -> usize {
+    let two = put_two(call, a, b, at, out);
+    let space = put_text(b" ", two, out);
+    put_decimal(c, space, out)
+}
+
+// What follows an answer whose buffer has changed where it should not.
+pub fn touched(is: bool, at: usize, out: &mut [u8]) -> usize {
+    if is {
+        return put_text(b" touched", at, out);
+    }
+    at
+}

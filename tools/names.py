@@ -1,0 +1,133 @@
+#!/usr/bin/env python3
+"""names.py [--write] [FILE ..]: finds kinds, wire types, refusals, columns and strides that stand in definitions, promises and proofs as bare numbers.
+
+Without --write it prints each and exits with status 1 where there is one. With --write it puts the names of crates/spec/specs/Names.antt in their places and brings the
+names in by a `use` line: so a draft that was written with numbers is taken over. Without FILE: all .antt and .rt files below crates/. Lists of cases keep their numbers.
+"""
+import pathlib
+import re
+import subprocess
+import sys
+
+REFUSALS = "endsEarly badVarint badTag noGroupOpen outOfRange notUtf8 tooDeep noRoom invalidSchema invalidList tooLarge outputShort".split()
+KINDS = ("doubleKind floatKind int64Kind uint64Kind int32Kind fixed64Kind fixed32Kind boolKind stringKind groupKind messageKind bytesKind uint32Kind enumKind "
+         "sfixed32Kind sfixed64Kind sint32Kind sint64Kind - packedHead unknownVarint unknownFixed64 unknownBytes unknownFixed32 groupStart groupEnd").split()
+WIRES = "varintWire fixed64Wire delimitedWire startGroupWire endGroupWire fixed32Wire - noWire".split()
+refusal = {str(i + 1): n for i, n in enumerate(REFUSALS)}
+kind = {str(i + 1): n for i, n in enumerate(KINDS) if n != "-"}
+wire = {str(i): n for i, n in enumerate(WIRES) if n != "-"}
+level = {"100": "mostLevels", "101": "deepest"}
+largest = {"536870911": "largestNumber", "0x1fff_ffff": "largestNumber"}
+sized = {"2147483647": "limit", "0x7fff_ffff": "limit"}
+stride = {"6": "stride"}
+entry = {"5": "entryStride"}
+
+# what a number stands for where the text around it is this; the number is the group n
+RULES = [
+    (refusal, r"\b(?:No|Fault|Refused|Failed|Faulty|require|refused|faulty) (?P<n>\d+)(?= |\)|$|,|;)"),
+    (refusal, r"\bthen (?P<n>6|7|10) else\b"),
+    (refusal, r"\b(?:recordFault|restFault|rangeFault)\b[^→]*[=≡] (?P<n>\d+)(?= |$|\))"),
+    (kind, r"\.kind\) (?P<n>\d+)\b"),
+    (kind, r"\b(?:eqb|eq-eqb|ne-eqb|eqb-true|eqb-false) (?:k|kind) (?P<n>\d+)\b"),
+    (kind, r"(?:\.kind|\bkind) ≡ (?P<n>\d+)\b"),
+    (kind, r"\bdiffer \w+ k (?P<n>\d+)\b"),
+    (kind, r"\bshape (?P<n>\d+)\b"),
+    (kind, r"\brow \w+ \w+ (?P<n>11|20) 0\b"),
+    (wire, r"% 8\) (?P<n>[0-57])(?= |\)|$)"),
+    (wire, r"% 8 (?:≡|≤) (?P<n>[0-5])\b"),
+    (wire, r"\b(?:eqb|eq-eqb|ne-eqb|eqb-true|eqb-false) w (?P<n>[0-57])\b"),
+    (wire, r"(?<!size )\bw ≡ (?P<n>[0-57])\b"),
+    (wire, r"\b(?:w|wire \w+) (?:≤|<) (?P<n>5)\b"),
+    (wire, r"\b(?:leb|ltb|le-leb|lt-leb|leb-true) w (?P<n>[0-57])\b"),
+    (wire, r"\bIsTag \w+ (?P<n>[34])\b"),
+    (level, r"\b(?P<n>10[01])\b"),
+    (largest, r"\b(?P<n>536870911|0x1fff_ffff)\b"),
+    (sized, r"(?<!limit = )\b(?P<n>2147483647|0x7fff_ffff)\b"),
+]
+HOME = {"limit": "Base", "stride": "Record", "entryStride": "Schema"}
+# lists of cases: bytes and the records that they read as, as the rules list them
+CASES = re.compile(r"Cases\.antt$")
+
+
+def text_of(line, code):
+    """The part of a line that is no comment and no `use`."""
+    if re.match(r"\s*(?:pub )?(?:ghost )?use ", line):
+        return ""
+    return re.split(r"//" if code else r"(?<!\S)--", line)[0]
+
+
+def named(text):
+    """The text with names for its numbers."""
+    for table, rule in RULES:
+        def put(m):
+            name = table.get(m["n"])
+            if not name:
+                return m[0]
+            a, e = m.start("n") - m.start(), m.end("n") - m.start()
+            return m[0][:a] + name + m[0][e:]
+        before = None
+        while before != text:
+            before, text = text, re.sub(rule, put, text)
+    return text
+
+
+def module(path, home, code):
+    """What a file calls a module of spec's definitions."""
+    inside = path.parts[path.parts.index("crates") + 1] == "spec" and not code
+    return f"Rattle.spec{'·specs.specs' if inside else '.specs'}.{home}"
+
+
+def bring(lines, path, names, code):
+    """The lines with a `use` of each name."""
+    end, lead = (";", "ghost use") if code else ("", "use")
+    for home in sorted({HOME.get(n, "Names") for n in names}):
+        wanted = {n for n in names if HOME.get(n, "Names") == home}
+        where = module(path, home, code)
+        if path.name == home + ".antt":
+            continue
+        for i, line in enumerate(lines):
+            m = re.match(re.escape(f"{lead} {where}.{{") + r"(.*)\}" + end + "$", line)
+            if m:
+                have = m[1].split(", ")
+                lines[i] = f"{lead} {where}.{{{', '.join(have + sorted(wanted - set(have)))}}}{end}"
+                break
+        else:
+            at = [i for i, line in enumerate(lines) if line.startswith(lead + " ")]
+            after = [i for i in at if "Rattle.spec" in lines[i]]
+            i = min(after) if after else (max(at) + 1 if at else 0)
+            lines.insert(i, f"{lead} {where}.{{{', '.join(sorted(wanted))}}}{end}")
+    return lines
+
+
+def main():
+    write = "--write" in sys.argv
+    files = [pathlib.Path(a).resolve() for a in sys.argv[1:] if a != "--write"]
+    top = pathlib.Path(__file__).resolve().parent.parent
+    if not files:
+        listed = subprocess.run(["git", "ls-files", "crates"], cwd=top, capture_output=True, text=True, check=True).stdout.split()
+        files = [top / f for f in listed if f.endswith((".antt", ".rt"))]
+    bare = 0
+    for path in files:
+        if CASES.search(path.name) or path.name == "Names.antt" or not path.exists():
+            continue
+        code = path.suffix == ".rt"
+        lines = path.read_text().split("\n")
+        new, names = [], set()
+        for i, line in enumerate(lines, 1):
+            text = text_of(line, code)
+            better = named(text)
+            if better != text:
+                bare += 1
+                if not write:
+                    print(f"{path.relative_to(top)}:{i}: {line.strip()}")
+                old = set(re.findall(r"[\w-]+", text))
+                names |= {w for w in re.findall(r"[\w-]+", better) if w not in old}
+            new.append(better + line[len(text):])
+        if write and new != lines:
+            path.write_text("\n".join(bring(new, path, names, code)))
+    print(f"{bare} lines with bare numbers{' named' if write else ''}")
+    return 1 if bare and not write else 0
+
+
+if __name__ == "__main__":
+    sys.exit(main())
