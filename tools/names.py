@@ -44,21 +44,35 @@ RULES = [
     (largest, r"\b(?P<n>536870911|0x1fff_ffff)\b"),
     (sized, r"(?<!limit = )\b(?P<n>2147483647|0x7fff_ffff)\b"),
 ]
+# in these crates' proofs a six is the stride of a record, but where bytes are copied one by one
+STRIDED = re.compile(r"crates/(?:list|read|sizes|trip|write)/(?!.*[Cc]op)")
+STRIDES = [(stride, r"(?:[+*/%-]) (?P<n>6)\b"), (stride, r"(?<![\w.^-])(?P<n>6) (?:[*+≤<])")]
 HOME = {"limit": "Base", "stride": "Record", "entryStride": "Schema"}
 # lists of cases: bytes and the records that they read as, as the rules list them
 CASES = re.compile(r"Cases\.antt$")
 
 
-def text_of(line, code):
-    """The part of a line that is no comment and no `use`."""
-    if re.match(r"\s*(?:pub )?(?:ghost )?use ", line):
-        return ""
-    return re.split(r"//" if code else r"(?<!\S)--", line)[0]
+# where a number of the rules stands bare in code; the names to write are in crates/spec/src/
+CODE = [
+    r"\bRefused\(\d", r"\bBad\([1-9]", r"\bnumber: [1-9]", r"\bfaulty\(\d", r"\breturn (?:6|7|10);", r"\bkind (?:==|!=|<|<=) \d", r"\d+ <=? kind\b",
+    r"^\s*\d+(?: \| \d+)* => ", r"\bw (?:==|!=|<) \d", r"% 8 (?:==|!=|<) \d", r"\blist\[[a-z]+ [+-] \d\]", r"\broom\[to \+ \d\]", r"\bnumbers\[[^\]]*\+ \d\]",
+    r"(?:\+=|-=|\+|-|/|\*|<=?) 6\b", r"\b6 (?:<=?|\*)", r"\b(?:512|768|0x2000_0000|536870911|72057594037927936|4294967296|0x1_0000_0000) [+*<]", r"[*] (?:4294967296|0x1_0000_0000)\b",
+    r"\b(?:99|100) <=? \w", r"\b0x7fff_ffff\b(?!;)", r"\binner == 255\b", r"\* 255\b",
+]
 
 
-def named(text):
+def parts(text, code):
+    """The text in pieces, and of each whether it is a definition, a promise or a proof: no comment, no `use` and no code."""
+    if code:
+        rule = r"(⌜[^⌝]*⌝)"
+        return [(p, i % 2 == 1) for i, p in enumerate(re.split(rule, text))]
+    rule = r"(?m)(^\s*(?:pub )?use .*$|(?<!\S)--.*$)"
+    return [(p, i % 2 == 0) for i, p in enumerate(re.split(rule, text))]
+
+
+def named(text, path):
     """The text with names for its numbers."""
-    for table, rule in RULES:
+    for table, rule in RULES + (STRIDES if STRIDED.search(str(path)) else []):
         def put(m):
             name = table.get(m["n"])
             if not name:
@@ -111,20 +125,21 @@ def main():
         if CASES.search(path.name) or path.name == "Names.antt" or not path.exists():
             continue
         code = path.suffix == ".rt"
-        lines = path.read_text().split("\n")
-        new, names = [], set()
-        for i, line in enumerate(lines, 1):
-            text = text_of(line, code)
-            better = named(text)
-            if better != text:
-                bare += 1
-                if not write:
-                    print(f"{path.relative_to(top)}:{i}: {line.strip()}")
-                old = set(re.findall(r"[\w-]+", text))
-                names |= {w for w in re.findall(r"[\w-]+", better) if w not in old}
-            new.append(better + line[len(text):])
-        if write and new != lines:
-            path.write_text("\n".join(bring(new, path, names, code)))
+        text = path.read_text()
+        new = "".join(named(p, path) if ours else p for p, ours in parts(text, code))
+        found = [(i, a) for i, (a, b) in enumerate(zip(text.split("\n"), new.split("\n")), 1) if a != b]
+        if write and found:
+            names = set(re.findall(r"[\w-]+", new)) - set(re.findall(r"[\w-]+", text))
+            path.write_text("\n".join(bring(new.split("\n"), path, names, code)))
+        elif not write and code:
+            for i, line in enumerate(text.split("\n"), 1):
+                bared = re.sub(r"//.*|⌜[^⌝]*⌝", "", line)
+                if not re.match(r"\s*(?:pub )?const ", bared) and any(re.search(rule, bared) for rule in CODE):
+                    found.append((i, line))
+        bare += len(found)
+        if not write:
+            for i, line in found:
+                print(f"{path.relative_to(top)}:{i}: {line.strip()}")
     print(f"{bare} lines with bare numbers{' named' if write else ''}")
     return 1 if bare and not write else 0
 
