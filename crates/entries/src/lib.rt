@@ -8,7 +8,7 @@ ghost use Rattle.spec.specs.Reading.{reading, number, place, listed, roomAfter}
 ghost use Rattle.spec.specs.Schema.{entriesOf, schemaOf, placeOf};
 ghost use Rattle.spec.specs.Writing.{listCheck, writing, sizing, output};
 ghost use Rattle.list.specs.Told.{asVerdict as verdict};
-ghost use Rattle.schema.specs.Told.{place};
+ghost use Rattle.schema.specs.Told.{place as entryPlace};
 ghost use Rattle.write.specs.Answers.{answerOfWriting as answer};
 ghost use Rattle.entries.specs.Copied.{nextPlace, fewOf, fiveAt, copiedTo, lentOf, entryAt, countOf, typesOf, firstEntries};
 use list::Verdict;
@@ -41,7 +41,7 @@ fn seen(found: Place, i: usize, e: Entry, owner: u32, number: u32) -> Place
 
 // The place of the first entry of this owner and number.
 pub fn lookup(entries: &[Entry], owner: u32, number: u32) -> Place
-    ensures { λ r. ⌜ place r ≡ placeOf 0 (now (entries .entry)) owner number ⌝ }
+    ensures { λ r. ⌜ entryPlace r ≡ placeOf 0 (now (entries .entry)) owner number ⌝ }
 {
     let mut found = nothing();
     let mut i: usize = 0;
@@ -252,7 +252,7 @@ fn lend_read(types: u32, entries: [Entry; 257], count: usize, s: &[u8], room: &m
 // Lends the first of these entries to `lookup`.
 fn lend_lookup(entries: [Entry; 257], count: usize, owner: u32, number: u32) -> Place
     requires { ⌜ count ≤ 257 ⌝ }
-    ensures { λ r. ⌜ place r ≡ placeOf 0 (take count entries) owner number ⌝ }
+    ensures { λ r. ⌜ entryPlace r ≡ placeOf 0 (take count entries) owner number ⌝ }
 {
     lookup(&entries[..count], owner, number)
 }
@@ -343,7 +343,7 @@ pub fn read_numbers(types: u32, numbers: &[u32], s: &[u8], room: &mut [u64]) -> 
 
 // The place of the first entry of this owner and number, among the first 257.
 pub fn lookup_numbers(numbers: &[u32], owner: u32, number: u32) -> Place
-    ensures { λ r. ⌜ place r ≡ placeOf 0 (firstEntries (now (numbers .entry))) owner number ⌝ }
+    ensures { λ r. ⌜ entryPlace r ≡ placeOf 0 (firstEntries (now (numbers .entry))) owner number ⌝ }
 {
     let count = entry_count(numbers.len());
     let entries = entries_from(numbers, count);
