@@ -12,6 +12,7 @@ ghost use Rattle.spec.specs.Kind.{shape};
 ghost use Rattle.spec.specs.Sizes.{prefixedSize, valuesSize, packedSize};
 ghost use Rattle.wire.specs.FormatTold.{sizeTold};
 ghost use Rattle.sizes.specs.SizeParts.{capped};
+use super::kinds32;
 use super::pattern;
 use super::pattern32;
 use super::prefixed_size;
@@ -123,44 +124,44 @@ fn packed_i64s(kind: u32, number: u32, values: &[i64]) -> Sized
 pub fn vec_packed_int32_size(number: u32, values: &[i32]) -> Sized
     ensures { λ r. ⌜ sizeTold r ≡ packedSize 5 number (map (ofZ w64) (now (values .entry))) ⌝ }
 {
-    packed_i32s(5, number, values)
+    packed_i32s(kinds32::INT32, number, values)
 }
 
 pub fn vec_packed_int64_size(number: u32, values: &[i64]) -> Sized
     ensures { λ r. ⌜ sizeTold r ≡ packedSize 3 number (map (ofZ w64) (now (values .entry))) ⌝ }
 {
-    packed_i64s(3, number, values)
+    packed_i64s(kinds32::INT64, number, values)
 }
 
 pub fn vec_packed_uint32_size(number: u32, values: &[u32]) -> Sized
     ensures { λ r. ⌜ sizeTold r ≡ packedSize 13 number (now (values .entry)) ⌝ }
 {
-    packed_u32s(13, number, values)
+    packed_u32s(kinds32::UINT32, number, values)
 }
 
 pub fn vec_packed_uint64_size(number: u32, values: &[u64]) -> Sized
     ensures { λ r. ⌜ sizeTold r ≡ packedSize 4 number (now (values .entry)) ⌝ }
 {
-    packed_size(4, number, values)
+    packed_size(kinds32::UINT64, number, values)
 }
 
 pub fn vec_packed_sint32_size(number: u32, values: &[i32]) -> Sized
     ensures { λ r. ⌜ sizeTold r ≡ packedSize 17 number (map (ofZ w64) (now (values .entry))) ⌝ }
 {
-    packed_i32s(17, number, values)
+    packed_i32s(kinds32::SINT32, number, values)
 }
 
 pub fn vec_packed_sint64_size(number: u32, values: &[i64]) -> Sized
     ensures { λ r. ⌜ sizeTold r ≡ packedSize 18 number (map (ofZ w64) (now (values .entry))) ⌝ }
 {
-    packed_i64s(18, number, values)
+    packed_i64s(kinds32::SINT64, number, values)
 }
 
 // A negative enum takes ten bytes, where the crate counts five.
 pub fn vec_packed_enum_or_unknown_size(number: u32, values: &[i32]) -> Sized
     ensures { λ r. ⌜ sizeTold r ≡ packedSize 14 number (map (ofZ w64) (now (values .entry))) ⌝ }
 {
-    packed_i32s(14, number, values)
+    packed_i32s(kinds32::ENUM, number, values)
 }
 
 // So many values of one width.

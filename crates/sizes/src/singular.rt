@@ -9,6 +9,7 @@ ghost use Rattle.spec.specs.Varint.{size, tagSize};
 ghost use Rattle.spec.specs.Sizes.{fieldSize};
 ghost use Rattle.wire.specs.FormatTold.{sizeTold};
 use super::compute_raw_varint64_size;
+use super::kinds32;
 use super::pattern;
 use super::pattern32;
 use super::tag_size;
@@ -73,11 +74,11 @@ pub fn field_size(kind: u32, number: u32, value: u64) -> Sized
 pub fn bytes_size(number: u32, bytes: &[u8]) -> Sized
     ensures { λ r. ⌜ sizeTold r ≡ fieldSize 12 number (length (now (bytes .entry))) ⌝ }
 {
-    field_size(12, number, bytes.len() as u64)
+    field_size(kinds32::BYTES, number, bytes.len() as u64)
 }
 
 pub fn string_size(number: u32, s: &[u8]) -> Sized
     ensures { λ r. ⌜ sizeTold r ≡ fieldSize 9 number (length (now (s .entry))) ⌝ }
 {
-    field_size(9, number, s.len() as u64)
+    field_size(kinds32::STRING, number, s.len() as u64)
 }
