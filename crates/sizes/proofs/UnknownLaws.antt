@@ -8,10 +8,11 @@ use lib.Dec.{eqb}
 use lib.ListN.{length, drop, getD, length-drop}
 use lib.Seq.{getD-drop, drop-drop}
 use borrow.Author.Tests.{le-leb}
+use Rattle.spec.specs.Names.{unknownBytes}
 use Rattle.spec.specs.Base.{if_then_else_, between}
 use Rattle.spec.specs.Varint.{tagSize}
 use Rattle.spec.specs.Kind.{shapes, shape}
-use Rattle.spec.specs.Record.{Record, row, recordsOf}
+use Rattle.spec.specs.Record.{Record, row, recordsOf, stride}
 use Rattle.spec.specs.Sizes.{scalarSize, valueSize, bodySize, unknownsSize}
 use Rattle.spec.proofs.FlatLaws.{records-nil, records-broken, records-cons}
 
@@ -25,7 +26,7 @@ body d n v a e (suc (suc (suc zero))) h = refl
 body d n v a e (suc (suc (suc (suc j)))) h = absurd (omega arith)
 
 pub unknown-record : (d n k v a e : ℕ) → 21 ≤ k → k ≤ 24
-    → unknownsSize (row d n k v a e 0 ∷ []) ≡ tagSize n + valueSize (shape k) (if eqb k 23 then e - a else v)
+    → unknownsSize (row d n k v a e 0 ∷ []) ≡ tagSize n + valueSize (shape k) (if eqb k unknownBytes then e - a else v)
 unfolding unknownsSize
 unknown-record d n k v a e l h =
     let here : 21 + (k - 21) ≡ k = omega arith in
@@ -42,14 +43,14 @@ other-record d n k v a e h = simp h
 abbrev pub recordAt : List ℕ → ℕ → Record
 recordAt ns i = row (getD (drop i ns) 0 0) (getD ns (i + 1) 0) (getD ns (i + 2) 0) (getD ns (i + 3) 0) (getD ns (i + 4) 0) (getD ns (i + 5) 0) 0
 
-pub unknown-step : (ns : List ℕ) (i : ℕ) → i + 6 ≤ length ns
-    → unknownsSize (recordsOf (drop i ns)) ≡ unknownsSize (recordAt ns i ∷ []) + unknownsSize (recordsOf (drop (i + 6) ns))
+pub unknown-step : (ns : List ℕ) (i : ℕ) → i + stride ≤ length ns
+    → unknownsSize (recordsOf (drop i ns)) ≡ unknownsSize (recordAt ns i ∷ []) + unknownsSize (recordsOf (drop (i + stride) ns))
 unfolding unknownsSize
 unknown-step ns i h =
     rw (records-cons (drop i ns) (omega (arith, length-drop i ns)))
     (simp (getD-drop, drop-drop) (omega arith))
 
-pub unknown-end : (ns : List ℕ) (i : ℕ) → length ns < i + 6 → unknownsSize (recordsOf (drop i ns)) ≡ 0
+pub unknown-end : (ns : List ℕ) (i : ℕ) → length ns < i + stride → unknownsSize (recordsOf (drop i ns)) ≡ 0
 unfolding unknownsSize
 unknown-end ns i h = go (drop i ns) (omega (arith, length-drop i ns))
   where

@@ -3,6 +3,7 @@ ghost use mathlib.Core.Path.{_≡_};
 ghost use mathlib.Core.List.{[], _∷_};
 ghost use Prim.Native.Nat.{ℕ, _-_, _^_, _<_};
 ghost use lib.Dec.{eqb};
+ghost use Rattle.spec.specs.Names.{unknownBytes};
 ghost use Rattle.spec.specs.Base.{if_then_else_};
 ghost use Rattle.spec.specs.Varint.{tagSize};
 ghost use Rattle.spec.specs.Record.{row, recordsOf};
@@ -36,7 +37,7 @@ fn tag_size64(number: u64) -> u64
 
 // The value of an unknown number, the length of unknown bytes.
 fn value_of(kind: u64, value: u64, start: u64, stop: u64) -> u64
-    ensures { λ r. ⌜ r ≡ (if eqb kind 23 then stop - start else value) ⌝ }
+    ensures { λ r. ⌜ r ≡ (if eqb kind unknownBytes then stop - start else value) ⌝ }
 {
     if kind == kinds::UNKNOWN_BYTES {
         if stop < start {

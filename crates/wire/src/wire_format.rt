@@ -5,6 +5,7 @@ use spec::wire_types;
 ghost use mathlib.Core.Path.{_≡_};
 ghost use lib.ListN.{getD, take};
 ghost use lib.Dec.{leb};
+ghost use Rattle.spec.specs.Names.{badTag, fixed32Wire, noWire, recordKinds};
 ghost use Rattle.spec.specs.Base.{if_then_else_, Took, require, limited};
 ghost use Rattle.spec.specs.Varint.{goodTag, makeTag};
 ghost use Rattle.spec.specs.Kind.{kindWires, wires, wire};
@@ -77,7 +78,7 @@ pub fn kind_wires() -> [u8; kinds::OWN_KINDS]
 
 // The wire types of all kinds that a record has, as a table for many lookups.
 pub fn record_wires() -> [u8; kinds::RECORD_KINDS]
-    ensures { λ r. ⌜ r ≡ take 25 wires ⌝ }
+    ensures { λ r. ⌜ r ≡ take recordKinds wires ⌝ }
 {
     let k = KIND_WIRES;
     [
@@ -142,7 +143,7 @@ pub enum MaybeWireType {
 impl WireType {
     // The wire type of this number, if there is one.
     pub fn new(n: u32) -> MaybeWireType
-        ensures { λ r. ⌜ wireTold r ≡ (if leb n 5 then n else 7) ⌝ }
+        ensures { λ r. ⌜ wireTold r ≡ (if leb n fixed32Wire then n else noWire) ⌝ }
     {
         match n {
             VARINT => MaybeWireType::Known(WireType::Varint),
@@ -157,7 +158,7 @@ impl WireType {
 
     // The wire type of a kind of descriptor.proto, if there is such a kind.
     pub fn for_type(kind: u32) -> MaybeWireType
-        ensures { λ r. ⌜ wireTold r ≡ getD kindWires kind 7 ⌝ }
+        ensures { λ r. ⌜ wireTold r ≡ getD kindWires kind noWire ⌝ }
     {
         if kind < OWN_KINDS {
             let n = KIND_WIRES[kind as usize];
@@ -196,7 +197,7 @@ pub enum Tagged {
 impl Tag {
     // The tag that an integer is.
     pub fn new(value: u32) -> Tagged
-        ensures { λ r. ⌜ tagTold r ≡ require 3 goodTag (Took value 0) ⌝ }
+        ensures { λ r. ⌜ tagTold r ≡ require badTag goodTag (Took value 0) ⌝ }
     {
         match WireType::new(value % 8) {
             MaybeWireType::Known(wire_type) => {

@@ -3,6 +3,7 @@ use Prim.Native.Nat.{ℕ}
 use mathlib.Core.Path.{sym, ap, _∙_}
 use borrow.Author.Needs.{needs}
 use borrow.Author.Tests.{ne-eqb}
+use Rattle.spec.specs.Names.{delimitedWire, fixed32Wire, fixed64Wire, varintWire}
 use Rattle.spec.specs.Varint.{size}
 use Rattle.sizes.specs.SizeParts.{capped}
 use Rattle.sizes.proofs.ValueSizes.{value-by-wire, capped-varint}
@@ -33,7 +34,7 @@ returns-4 c =
 returns-5 : tie.Need-returns-5
 returns-5 c =
     let w : ℕ = c .before .wire-of .result in
-    let none = simp (ne-eqb w 0 (c .match .rest .0 .0 .0 .1), ne-eqb w 1 (c .match .rest .0 .0 .1), ne-eqb w 2 (c .match .rest .0 .1), ne-eqb w 5 (c .match .rest .1)) at (value-by-wire (c .before .before .args .kind) (c .before .before .args .value) w (c .before .wire-of .ensures)) in
+    let none = simp (ne-eqb w varintWire (c .match .rest .0 .0 .0 .1), ne-eqb w fixed64Wire (c .match .rest .0 .0 .1), ne-eqb w delimitedWire (c .match .rest .0 .1), ne-eqb w fixed32Wire (c .match .rest .1)) at (value-by-wire (c .before .before .args .kind) (c .before .before .args .value) w (c .before .wire-of .ensures)) in
     ap capped (sym none)
 
 pub value-size-spec : {M : Type 1} → statement M

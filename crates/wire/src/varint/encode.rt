@@ -20,7 +20,7 @@ const FIVE_BYTES: u64 = 0x1000_0000;
 const NINE_BYTES: u64 = 0x100_0000_0000_0000;
 
 // How many bytes the shortest varint of `value` has: its significant bits, at least 1, plus 6, divided by 7. That is (9 * bits + 64) / 64 for all 65
-// counts, with no branch and no division.
+// counts, with no branch and no division; the bits are 64 less the leading zeros.
 pub fn encoded_varint64_len(value: u64) -> usize
     ensures { λ r. ⌜ r ≡ size value ⌝ }
 {

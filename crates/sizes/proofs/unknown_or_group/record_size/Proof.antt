@@ -6,6 +6,7 @@ use native.Mathlib.Omega.{arith}
 use borrow.Author.Needs.{needs}
 use borrow.Author.Tests.{le-leb, lt-leb}
 use lib.Dec.{eqb}
+use Rattle.spec.specs.Names.{unknownBytes}
 use Rattle.spec.specs.Base.{if_then_else_, between}
 use Rattle.spec.specs.Kind.{shape}
 use Rattle.spec.specs.Sizes.{valueSize}
@@ -34,7 +35,7 @@ returns-3 : tie.Need-returns-3
 returns-3 c =
     let n : ℕ = c .before .before .before .before .before .args .number in
     let k : ℕ = c .before .before .before .before .before .args .kind in
-    let body : c .value-size .result ≡ capped (valueSize (shape k) (if eqb k 23 then c .before .before .before .before .before .args .stop - c .before .before .before .before .before .args .start else c .before .before .before .before .before .args .value)) = c .value-size .ensures ∙ ap (λ (x : ℕ). capped (valueSize (shape k) x)) (c .before .value-of .ensures) in
+    let body : c .value-size .result ≡ capped (valueSize (shape k) (if eqb k unknownBytes then c .before .before .before .before .before .args .stop - c .before .before .before .before .before .args .start else c .before .before .before .before .before .args .value)) = c .value-size .ensures ∙ ap (λ (x : ℕ). capped (valueSize (shape k) x)) (c .before .value-of .ensures) in
     ((λ d. omega (arith, c .before .before .tag-size64 .ensures, body, unknown-record d n k (c .before .before .before .before .before .args .value) (c .before .before .before .before .before .args .start) (c .before .before .before .before .before .args .stop) (omega arith) (omega arith))), omega (arith, size-most (n * 8)))
 
 pub record-size-spec : {M : Type 1} → statement M
