@@ -10,7 +10,7 @@ use lib.Count.{leadingZeros}
 use lib.Dec.{eqb}
 use lib.ListN.{length, List·getD-eq-default}
 use borrow.Author.Tests.{le-leb, lt-leb}
-use Rattle.spec.specs.Names.{delimitedWire, fixed32Wire, fixed64Wire, varintWire}
+use Rattle.spec.specs.Names.{delimitedWire, fixed32Wire, fixed64Wire, varintWire, allKinds, sint32Kind, sint64Kind}
 use Rattle.spec.specs.Base.{if_then_else_, between, limit, limited, Took}
 use Rattle.spec.specs.Varint.{size, tagSize, zigzag}
 use Rattle.spec.specs.Kind.{int32, uint32, uint64, bool, sint32, sint64, fixed32, sfixed32, fixed64, Shape, one, other, string, bytes, message, packed, startGroup, endGroup, nothing, shapes, shape, wire}
@@ -66,14 +66,14 @@ bit-once true false e = absurd (omega arith)
 bit-once false true e = absurd (omega arith)
 bit-once false false e = refl
 
-pub zigzag-kind : (k : ℕ) → zigzags (shape k) ≡ between 17 18 k
+pub zigzag-kind : (k : ℕ) → zigzags (shape k) ≡ between sint32Kind sint64Kind k
 unfolding shape shapes zigzags bit
 zigzag-kind k =
-    elim (decLt k 27) [
-      | yes h ↦ bit-once (zigzags (shape k)) (between 17 18 k) (equal-below (λ i. bit (zigzags (shape i))) (λ i. bit (between 17 18 i)) 27 k tt h)
+    elim (decLt k allKinds) [
+      | yes h ↦ bit-once (zigzags (shape k)) (between sint32Kind sint64Kind k) (equal-below (λ i. bit (zigzags (shape i))) (λ i. bit (between sint32Kind sint64Kind i)) allKinds k tt h)
       | no h ↦
           let past : length shapes ≤ k = omega arith in
-          ap zigzags (List·getD-eq-default shapes (other nothing) past) ∙ simp (le-leb 17 k (omega arith), lt-leb k 18 (omega arith))
+          ap zigzags (List·getD-eq-default shapes (other nothing) past) ∙ simp (le-leb sint32Kind k (omega arith), lt-leb k sint64Kind (omega arith))
     ]
 
 unfoldable byWire : ℕ → Bool → ℕ → ℕ

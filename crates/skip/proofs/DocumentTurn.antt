@@ -96,7 +96,7 @@ module _ {s numbers : List ℕ} {n at : ℕ} (h : Here s numbers n at) where
     unfolding goOn
     stopped e = sym (turned Stop e)
 
-    -- a group is opened, where fewer than 100 are open
+    -- a group is opened, where fewer than `mostLevels` are open
     pub opens : t % 8 ≡ startGroupWire → n < mostLevels → Here s (set numbers n (t / 8)) (n + 1) next
     unfolding goOn
     opens w l = record {

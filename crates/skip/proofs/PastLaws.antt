@@ -59,7 +59,7 @@ fixed-ends zero s h = ends
 fixed-ends (suc n) [] h = absurd (omega arith)
 fixed-ends (suc n) (b ∷ s) h = ends-digit 256 b (fixed-ends n s (omega arith))
 
-pub fixed-short : (n : ℕ) (s : List ℕ) → length s < n → fixed n s ≡ No 1
+pub fixed-short : (n : ℕ) (s : List ℕ) → length s < n → fixed n s ≡ No endsEarly
 unfolding fixed digit
 fixed-short zero s h = absurd (omega arith)
 fixed-short (suc n) [] h = refl
@@ -72,7 +72,7 @@ module _ (len : List ℕ → Read) (s : List ℕ) where
     unfolding content _>>=_ longer
     content-ends h = rw (e, le-leb (n + m) (length s) h) ends
 
-    pub content-short : length s < n + m → content len s ≡ No 1
+    pub content-short : length s < n + m → content len s ≡ No endsEarly
     unfolding content _>>=_ longer
     content-short h = rw (e, lt-leb (n + m) (length s) h) refl
 
@@ -92,7 +92,7 @@ module _ (s : List ℕ) where
     unfolding tag require
     tag-good g = rw (e, g) refl
 
-    pub tag-bad : goodTag v ≡ false → tag s ≡ No 3
+    pub tag-bad : goodTag v ≡ false → tag s ≡ No badTag
     unfolding tag require
     tag-bad g = rw (e, g) refl
 

@@ -70,7 +70,7 @@ unfolding refusal taken behind
 answer-past p (Took v n) e q = let f = rw e at q in (f .0, omega arith)
 answer-past p (No k) e q = rw e at q
 
--- ---- 11, then 3, then what the field says
+-- ---- too many bytes, then a bad tag, then what the field says
 
 module _ {t : ℕ} {s : List ℕ} {k : ℕ} (c : Checked t s k) where
   pub checked-skip : (level : ℕ) → 0 < k → skipFieldForTag t level s ≡ No k

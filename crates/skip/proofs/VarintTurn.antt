@@ -21,7 +21,7 @@ pub record Along (s : List ℕ) (at n : ℕ) : Type 0 where
 pub begin : (s : List ℕ) (at : ℕ) → Along s at 0
 begin s at = let q : at + 0 ≡ at = omega arith in record { few = omega arith; rest = rw q refl }
 
-pub no-byte : (k last : ℕ) → varint k last [] ≡ No 1
+pub no-byte : (k last : ℕ) → varint k last [] ≡ No endsEarly
 unfolding varint
 no-byte zero last = refl
 no-byte (suc k) last = refl

@@ -15,21 +15,21 @@ returns c =
     let k : ℕ = c .before .before .before .before .args .kind in
     let v : ℕ = c .before .before .before .before .args .value in
     c .compute-raw-varint64-size .ensures ∙ ap size (c .before .coded-of .ensures) ∙ capped-varint _
-    ∙ ap capped (sym (value-by-wire k v 0 (sym (c .before .before .match .keys1) ∙ c .before .before .before .wire-of .ensures)))
+    ∙ ap capped (sym (value-by-wire k v varintWire (sym (c .before .before .match .keys1) ∙ c .before .before .before .wire-of .ensures)))
 
 returns-2 : tie.Need-returns-2
 returns-2 c =
-    ap capped (sym (value-by-wire (c .before .before .args .kind) (c .before .before .args .value) 1 (sym (c .match .keys2) ∙ c .before .wire-of .ensures)))
+    ap capped (sym (value-by-wire (c .before .before .args .kind) (c .before .before .args .value) fixed64Wire (sym (c .match .keys2) ∙ c .before .wire-of .ensures)))
 
 returns-3 : tie.Need-returns-3
 returns-3 c =
     let k : ℕ = c .before .before .before .args .kind in
     let v : ℕ = c .before .before .before .args .value in
-    c .prefixed-size .ensures ∙ ap capped (sym (value-by-wire k v 2 (sym (c .before .match .keys3) ∙ c .before .before .wire-of .ensures)))
+    c .prefixed-size .ensures ∙ ap capped (sym (value-by-wire k v delimitedWire (sym (c .before .match .keys3) ∙ c .before .before .wire-of .ensures)))
 
 returns-4 : tie.Need-returns-4
 returns-4 c =
-    ap capped (sym (value-by-wire (c .before .before .args .kind) (c .before .before .args .value) 5 (sym (c .match .keys4) ∙ c .before .wire-of .ensures)))
+    ap capped (sym (value-by-wire (c .before .before .args .kind) (c .before .before .args .value) fixed32Wire (sym (c .match .keys4) ∙ c .before .wire-of .ensures)))
 
 returns-5 : tie.Need-returns-5
 returns-5 c =

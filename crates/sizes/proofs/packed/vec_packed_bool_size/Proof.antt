@@ -18,7 +18,7 @@ one-byte true = refl
 one-byte false = refl
 
 returns : tie.Need-returns
-returns c = c .packed-fixed .ensures ∙ packed-same 8 (c .before .before .args .number) 1 boolByte one-byte (c .before .before .args .values .now)
+returns c = c .packed-fixed .ensures ∙ packed-same boolKind (c .before .before .args .number) 1 boolByte one-byte (c .before .before .args .values .now)
 
 pub vec-packed-bool-size-spec : {M : Type 1} → statement M
 vec-packed-bool-size-spec = tie.close (tie.spec (λ c κs. search needs) returns)

@@ -35,8 +35,8 @@ returns c =
     let ns : List ℕ = c .before .before .before .before .before .before .before .before .before .before .args .records .now in
     let i : ℕ = c .before .before .before .before .before .before .before .before .loop .i in
     let e : ℕ = unknownsSize (recordAt ns i ∷ []) in
-    let high : 2147483648 ≡ capped (unknownsSize (recordsOf ns)) = over (i + stride) e (c .before .record-size .result) (c .before .before .before .before .before .before .before .before .loop .inv .1) (unknown-step ns i (omega arith)) (c .before .record-size .ensures .0 _) (omega arith) in
-    limited-same 2147483648 (unknownsSize (recordsOf ns)) (omega arith)
+    let high : limit + 1 ≡ capped (unknownsSize (recordsOf ns)) = over (i + stride) e (c .before .record-size .result) (c .before .before .before .before .before .before .before .before .loop .inv .1) (unknown-step ns i (omega arith)) (c .before .record-size .ensures .0 _) (omega arith) in
+    limited-same (limit + 1) (unknownsSize (recordsOf ns)) (omega arith)
 
 loop-again : tie.Need-loop-again Inv-loop μ-loop
 loop-again c =
