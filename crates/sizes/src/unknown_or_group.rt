@@ -18,7 +18,7 @@ use wire::varint;
 use wire::wire_format::MAX_MESSAGE_SIZE;
 use wire::wire_format::Sized;
 
-// The least number that is above 64 bits as a tag: eight times it is 2 ^ 64.
+// The least number whose tag has more than 64 bits, as a tag is eight times its number: 2 ^ 61.
 const ABOVE_TAGS: u64 = 0x2000_0000_0000_0000;
 
 // The most bytes of a tag.

@@ -3,6 +3,7 @@ ghost use mathlib.Core.Path.{_≡_};
 ghost use mathlib.Core.List.{[]};
 ghost use lib.ListN.{length};
 ghost use Rattle.spec.specs.Document.{isRun, isDocument};
+use crate::LIMIT;
 use crate::field::Past;
 use crate::field::past_plain;
 use crate::field::quick_value;
@@ -11,10 +12,8 @@ use crate::wire_types64;
 use spec::limits;
 use wire::found::Found;
 
-// The most groups that are open, and the most bytes of a document.
+// The most groups that are open.
 const MOST_LEVELS: usize = limits::MOST_LEVELS as usize;
-
-const LIMIT: usize = limits::LIMIT as usize;
 
 // One pass. The numbers of the groups that are open are kept in the order in which they were opened.
 fn is_run(s: &[u8]) -> bool

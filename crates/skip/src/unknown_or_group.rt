@@ -6,6 +6,7 @@ ghost use Rattle.spec.specs.Base.{refusal, taken};
 ghost use Rattle.spec.specs.Skip.{skipField, skipGroup, innerGroup, outerGroup, skipFieldForTag, readUnknownOrSkipGroup};
 ghost use Rattle.skip.specs.Passed.{past, behind, atEnd};
 ghost use Rattle.skip.specs.Checked.{Checked};
+use crate::LIMIT;
 use crate::field::Past;
 use crate::field::past_plain;
 use crate::field::quick_value;
@@ -15,9 +16,6 @@ use spec::limits;
 use spec::refusals;
 use spec::wire_types;
 use wire::found::Found;
-
-// The most bytes that are skipped.
-const LIMIT: usize = limits::LIMIT as usize;
 
 // The largest wire type, at a tag's width.
 const FIXED32: u32 = wire_types::FIXED32 as u32;

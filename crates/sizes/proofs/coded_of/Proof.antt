@@ -1,4 +1,4 @@
--- `sizes::coded_of` meets its contract: the kinds 17 and 18 are those between them. Assumes nothing.
+-- `sizes::coded_of` meets its contract: sint32 and sint64 stand side by side. Assumes nothing.
 use native.Mathlib.Omega.{arith}
 use borrow.Author.Needs.{needs}
 use borrow.Author.Tests.{le-leb, lt-leb}
