@@ -25,7 +25,7 @@ module _ {rest : ℕ → ℕ} {i sum : ℕ} (j e n : ℕ) (h : Summed rest i sum
   pub more : sum + n ≤ limit → Summed rest j (sum + n)
   more l = record { small = l; whole = omega (arith, h .small, h .whole) }
 
-  pub over : limit < sum + n → 2147483648 ≡ capped (rest 0)
+  pub over : limit < sum + n → limit + 1 ≡ capped (rest 0)
   over l = omega (arith, h .whole)
 
 pub done : {rest : ℕ → ℕ} {i sum : ℕ} → Summed rest i sum → rest i ≡ 0 → sum ≡ capped (rest 0)
@@ -54,7 +54,7 @@ module _ {A : Type 0} (g : A → ℕ) (vs : List A) (i sum n : ℕ) (d : A) (h :
   pub next : sum + n ≤ limit → Upto g vs (i + 1) (sum + n)
   next = more (i + 1) (g (getD vs i d)) n h (each-step g vs i d l) (omega arith)
 
-  pub above : limit < sum + n → 2147483648 ≡ capped (each g vs)
+  pub above : limit < sum + n → limit + 1 ≡ capped (each g vs)
   above = over (i + 1) (g (getD vs i d)) n h (each-step g vs i d l) (omega arith)
 
 pub all : {A : Type 0} (g : A → ℕ) (vs : List A) (i sum : ℕ) → Upto g vs i sum → length vs ≤ i → sum ≡ capped (each g vs)

@@ -8,15 +8,16 @@ use lib.Dec.{eqb}
 use lib.ListN.{length, drop, getD, length-drop}
 use lib.Seq.{getD-drop, drop-drop}
 use borrow.Author.Tests.{le-leb}
+use Rattle.spec.specs.Names.{unknownBytes, depthColumn, kindColumn, numberColumn, startColumn, stopColumn, unknownFixed32, unknownVarint, valueColumn}
 use Rattle.spec.specs.Base.{if_then_else_, between}
 use Rattle.spec.specs.Varint.{tagSize}
 use Rattle.spec.specs.Kind.{shapes, shape}
-use Rattle.spec.specs.Record.{Record, row, recordsOf}
+use Rattle.spec.specs.Record.{Record, row, recordsOf, stride}
 use Rattle.spec.specs.Sizes.{scalarSize, valueSize, bodySize, unknownsSize}
 use Rattle.spec.proofs.FlatLaws.{records-nil, records-broken, records-cons}
 
--- the kinds 21 to 24 are numbers and bytes
-body : (d n v a e j : ℕ) → j < 4 → bodySize (shape (21 + j)) (row d n (21 + j) v a e 0) 0 ≡ valueSize (shape (21 + j)) (if eqb (21 + j) 23 then e - a else v)
+-- the four unknown kinds are numbers and bytes
+body : (d n v a e j : ℕ) → j < 4 → bodySize (shape (unknownVarint + j)) (row d n (unknownVarint + j) v a e 0) 0 ≡ valueSize (shape (unknownVarint + j)) (if eqb (unknownVarint + j) unknownBytes then e - a else v)
 unfolding shapes shape scalarSize valueSize bodySize
 body d n v a e zero h = refl
 body d n v a e (suc zero) h = refl
@@ -24,15 +25,15 @@ body d n v a e (suc (suc zero)) h = refl
 body d n v a e (suc (suc (suc zero))) h = refl
 body d n v a e (suc (suc (suc (suc j)))) h = absurd (omega arith)
 
-pub unknown-record : (d n k v a e : ℕ) → 21 ≤ k → k ≤ 24
-    → unknownsSize (row d n k v a e 0 ∷ []) ≡ tagSize n + valueSize (shape k) (if eqb k 23 then e - a else v)
+pub unknown-record : (d n k v a e : ℕ) → unknownVarint ≤ k → k ≤ unknownFixed32
+    → unknownsSize (row d n k v a e 0 ∷ []) ≡ tagSize n + valueSize (shape k) (if eqb k unknownBytes then e - a else v)
 unfolding unknownsSize
 unknown-record d n k v a e l h =
-    let here : 21 + (k - 21) ≡ k = omega arith in
-    let is = subst (λ (m : ℕ). bodySize (shape m) (row d n m v a e 0) 0 ≡ valueSize (shape m) (if eqb m 23 then e - a else v)) here (body d n v a e (k - 21) (omega arith)) in
-    simp (le-leb 21 k l, le-leb k 24 h) (omega (arith, is))
+    let here : unknownVarint + (k - unknownVarint) ≡ k = omega arith in
+    let is = subst (λ (m : ℕ). bodySize (shape m) (row d n m v a e 0) 0 ≡ valueSize (shape m) (if eqb m unknownBytes then e - a else v)) here (body d n v a e (k - unknownVarint) (omega arith)) in
+    simp (le-leb unknownVarint k l, le-leb k unknownFixed32 h) (omega (arith, is))
 
-pub other-record : (d n k v a e : ℕ) → between 21 24 k ≡ false → unknownsSize (row d n k v a e 0 ∷ []) ≡ 0
+pub other-record : (d n k v a e : ℕ) → between unknownVarint unknownFixed32 k ≡ false → unknownsSize (row d n k v a e 0 ∷ []) ≡ 0
 unfolding unknownsSize
 other-record d n k v a e h = simp h
 
@@ -40,19 +41,19 @@ other-record d n k v a e h = simp h
 
 -- the record at a place
 abbrev pub recordAt : List ℕ → ℕ → Record
-recordAt ns i = row (getD (drop i ns) 0 0) (getD ns (i + 1) 0) (getD ns (i + 2) 0) (getD ns (i + 3) 0) (getD ns (i + 4) 0) (getD ns (i + 5) 0) 0
+recordAt ns i = row (getD (drop i ns) depthColumn 0) (getD ns (i + numberColumn) 0) (getD ns (i + kindColumn) 0) (getD ns (i + valueColumn) 0) (getD ns (i + startColumn) 0) (getD ns (i + stopColumn) 0) 0
 
-pub unknown-step : (ns : List ℕ) (i : ℕ) → i + 6 ≤ length ns
-    → unknownsSize (recordsOf (drop i ns)) ≡ unknownsSize (recordAt ns i ∷ []) + unknownsSize (recordsOf (drop (i + 6) ns))
+pub unknown-step : (ns : List ℕ) (i : ℕ) → i + stride ≤ length ns
+    → unknownsSize (recordsOf (drop i ns)) ≡ unknownsSize (recordAt ns i ∷ []) + unknownsSize (recordsOf (drop (i + stride) ns))
 unfolding unknownsSize
 unknown-step ns i h =
     rw (records-cons (drop i ns) (omega (arith, length-drop i ns)))
     (simp (getD-drop, drop-drop) (omega arith))
 
-pub unknown-end : (ns : List ℕ) (i : ℕ) → length ns < i + 6 → unknownsSize (recordsOf (drop i ns)) ≡ 0
+pub unknown-end : (ns : List ℕ) (i : ℕ) → length ns < i + stride → unknownsSize (recordsOf (drop i ns)) ≡ 0
 unfolding unknownsSize
 unknown-end ns i h = go (drop i ns) (omega (arith, length-drop i ns))
   where
-    go : (s : List ℕ) → length s < 6 → unknownsSize (recordsOf s) ≡ 0
+    go : (s : List ℕ) → length s < stride → unknownsSize (recordsOf s) ≡ 0
     go [] h = ap unknownsSize records-nil
     go (n ∷ s) h = ap unknownsSize (records-broken (n ∷ s) (omega arith) h)

@@ -10,6 +10,7 @@ use lib.Count.{leadingZeros}
 use lib.Dec.{eqb}
 use lib.ListN.{length, List·getD-eq-default}
 use borrow.Author.Tests.{le-leb, lt-leb}
+use Rattle.spec.specs.Names.{delimitedWire, fixed32Wire, fixed64Wire, varintWire, allKinds, sint32Kind, sint64Kind}
 use Rattle.spec.specs.Base.{if_then_else_, between, limit, limited, Took}
 use Rattle.spec.specs.Varint.{size, tagSize, zigzag}
 use Rattle.spec.specs.Kind.{int32, uint32, uint64, bool, sint32, sint64, fixed32, sfixed32, fixed64, Shape, one, other, string, bytes, message, packed, startGroup, endGroup, nothing, shapes, shape, wire}
@@ -65,18 +66,18 @@ bit-once true false e = absurd (omega arith)
 bit-once false true e = absurd (omega arith)
 bit-once false false e = refl
 
-pub zigzag-kind : (k : ℕ) → zigzags (shape k) ≡ between 17 18 k
+pub zigzag-kind : (k : ℕ) → zigzags (shape k) ≡ between sint32Kind sint64Kind k
 unfolding shape shapes zigzags bit
 zigzag-kind k =
-    elim (decLt k 27) [
-      | yes h ↦ bit-once (zigzags (shape k)) (between 17 18 k) (equal-below (λ i. bit (zigzags (shape i))) (λ i. bit (between 17 18 i)) 27 k tt h)
+    elim (decLt k allKinds) [
+      | yes h ↦ bit-once (zigzags (shape k)) (between sint32Kind sint64Kind k) (equal-below (λ i. bit (zigzags (shape i))) (λ i. bit (between sint32Kind sint64Kind i)) allKinds k tt h)
       | no h ↦
           let past : length shapes ≤ k = omega arith in
-          ap zigzags (List·getD-eq-default shapes (other nothing) past) ∙ simp (le-leb 17 k (omega arith), lt-leb k 18 (omega arith))
+          ap zigzags (List·getD-eq-default shapes (other nothing) past) ∙ simp (le-leb sint32Kind k (omega arith), lt-leb k sint64Kind (omega arith))
     ]
 
 unfoldable byWire : ℕ → Bool → ℕ → ℕ
-byWire w z v = if eqb w 0 then size (if z then zigzag v else v) else if eqb w 1 then 8 else if eqb w 2 then prefixedSize v else if eqb w 5 then 4 else 0
+byWire w z v = if eqb w varintWire then size (if z then zigzag v else v) else if eqb w fixed64Wire then 8 else if eqb w delimitedWire then prefixedSize v else if eqb w fixed32Wire then 4 else 0
 
 by-wire : (x : Shape) (v : ℕ) → valueSize x v ≡ byWire (wireOf x) (zigzags x) v
 unfolding valueSize scalarSize wireOf wireOne zigzags byWire
@@ -99,7 +100,7 @@ by-wire (other nothing) v = refl
 
 -- the size of a value, as the wire type of its kind finds it
 pub value-by-wire : (k v w : ℕ) → w ≡ wire k
-    → valueSize (shape k) v ≡ (if eqb w 0 then size (coded k v) else if eqb w 1 then 8 else if eqb w 2 then prefixedSize v else if eqb w 5 then 4 else 0)
+    → valueSize (shape k) v ≡ (if eqb w varintWire then size (coded k v) else if eqb w fixed64Wire then 8 else if eqb w delimitedWire then prefixedSize v else if eqb w fixed32Wire then 4 else 0)
 unfolding byWire
 value-by-wire k v w e = by-wire (shape k) v ∙ ap₂ (λ (u : ℕ) (z : Bool). byWire u z v) (sym (e ∙ wire-shape k)) (zigzag-kind k)
 

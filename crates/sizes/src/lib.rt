@@ -1,4 +1,4 @@
-// Sizes, after src/rt of rust-protobuf. A size that could leave the limit is refused 11, and nothing wraps on the way.
+// Sizes, after src/rt of rust-protobuf. A size that could leave the limit is refused as too large, and nothing wraps on the way.
 ghost use mathlib.Core.Path.{_≡_};
 ghost use mir.Syntax.{w64};
 ghost use mir.Val.{ofZ};
@@ -7,6 +7,7 @@ ghost use Rattle.spec.specs.Kind.{shape};
 ghost use Rattle.spec.specs.Sizes.{prefixedSize, valueSize};
 ghost use Rattle.sizes.specs.SizeParts.{capped, coded};
 
+mod kinds32;
 pub mod packed;
 pub mod singular;
 pub mod unknown_or_group;
@@ -36,6 +37,7 @@ pub use self::singular::string_size;
 pub use self::singular::uint32_size;
 pub use self::singular::uint64_size;
 pub use self::unknown_or_group::unknown_fields_size;
+use spec::wire_types;
 use wire::varint::encode::encoded_varint64_len;
 use wire::wire_format::MAX_MESSAGE_SIZE;
 use wire::wire_format::wire_of;
@@ -98,7 +100,7 @@ fn coded_of(kind: u32, value: u64) -> u64
     ensures { λ r. ⌜ r ≡ coded kind value ⌝ }
 {
     match kind {
-        17 | 18 => zigzag(value),
+        kinds32::SINT32 | kinds32::SINT64 => zigzag(value),
         _ => value,
     }
 }
@@ -108,10 +110,10 @@ fn value_size(kind: u32, value: u64) -> u64
     ensures { λ r. ⌜ r ≡ capped (valueSize (shape kind) value) ⌝ }
 {
     match wire_of(kind) {
-        0 => compute_raw_varint64_size(coded_of(kind, value)),
-        1 => 8,
-        2 => prefixed_size(value),
-        5 => 4,
+        wire_types::VARINT => compute_raw_varint64_size(coded_of(kind, value)),
+        wire_types::FIXED64 => 8,
+        wire_types::DELIMITED => prefixed_size(value),
+        wire_types::FIXED32 => 4,
         _ => 0,
     }
 }

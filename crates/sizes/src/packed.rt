@@ -6,12 +6,14 @@ ghost use lib.Dec.{eqb};
 ghost use lib.Ieee.{binary32, binary64, toBits};
 ghost use mir.Syntax.{w64};
 ghost use mir.Val.{ofZ, boolByte};
+ghost use Rattle.spec.specs.Names.{boolKind, doubleKind, enumKind, fixed32Kind, fixed64Kind, floatKind, int32Kind, int64Kind, sfixed32Kind, sfixed64Kind, sint32Kind, sint64Kind, uint32Kind, uint64Kind};
 ghost use Rattle.spec.specs.Base.{if_then_else_, Took, limited};
 ghost use Rattle.spec.specs.Varint.{tagSize};
 ghost use Rattle.spec.specs.Kind.{shape};
 ghost use Rattle.spec.specs.Sizes.{prefixedSize, valuesSize, packedSize};
 ghost use Rattle.wire.specs.FormatTold.{sizeTold};
 ghost use Rattle.sizes.specs.SizeParts.{capped};
+use super::kinds32;
 use super::pattern;
 use super::pattern32;
 use super::prefixed_size;
@@ -121,46 +123,46 @@ fn packed_i64s(kind: u32, number: u32, values: &[i64]) -> Sized
 }
 
 pub fn vec_packed_int32_size(number: u32, values: &[i32]) -> Sized
-    ensures { λ r. ⌜ sizeTold r ≡ packedSize 5 number (map (ofZ w64) (now (values .entry))) ⌝ }
+    ensures { λ r. ⌜ sizeTold r ≡ packedSize int32Kind number (map (ofZ w64) (now (values .entry))) ⌝ }
 {
-    packed_i32s(5, number, values)
+    packed_i32s(kinds32::INT32, number, values)
 }
 
 pub fn vec_packed_int64_size(number: u32, values: &[i64]) -> Sized
-    ensures { λ r. ⌜ sizeTold r ≡ packedSize 3 number (map (ofZ w64) (now (values .entry))) ⌝ }
+    ensures { λ r. ⌜ sizeTold r ≡ packedSize int64Kind number (map (ofZ w64) (now (values .entry))) ⌝ }
 {
-    packed_i64s(3, number, values)
+    packed_i64s(kinds32::INT64, number, values)
 }
 
 pub fn vec_packed_uint32_size(number: u32, values: &[u32]) -> Sized
-    ensures { λ r. ⌜ sizeTold r ≡ packedSize 13 number (now (values .entry)) ⌝ }
+    ensures { λ r. ⌜ sizeTold r ≡ packedSize uint32Kind number (now (values .entry)) ⌝ }
 {
-    packed_u32s(13, number, values)
+    packed_u32s(kinds32::UINT32, number, values)
 }
 
 pub fn vec_packed_uint64_size(number: u32, values: &[u64]) -> Sized
-    ensures { λ r. ⌜ sizeTold r ≡ packedSize 4 number (now (values .entry)) ⌝ }
+    ensures { λ r. ⌜ sizeTold r ≡ packedSize uint64Kind number (now (values .entry)) ⌝ }
 {
-    packed_size(4, number, values)
+    packed_size(kinds32::UINT64, number, values)
 }
 
 pub fn vec_packed_sint32_size(number: u32, values: &[i32]) -> Sized
-    ensures { λ r. ⌜ sizeTold r ≡ packedSize 17 number (map (ofZ w64) (now (values .entry))) ⌝ }
+    ensures { λ r. ⌜ sizeTold r ≡ packedSize sint32Kind number (map (ofZ w64) (now (values .entry))) ⌝ }
 {
-    packed_i32s(17, number, values)
+    packed_i32s(kinds32::SINT32, number, values)
 }
 
 pub fn vec_packed_sint64_size(number: u32, values: &[i64]) -> Sized
-    ensures { λ r. ⌜ sizeTold r ≡ packedSize 18 number (map (ofZ w64) (now (values .entry))) ⌝ }
+    ensures { λ r. ⌜ sizeTold r ≡ packedSize sint64Kind number (map (ofZ w64) (now (values .entry))) ⌝ }
 {
-    packed_i64s(18, number, values)
+    packed_i64s(kinds32::SINT64, number, values)
 }
 
 // A negative enum takes ten bytes, where the crate counts five.
 pub fn vec_packed_enum_or_unknown_size(number: u32, values: &[i32]) -> Sized
-    ensures { λ r. ⌜ sizeTold r ≡ packedSize 14 number (map (ofZ w64) (now (values .entry))) ⌝ }
+    ensures { λ r. ⌜ sizeTold r ≡ packedSize enumKind number (map (ofZ w64) (now (values .entry))) ⌝ }
 {
-    packed_i32s(14, number, values)
+    packed_i32s(kinds32::ENUM, number, values)
 }
 
 // So many values of one width.
@@ -172,43 +174,43 @@ fn packed_fixed(number: u32, count: usize, width: u64) -> Sized
 }
 
 pub fn vec_packed_fixed32_size(number: u32, values: &[u32]) -> Sized
-    ensures { λ r. ⌜ sizeTold r ≡ packedSize 7 number (now (values .entry)) ⌝ }
+    ensures { λ r. ⌜ sizeTold r ≡ packedSize fixed32Kind number (now (values .entry)) ⌝ }
 {
     packed_fixed(number, values.len(), 4)
 }
 
 pub fn vec_packed_fixed64_size(number: u32, values: &[u64]) -> Sized
-    ensures { λ r. ⌜ sizeTold r ≡ packedSize 6 number (now (values .entry)) ⌝ }
+    ensures { λ r. ⌜ sizeTold r ≡ packedSize fixed64Kind number (now (values .entry)) ⌝ }
 {
     packed_fixed(number, values.len(), 8)
 }
 
 pub fn vec_packed_sfixed32_size(number: u32, values: &[i32]) -> Sized
-    ensures { λ r. ⌜ sizeTold r ≡ packedSize 15 number (map (ofZ w64) (now (values .entry))) ⌝ }
+    ensures { λ r. ⌜ sizeTold r ≡ packedSize sfixed32Kind number (map (ofZ w64) (now (values .entry))) ⌝ }
 {
     packed_fixed(number, values.len(), 4)
 }
 
 pub fn vec_packed_sfixed64_size(number: u32, values: &[i64]) -> Sized
-    ensures { λ r. ⌜ sizeTold r ≡ packedSize 16 number (map (ofZ w64) (now (values .entry))) ⌝ }
+    ensures { λ r. ⌜ sizeTold r ≡ packedSize sfixed64Kind number (map (ofZ w64) (now (values .entry))) ⌝ }
 {
     packed_fixed(number, values.len(), 8)
 }
 
 pub fn vec_packed_float_size(number: u32, values: &[f32]) -> Sized
-    ensures { λ r. ⌜ sizeTold r ≡ packedSize 2 number (map (toBits binary32) (now (values .entry))) ⌝ }
+    ensures { λ r. ⌜ sizeTold r ≡ packedSize floatKind number (map (toBits binary32) (now (values .entry))) ⌝ }
 {
     packed_fixed(number, values.len(), 4)
 }
 
 pub fn vec_packed_double_size(number: u32, values: &[f64]) -> Sized
-    ensures { λ r. ⌜ sizeTold r ≡ packedSize 1 number (map (toBits binary64) (now (values .entry))) ⌝ }
+    ensures { λ r. ⌜ sizeTold r ≡ packedSize doubleKind number (map (toBits binary64) (now (values .entry))) ⌝ }
 {
     packed_fixed(number, values.len(), 8)
 }
 
 pub fn vec_packed_bool_size(number: u32, values: &[bool]) -> Sized
-    ensures { λ r. ⌜ sizeTold r ≡ packedSize 8 number (map boolByte (now (values .entry))) ⌝ }
+    ensures { λ r. ⌜ sizeTold r ≡ packedSize boolKind number (map boolByte (now (values .entry))) ⌝ }
 {
     packed_fixed(number, values.len(), 1)
 }

@@ -10,6 +10,7 @@ use mathlib.Core.List.{List}
 use lib.ListN.{length, getD, drop, drop-of-length-le}
 use lib.Seq.{drop-cons}
 use borrow.Author.Tests.{le-leb, lt-leb}
+use Rattle.spec.specs.Names.{badVarint, endsEarly}
 use Rattle.spec.specs.Base.{Read, Took, No, digit, meaning, longer}
 use Rattle.spec.specs.Varint.{varint}
 use Rattle.spec.proofs.VarintLaws.{varint-ends, varint-goes-on}
@@ -43,7 +44,7 @@ begin more last s at =
 
 module _ {more last : ℕ} {s : List ℕ} {at n value : ℕ} where
   -- the bytes end
-  pub ended : {left : ℕ} → Reached more last s at n left value → length s ≤ at + n → asRead at (Refused 1) ≡ varint more last (drop at s)
+  pub ended : {left : ℕ} → Reached more last s at n left value → length s ≤ at + n → asRead at (Refused endsEarly) ≡ varint more last (drop at s)
   unfolding varint longer meaning
   ended h out = sym (h .same ∙ simp (drop-of-length-le s out))
 
@@ -78,7 +79,7 @@ module _ {more last : ℕ} {s : List ℕ} {at n value : ℕ} where
     unfolding varint longer meaning
     took-last h small = sym (h .same ∙ simp (drop-cons s (at + n) 0 inside, le-leb (getD s (at + n) 0) last small) (ap₂ Took refl (omega arith)))
 
-    pub refused-last : Reached more last s at n 0 value → last < getD s (at + n) 0 → asRead at (Refused 2) ≡ varint more last (drop at s)
+    pub refused-last : Reached more last s at n 0 value → last < getD s (at + n) 0 → asRead at (Refused badVarint) ≡ varint more last (drop at s)
     unfolding varint longer meaning
     refused-last h large = sym (h .same ∙ simp (drop-cons s (at + n) 0 inside, lt-leb (getD s (at + n) 0) last large))
 

@@ -1,5 +1,11 @@
 // Reading a varint at a position of a slice. Most have one or two bytes: those are read in place, and `long` reads the others by a call.
+use super::LAST_OF_32;
+use super::LAST_OF_64;
+use super::LONGEST;
+use super::MORE_OF_32;
+use super::MORE_OF_64;
 use crate::found::Found;
+use spec::refusals;
 ghost use mathlib.Core.Path.{_≡_};
 ghost use Prim.Native.Nat.{_+_, _*_, _^_, _<_, _≤_};
 ghost use lib.ListN.{length, getD, drop};
@@ -7,7 +13,7 @@ ghost use Rattle.spec.specs.Varint.{varint, varint32, varint64};
 ghost use Rattle.wire.specs.Answers.{asRead};
 ghost use Rattle.wire.specs.Reached.{Reached, varintOf};
 
-// At most `more` bytes behind which another stands, and one of at most `last`: a byte a turn, up to the end of the slice.
+// At most `more` bytes after which another stands, and one of at most `last`: a byte a turn, up to the end of the slice.
 fn by_bytes(s: &[u8], at: usize, more: usize, last: u64) -> Found
     requires { ⌜ (128 ^ more < 2 ^ 64) × ((last + 1) * 128 ^ more ≤ 2 ^ 64) × (at < length (now s)) ⌝ }
     ensures { λ r. ⌜ asRead at r ≡ varint more last (drop at (now (s .entry))) ⌝ }
@@ -18,7 +24,7 @@ fn by_bytes(s: &[u8], at: usize, more: usize, last: u64) -> Found
     let mut scale: u64 = 1;
     while n < more {
         if size <= n {
-            return Found::Refused(1);
+            return Found::Refused(refusals::ENDS_EARLY);
         }
         let b = s[at + n] as u64;
         value += b % 128 * scale;
@@ -30,11 +36,11 @@ fn by_bytes(s: &[u8], at: usize, more: usize, last: u64) -> Found
         scale *= 128;
     }
     if size <= n {
-        return Found::Refused(1);
+        return Found::Refused(refusals::ENDS_EARLY);
     }
     let b = s[at + n] as u64;
     if last < b {
-        return Found::Refused(2);
+        return Found::Refused(refusals::BAD_VARINT);
     }
     let high = b * scale;
     let whole = value + high;
@@ -86,8 +92,8 @@ fn from_eighth(s: &[u8], at: usize, v7: u64) -> Found
         return Found::Value { value: v9, next };
     }
     let b9 = s[at + 9] as u64;
-    if 1 < b9 {
-        return Found::Refused(2);
+    if LAST_OF_64 < b9 {
+        return Found::Refused(refusals::BAD_VARINT);
     }
     let whole = v9 + b9 * 0x8000_0000_0000_0000;
     let next = at + 10;
@@ -130,8 +136,8 @@ fn fifth_of_five(s: &[u8], at: usize, v4: u64) -> Found
     ensures { λ r. ⌜ asRead at r ≡ varint32 (drop at (now (s .entry))) ⌝ }
 {
     let b4 = s[at + 4] as u64;
-    if 15 < b4 {
-        return Found::Refused(2);
+    if LAST_OF_32 < b4 {
+        return Found::Refused(refusals::BAD_VARINT);
     }
     let whole = v4 + b4 * 0x1000_0000;
     let next = at + 5;
@@ -143,13 +149,13 @@ fn long(s: &[u8], at: usize, narrow: bool) -> Found
     requires { ⌜ (at < length (now s)) × (128 ≤ getD (now s) at 0) ⌝ }
     ensures { λ r. ⌜ asRead at r ≡ varintOf narrow (drop at (now (s .entry))) ⌝ }
 {
-    if 10 <= s.len() - at {
+    if LONGEST <= s.len() - at {
         return of_ten(s, at, narrow);
     }
     if narrow {
-        return by_bytes(s, at, 4, 15);
+        return by_bytes(s, at, MORE_OF_32, LAST_OF_32);
     }
-    by_bytes(s, at, 9, 1)
+    by_bytes(s, at, MORE_OF_64, LAST_OF_64)
 }
 
 // The width by a flag, so that both public functions are one body. `long` is called at two places, and so stays a call: with one, it would be made a part of
@@ -158,7 +164,7 @@ fn decode(s: &[u8], at: usize, narrow: bool) -> Found
     ensures { λ r. ⌜ asRead at r ≡ varintOf narrow (drop at (now (s .entry))) ⌝ }
 {
     if s.len() <= at {
-        return Found::Refused(1);
+        return Found::Refused(refusals::ENDS_EARLY);
     }
     let b0 = s[at] as u64;
     if b0 < 128 {
