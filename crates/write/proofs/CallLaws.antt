@@ -9,6 +9,7 @@ use mathlib.Core.Bool.{true}
 use mathlib.Core.List.{List, [], _∷_}
 use lib.ListN.{length}
 use borrow.Author.Tests.{lt-ltb, le-ltb}
+use Rattle.spec.specs.Names.{outputShort, tooLarge}
 use Rattle.spec.specs.Base.{filled, limit}
 use Rattle.spec.specs.Schema.{Schema, badSchema}
 use Rattle.spec.specs.Record.{Record, recordsOf}
@@ -81,11 +82,11 @@ module _ (sch : Schema) (room : ℕ) (payload : List ℕ) (rs : List Record) whe
 -- ---- by its size
 
 module _ (room n : ℕ) where
-  pub by-above : limit < n → bySize room n ≡ record { number = 11; size = 0; index = 0 }
+  pub by-above : limit < n → bySize room n ≡ record { number = tooLarge; size = 0; index = 0 }
   unfolding bySize
   by-above h = rw (lt-ltb limit n h)
 
-  pub by-short : n ≤ limit → room < n → bySize room n ≡ record { number = 12; size = n; index = 0 }
+  pub by-short : n ≤ limit → room < n → bySize room n ≡ record { number = outputShort; size = n; index = 0 }
   unfolding bySize
   by-short h m = rw (le-ltb limit n h, lt-ltb room n m)
 
@@ -101,11 +102,11 @@ by-cut room n =
     (λ l. let same : capped n ≡ n = omega arith in ap (bySize room) same)
 
 module _ (room : ℕ) (b : List ℕ) where
-  sized-above : limit < length b → sized room b ≡ Failed 11 0 0
+  sized-above : limit < length b → sized room b ≡ Failed tooLarge 0 0
   unfolding sized
   sized-above h = rw (lt-ltb limit (length b) h)
 
-  sized-short : length b ≤ limit → room < length b → sized room b ≡ Failed 12 (length b) 0
+  sized-short : length b ≤ limit → room < length b → sized room b ≡ Failed outputShort (length b) 0
   unfolding sized
   sized-short h m = rw (le-ltb limit (length b) h, lt-ltb room (length b) m)
 

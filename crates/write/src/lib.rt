@@ -14,10 +14,11 @@ use crate::bytes::put_list;
 use crate::measure::list_size;
 use list::Verdict;
 use list::check;
+use spec::refusals;
 use wire::wire_format::MAX_MESSAGE_SIZE;
 use wire::wire_format::record_wires;
 
-// What a writing comes to: the refusal's number, 0 for none; the size, 0 on refusal, but for 12 the size that is needed; the index of the bad
+// What a writing comes to: the refusal's number, 0 for none; the size, 0 on refusal, but where the output is too short the size that is needed; the index of the bad
 // record, or of the bad entry of the schema.
 pub struct Answer {
     pub number: u32,
@@ -31,7 +32,7 @@ fn by_size(room: u64, size: u64) -> Answer
 {
     if MAX_MESSAGE_SIZE < size {
         return Answer {
-            number: 11,
+            number: refusals::TOO_LARGE,
             size: 0,
             index: 0,
         };
@@ -39,7 +40,7 @@ fn by_size(room: u64, size: u64) -> Answer
     let n = size as usize;
     if room < size {
         return Answer {
-            number: 12,
+            number: refusals::OUTPUT_SHORT,
             size: n,
             index: 0,
         };

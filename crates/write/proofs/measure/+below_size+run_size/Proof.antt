@@ -8,11 +8,14 @@ use mathlib.Core.Bool.{true}
 use native.Mathlib.Omega.{arith}
 use borrow.Author.Needs.{needs}
 use lib.ListN.{length, getD}
+use Rattle.spec.specs.Names.{kindColumn, numberColumn}
+use Rattle.spec.specs.Record.{stride}
 use Rattle.spec.specs.Varint.{size, tagSize}
 use Rattle.spec.specs.Kind.{wire}
 use Rattle.spec.proofs.RunLaws.{kind-small}
 use Rattle.sizes.proofs.ValueSizes.{size-most}
 use Rattle.list.proofs.FitLaws.{type-of}
+use Rattle.write.specs.Summing.{mostNumbers}
 use Rattle.write.proofs.KindLaws.{head}
 use Rattle.write.proofs.Turn.{Here, start, ended, stopped, whole, fit, number-turn, content-turn, head-turn, below, is-scalar, content}
 use borrow.Fn.Kinds.{In}
@@ -99,16 +102,16 @@ abbrev μ-loop : run-size-lts.MeasureT-loop
 abbrev Place : ℕ → Type 0
 Place t = run-size-lts.Else1 (claims t) (run-size-at t) run-size.Post Inv-loop μ-loop
 
-in-list : (t : ℕ) (c : Place t) → c .before .before .before .loop .at + 6 ≤ length (c .before .before .before .before .before .args .list .now)
+in-list : (t : ℕ) (c : Place t) → c .before .before .before .loop .at + stride ≤ length (c .before .before .before .before .before .args .list .now)
 in-list t c = whole (c .before .before .before .loop .inv) (c .before .before .loop-test .taken)
 
-few : (t : ℕ) (c : Place t) → length (c .before .before .before .before .before .args .list .now) ≤ 12884901882
+few : (t : ℕ) (c : Place t) → length (c .before .before .before .before .before .args .list .now) ≤ mostNumbers
 few t c = c .before .before .before .before .before .pre .1 .lent .few
 
 -- its wire type, as the table has it
 wire-here : (t : ℕ) (c : Place t) →
     let a = c .before .before .before .before .before .args in
-    let k = getD (a .list .now) (c .before .before .before .loop .at + 2) 0 in
+    let k = getD (a .list .now) (c .before .before .before .loop .at + kindColumn) 0 in
     getD (a .table .now) k 0 ≡ wire k
 wire-here t c =
     type-of _ _ (c .before .before .before .before .before .pre .1 .lent .types) (kind-small (fit (c .before .before .before .loop .inv) (c .before .before .loop-test .taken)))
@@ -151,7 +154,7 @@ add-size : (t : ℕ) → run-size-lts.Need-add-size (claims t) (run-size-at t) r
 add-size t c =
     let e = c .before .before .before .before in
     let h = e .before .before .before .loop .inv in
-    omega (arith, h .bound, h .inside, few t e, c .tag-size .ensures, size-most (getD (e .before .before .before .before .before .args .list .now) (e .before .before .before .loop .at + 1) 0 * 8))
+    omega (arith, h .bound, h .inside, few t e, c .tag-size .ensures, size-most (getD (e .before .before .before .before .before .args .list .now) (e .before .before .before .loop .at + numberColumn) 0 * 8))
 
 add-plain-size : (t : ℕ) → run-size-lts.Need-add-plain-size (claims t) (run-size-at t) run-size.Post Inv-loop μ-loop
 add-plain-size t c = omega (arith, in-list t (c .before .before .before .before .before), few t (c .before .before .before .before .before))
@@ -172,7 +175,7 @@ plain-size-requires t c κs =
 number-here : (t : ℕ) (c : run-size-lts.After-plain-size (claims t) (run-size-at t) run-size.Post Inv-loop μ-loop) →
     let i = c .before .before .before .before .before .before .before .before .before in
     let a = i .before .before .before .args in
-    Here true (a .list .now) (a .from) (a .depth) (i .before .loop .at + 6) (i .before .loop .size + c .before .before .before .tag-size .result + c .plain-size .result)
+    Here true (a .list .now) (a .from) (a .depth) (i .before .loop .at + stride) (i .before .loop .size + c .before .before .before .tag-size .result + c .plain-size .result)
 number-here t c =
     let e = c .before .before .before .before .before .before .before in
     rw (c .before .before .before .tag-size .ensures, c .plain-size .ensures)
@@ -242,7 +245,7 @@ content-here : (t : ℕ) (j : run-size-lts.Joined3 (claims t) (run-size-at t) ru
     let a = i .before .before .before .args in
     (i .before .loop .at < j .if3 .at)
     × Here true (a .list .now) (a .from) (a .depth) (j .if3 .at)
-    (i .before .loop .size + tagSize (getD (a .list .now) (i .before .loop .at + 1) 0) + (size (j .if3 .n) + j .if3 .n))
+    (i .before .loop .size + tagSize (getD (a .list .now) (i .before .loop .at + numberColumn) 0) + (size (j .if3 .n) + j .if3 .n))
 content-here t j =
     let e = j .before .before .before .before .before .before .before in
     let h = e .before .before .before .loop .inv in

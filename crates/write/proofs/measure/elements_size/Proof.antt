@@ -6,6 +6,8 @@ use native.Mathlib.Omega.{arith}
 use borrow.Author.Needs.{needs}
 use mathlib.Core.List.{List}
 use lib.ListN.{length, getD}
+use Rattle.spec.specs.Names.{kindColumn, recordKinds}
+use Rattle.spec.specs.Record.{stride}
 use Rattle.spec.proofs.RunLaws.{Row, kind-small}
 use Rattle.write.specs.Summing.{recordsFrom, Elements}
 use Rattle.list.proofs.FitLaws.{type-of}
@@ -14,10 +16,10 @@ use Rattle.write.proofs.measure.elements_size.Statement.{statement}
 use Rattle.write.proofs.measure.elements_size.Tie as tie
 
 -- the first value's kind: it stands in the list, and in the table
-first-whole : {table list : List ℕ} {from d : ℕ} → Elements table list from d → from + 6 ≤ length list
+first-whole : {table list : List ℕ} {from d : ℕ} → Elements table list from d → from + stride ≤ length list
 first-whole e = whole (values-start e) (e .inside)
 
-first-small : {table list : List ℕ} {from d : ℕ} → Elements table list from d → getD list (from + 2) 0 < 25
+first-small : {table list : List ℕ} {from d : ℕ} → Elements table list from d → getD list (from + kindColumn) 0 < recordKinds
 first-small e = kind-small (fit (values-start e) (e .inside))
 
 abbrev Inv-loop : tie.InvT-loop

@@ -7,6 +7,7 @@ use native.Mathlib.Omega.{arith}
 use borrow.Author.Needs.{needs}
 use borrow.Author.Tests.{le-leb, lt-leb}
 use lib.Dec.{eqb}
+use Rattle.spec.specs.Names.{delimitedWire, fixed32Wire, fixed64Wire, ownKinds, sint32Kind, sint64Kind, varintWire}
 use Rattle.spec.specs.Base.{if_then_else_}
 use Rattle.spec.specs.Varint.{size, zigzag}
 use Rattle.spec.specs.Kind.{int32, uint32, uint64, bool, sint32, sint64, fixed32, sfixed32, fixed64, Shape, one, other, shape, wire, isScalar}
@@ -17,21 +18,21 @@ use Rattle.sizes.proofs.ValueSizes.{value-by-wire}
 use Rattle.write.proofs.measure.plain_size.Statement.{statement}
 use Rattle.write.proofs.measure.plain_size.Tie as tie
 
-by-wire : (k v w n : ℕ) → w ≡ wire k → w ≡ n → valueSize (shape k) v ≡ (if eqb n 0 then size (coded k v) else if eqb n 1 then 8 else if eqb n 2 then prefixedSize v else if eqb n 5 then 4 else 0)
+by-wire : (k v w n : ℕ) → w ≡ wire k → w ≡ n → valueSize (shape k) v ≡ (if eqb n varintWire then size (coded k v) else if eqb n fixed64Wire then 8 else if eqb n delimitedWire then prefixedSize v else if eqb n fixed32Wire then 4 else 0)
 by-wire k v w n e p = value-by-wire k v n (sym p ∙ e)
 
 -- only sint32 and sint64 are written as another number
-as-it-is : (k v : ℕ) → k < 17 → coded k v ≡ v
-as-it-is k v h = simp (lt-leb 17 k h)
+as-it-is : (k v : ℕ) → k < sint32Kind → coded k v ≡ v
+as-it-is k v h = simp (lt-leb sint32Kind k h)
 
-zigzagged : (k v : ℕ) → 17 ≤ k → k ≤ 18 → coded k v ≡ zigzag v
-zigzagged k v h j = simp (le-leb 17 k h, le-leb k 18 j)
+zigzagged : (k v : ℕ) → sint32Kind ≤ k → k ≤ sint64Kind → coded k v ≡ zigzag v
+zigzagged k v h j = simp (le-leb sint32Kind k h, le-leb k sint64Kind j)
 
-above : (k v : ℕ) → 19 ≤ k → coded k v ≡ v
-above k v h = simp (le-leb 17 k (omega arith), lt-leb k 18 h)
+above : (k v : ℕ) → ownKinds ≤ k → coded k v ≡ v
+above k v h = simp (le-leb sint32Kind k (omega arith), lt-leb k sint64Kind h)
 
 -- a number that is no varint and not of eight bytes is of four
-four : (x : Shape) (v : ℕ) → isScalar x ≡ true → wireOf x ≢ 0 → wireOf x ≢ 1 → 4 ≡ valueSize x v
+four : (x : Shape) (v : ℕ) → isScalar x ≡ true → wireOf x ≢ varintWire → wireOf x ≢ fixed64Wire → 4 ≡ valueSize x v
 unfolding isScalar wireOf wireOne valueSize scalarSize
 four (one int32) v s p q = absurd (p refl)
 four (one uint32) v s p q = absurd (p refl)
@@ -49,26 +50,26 @@ returns c =
     let a = c .before .before .before .args in
     let h = c .before .before .before .pre in
     c .compute-raw-varint64-size .ensures
-    ∙ sym (by-wire (a .kind) (a .value) (a .w) 0 (h .0) (omega arith) ∙ ap size (as-it-is (a .kind) (a .value) (omega arith)))
+    ∙ sym (by-wire (a .kind) (a .value) (a .w) varintWire (h .0) (omega arith) ∙ ap size (as-it-is (a .kind) (a .value) (omega arith)))
 
 returns-2 : tie.Need-returns-2
 returns-2 c =
     let a = c .before .before .before .before .before .args in
     let h = c .before .before .before .before .before .pre in
     c .compute-raw-varint64-size2 .ensures ∙ ap size (c .before .zigzag .ensures)
-    ∙ sym (by-wire (a .kind) (a .value) (a .w) 0 (h .0) (omega arith) ∙ ap size (zigzagged (a .kind) (a .value) (omega arith) (omega arith)))
+    ∙ sym (by-wire (a .kind) (a .value) (a .w) varintWire (h .0) (omega arith) ∙ ap size (zigzagged (a .kind) (a .value) (omega arith) (omega arith)))
 
 returns-3 : tie.Need-returns-3
 returns-3 c =
     let a = c .before .before .before .before .args in
     let h = c .before .before .before .before .pre in
     c .compute-raw-varint64-size3 .ensures
-    ∙ sym (by-wire (a .kind) (a .value) (a .w) 0 (h .0) (omega arith) ∙ ap size (above (a .kind) (a .value) (omega arith)))
+    ∙ sym (by-wire (a .kind) (a .value) (a .w) varintWire (h .0) (omega arith) ∙ ap size (above (a .kind) (a .value) (omega arith)))
 
 returns-4 : tie.Need-returns-4
 returns-4 c =
     let a = c .before .before .args in
-    sym (by-wire (a .kind) (a .value) (a .w) 1 (c .before .before .pre .0) (omega arith))
+    sym (by-wire (a .kind) (a .value) (a .w) fixed64Wire (c .before .before .pre .0) (omega arith))
 
 returns-5 : tie.Need-returns-5
 returns-5 c =
