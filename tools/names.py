@@ -16,7 +16,7 @@ WIRES = "varintWire fixed64Wire delimitedWire startGroupWire endGroupWire fixed3
 refusal = {str(i + 1): n for i, n in enumerate(REFUSALS)}
 kind = {str(i + 1): n for i, n in enumerate(KINDS) if n != "-"}
 wire = {str(i): n for i, n in enumerate(WIRES) if n != "-"}
-level = {"100": "mostLevels", "101": "deepest"}
+level = {"100": "mostLevels"}
 largest = {"536870911": "largestNumber", "0x1fff_ffff": "largestNumber"}
 sized = {"2147483647": "limit", "0x7fff_ffff": "limit"}
 stride = {"6": "stride"}
@@ -24,17 +24,17 @@ entry = {"5": "entryStride"}
 
 # what a number stands for where the text around it is this; the number is the group n
 RULES = [
-    (refusal, r"\b(?:No|Fault|Refused|Failed|Faulty|require|refused|faulty) (?P<n>\d+)(?= |\)|$|,|;)"),
+    (refusal, r"\b(?:No|Fault|Refused|Failed|Faulty|require|refused|faulty) (?P<n>\d+)(?= |\)|$|,|;|\n)"),
     (refusal, r"\bthen (?P<n>6|7|10) else\b"),
-    (refusal, r"\b(?:recordFault|restFault|rangeFault)\b[^→]*[=≡] (?P<n>\d+)(?= |$|\))"),
+    (refusal, r"\b(?:recordFault|restFault|rangeFault)\b[^→≡=\n]*[=≡] (?P<n>\d+)(?= |$|\n|\))"),
     (kind, r"\.kind\) (?P<n>\d+)\b"),
     (kind, r"\b(?:eqb|eq-eqb|ne-eqb|eqb-true|eqb-false) (?:k|kind) (?P<n>\d+)\b"),
-    (kind, r"(?:\.kind|\bkind) ≡ (?P<n>\d+)\b"),
+    (kind, r"(?:(?<!wire )(?<!wire \(r )\.kind|(?<!wire )\bkind) ≡ (?P<n>\d+)\b"),
     (kind, r"\bdiffer \w+ k (?P<n>\d+)\b"),
     (kind, r"\bshape (?P<n>\d+)\b"),
     (kind, r"\brow \w+ \w+ (?P<n>11|20) 0\b"),
-    (wire, r"% 8\) (?P<n>[0-57])(?= |\)|$)"),
-    (wire, r"% 8 (?:≡|≤) (?P<n>[0-5])\b"),
+    (wire, r"% 8\) (?P<n>[0-57])(?= |\)|$|\n)"),
+    (wire, r"\b[tvgbc] % 8 (?:≡|≤) (?P<n>[0-5])\b"),
     (wire, r"\b(?:eqb|eq-eqb|ne-eqb|eqb-true|eqb-false) w (?P<n>[0-57])\b"),
     (wire, r"(?<!size )\bw ≡ (?P<n>[0-57])\b"),
     (wire, r"\b(?:w|wire \w+) (?:≤|<) (?P<n>5)\b"),
@@ -55,7 +55,7 @@ RULES = [
     (wire, r"\bgetD (?:ws|wires) \w+ (?P<n>7)\b"),
     (refusal, r"\bnumber w (?:≢|≡) (?P<n>12)\b"),
     (refusal, r"\bnumber = (?P<n>\d+);"),
-    (level, r"\b(?P<n>10[01])\b"),
+    (level, r"\b(?P<n>100)\b"),
     (largest, r"\b(?P<n>536870911|0x1fff_ffff)\b"),
     (sized, r"(?<!limit = )\b(?P<n>2147483647|0x7fff_ffff)\b"),
 ]
@@ -69,7 +69,7 @@ CASES = re.compile(r"Cases\.antt$")
 
 # where a number of the rules stands bare in code; the names to write are in crates/spec/src/
 CODE = [
-    r"\bRefused\(\d", r"\bBad\([1-9]", r"\bnumber: [1-9]", r"\bfaulty\(\d", r"\breturn (?:6|7|10);", r"\bkind (?:==|!=|<|<=) \d", r"\d+ <=? kind\b",
+    r"\bRefused\(\d", r"\bBad\([1-9]", r"\bnumber: [1-9]", r"\bfaulty\(\d", r"\breturn (?:6|7|10);", r"\bkind (?:==|!=|<|<=) \d", r"(?<!\w)\d+ <=? kind\b",
     r"^\s*\d+(?: \| \d+)* => ", r"\bw (?:==|!=|<) \d", r"% 8 (?:==|!=|<) \d", r"\blist\[[a-z]+ [+-] \d\]", r"\broom\[to \+ \d\]", r"\bnumbers\[[^\]]*\+ \d\]",
     r"(?:\+=|-=|\+|-|/|\*|<=?) 6\b", r"\b6 (?:<=?|\*)", r"\b(?:512|768|0x2000_0000|536870911|72057594037927936|4294967296|0x1_0000_0000) [+*<]", r"[*] (?:4294967296|0x1_0000_0000)\b",
     r"\b(?:99|100) <=? \w", r"\b0x7fff_ffff\b(?!;)", r"\binner == 255\b", r"\* 255\b",

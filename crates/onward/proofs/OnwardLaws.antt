@@ -10,7 +10,7 @@ use lib.ListN.{length, take, drop, length-append, length-take, length-drop, leng
 use lib.Seq.{take-append-seam, drop-append-seam}
 use lib.Dec.{eqb}
 use borrow.Author.Tests.{le-leb, le-ltb, eqb-true, eqb-false, eq-eqb}
-use Rattle.spec.specs.Names.{messageKind, mostLevels, outputShort, packedHead, tooLarge, unknownBytes, unknownFixed32, unknownFixed64, unknownVarint, fixed32Wire}
+use Rattle.spec.specs.Names.{messageKind, mostLevels, outputShort, packedHead, tooLarge, unknownBytes, unknownFixed32, unknownFixed64, unknownVarint, fixed32Wire, delimitedWire}
 use Rattle.spec.specs.Base.{if_then_else_, part, limit}
 use Rattle.spec.specs.Varint.{encode}
 use Rattle.spec.specs.Utf8.{utf8}
@@ -199,7 +199,7 @@ module _ (old new : Schema) (payload s : List ℕ) (has : (t m : ℕ) → Has (l
         (le-leb hi (length s) (omega (arith, stands-lies i in-s, length-append (encode (length i)) i)))
 
     -- one record of kind 23, with i for its content
-    lacking-content : Expected new t r → oldEntry t (r .number) .kind ≡ 0 → wire (r .kind) ≡ 2 → (qs : List Record) → Tree old s t d qs b
+    lacking-content : Expected new t r → oldEntry t (r .number) .kind ≡ 0 → wire (r .kind) ≡ delimitedWire → (qs : List Record) → Tree old s t d qs b
         → Tree old s t d (row d (r .number) (unknownKind (wire (r .kind))) 0 lo hi 0 ∷ qs) (tagBytes r ++ prefixed i ++ b)
     lacking-content x z w qs tr =
         let k : ℕ = unknownKind (wire (r .kind)) in
@@ -209,7 +209,7 @@ module _ (old new : Schema) (payload s : List ℕ) (has : (t m : ℕ) → Has (l
         (subst (λ (y : List ℕ). Tree old s t d (q ∷ qs) (tagBytes q ++ prefixed y ++ b)) is-content
         (blob refl (lacking t r d 0 lo hi 0 z x w′) (shape-unknown (wire (r .kind)) w) refl (does-lie k) tr))
 
-    lacking-seen : (xs : List Record) → r .depth ≡ d → wire (r .kind) ≡ 2 → raw (shape (r .kind)) (r .value) ≡ 0
+    lacking-seen : (xs : List Record) → r .depth ≡ d → wire (r .kind) ≡ delimitedWire → raw (shape (r .kind)) (r .value) ≡ 0
         → held (shape (r .kind)) payload r (bytesUnder payload r xs) ≡ i → seen s (row d (r .number) (unknownKind (wire (r .kind))) 0 lo hi 0) ≡ unknown payload r xs
     unfolding seen unknown held
     lacking-seen xs dep w v h =
@@ -221,7 +221,7 @@ module _ (old new : Schema) (payload s : List ℕ) (has : (t m : ℕ) → Has (l
 
     -- a field with a content, or a head with the records xs in it, that the older schema lacks
     lacked : (xs ys : List Record) → r .depth ≡ d → Expected new t r → lacks old t r ≡ true → oldEntry t (r .number) .kind ≡ 0
-        → wire (r .kind) ≡ 2 → raw (shape (r .kind)) (r .value) ≡ 0
+        → wire (r .kind) ≡ delimitedWire → raw (shape (r .kind)) (r .value) ≡ 0
         → held (shape (r .kind)) payload r (bytesUnder payload r xs) ≡ i → Over (d + 1) xs → Low (d + 1) ys
         → Projected t d ys b → Projected t d (r ∷ (xs ++ ys)) (tagBytes r ++ prefixed i ++ b)
     lacked xs ys dep x p z w v h o l (qs, tr, e) = (

@@ -18,15 +18,15 @@ use Rattle.spec.proofs.VarintLaws.{lower-or-not}
 -- ---- a field, by its wire type
 
 module _ (s : List ℕ) where
-  pub plain-varint : plain 0 s ≡ varint64 s
+  pub plain-varint : plain varintWire s ≡ varint64 s
   unfolding plain
   plain-varint = refl
 
-  pub plain-fixed64 : plain 1 s ≡ fixed 8 s
+  pub plain-fixed64 : plain fixed64Wire s ≡ fixed 8 s
   unfolding plain
   plain-fixed64 = refl
 
-  pub plain-bytes : plain 2 s ≡ content varint32 s
+  pub plain-bytes : plain delimitedWire s ≡ content varint32 s
   unfolding plain
   plain-bytes = refl
 
