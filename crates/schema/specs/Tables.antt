@@ -2,7 +2,7 @@
 -- for all of them, and that those made of a valid schema say what the schema says is a law (proofs/TableLaws).
 -- How they are laid out, with the names of their places, is in specs/Layout.
 -- Assumes nothing: these are definitions.
-use Prim.Native.Nat.{ℕ, _+_, _*_, _/_, _%_, _^_}
+use Prim.Native.Nat.{ℕ, _+_, _*_, _/_, _%_}
 use mathlib.Core.Bool.{Bool, not, _&&_}
 use mathlib.Core.List.{List, [], _∷_}
 use mathlib.Core.Option.{Option, none, some}

@@ -4,7 +4,7 @@ use borrow.Author.Needs.{needs}
 use borrow.Author.Tests.{not-true, not-false, lt-ltb, le-ltb}
 use mathlib.Core.Bool.{Bool, true, false, _&&_}
 use mathlib.Core.Path.{_≡_, sym, ap, ap₂, _∙_}
-use Prim.Native.Nat.{_+_, _*_, _^_}
+use Prim.Native.Nat.{_+_, _*_}
 use lib.Dec.{ltb}
 use Rattle.spec.specs.Schema.{goodEntry}
 use Rattle.schema.specs.Layout.{ownerUnit}
