@@ -51,7 +51,7 @@ type-known k a b n =
     by-test (leb (wire k) fixed32Wire) (λ p. leb-true (wire k) fixed32Wire p)
     (λ p. let z : _≡_ {A = ℕ} 1 0 = rw (ne-eqb k 0 (λ q. omega arith), ne-eqb k groupKind n, p) at e in absurd (omega arith))
 
--- the kinds behind those of a list are groups, or none
+-- the kinds after those of a list are groups, or none
 pub no-record : (k : ℕ) → unknownFixed32 < k → recorded (wire k) ≡ true → ⊥
 unfolding wire wires kindWires ownWires
 no-record k l r =

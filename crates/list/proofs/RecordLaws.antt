@@ -217,7 +217,7 @@ module _ (payload : List ℕ) (r : Record) (rs : List Record) where
       go a-message e = fails e no-zero
       go a-packed e = fails e no-zero
 
-  -- a message without fault stands below depth 100
+  -- a message without fault stands below depth `mostLevels`
   pub rest-low : r .kind ≡ messageKind → restFault payload r rs ≡ 0 → r .depth < mostLevels
   unfolding restFault fitting shape shapes
   rest-low k e =
@@ -290,7 +290,7 @@ module _ (payload : List ℕ) (kind start stop : ℕ) where
           go true = refl
           go false = refl
 
--- ---- the record behind a packed head
+-- ---- the record after a packed head
 
 module _ (list : List ℕ) (at : ℕ) (r : Record) where
   next-none : at + stride ≤ length list → length list < at + 2 * stride → nextDeeper r (recordsOf (drop (at + stride) list)) ≡ false

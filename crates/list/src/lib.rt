@@ -21,7 +21,7 @@ pub enum Verdict {
     Faulty { number: u32, index: usize },
 }
 
-// Checks a list of six numbers a record, whose contents lie in `payload`, under a schema of five numbers an entry.
+// Checks a list of records (STRIDE numbers each), whose contents lie in `payload`, under a schema of entries (ENTRY_STRIDE numbers each).
 pub fn check(types: u32, numbers: &[u32], list: &[u64], payload: &[u8]) -> Verdict
     ensures { λ r. ⌜ asVerdict r ≡ listCheck (schemaOf types (now (numbers .entry))) (now (payload .entry)) (recordsOf (now (list .entry))) ⌝ }
 {

@@ -91,7 +91,7 @@ module _ (i : ℕ) (e : Entry) (xs : List ℕ) where
       (simp length-set)
       (simp length-set)
 
-  -- what is read behind the guesses
+  -- what is read after the guesses
   unguessed : e .owner < mostTypes → (c : ℕ) → kindsAt ≤ c → getD (putInfo i e xs) c 0 ≡ getD kinds c 0
   unguessed o c h =
       chosen (λ (ys : List ℕ). getD ys c 0 ≡ getD kinds c 0) (ltb (e .number) guesses)

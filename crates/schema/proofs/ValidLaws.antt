@@ -105,7 +105,7 @@ module _ (types : ℕ) (f : Five) where
 
 -- ---- an entry is the next one
 
--- of good numbers, one entry stands behind another exactly when its rank is above
+-- of good numbers, one entry stands after another exactly when its rank is above
 rises-rank : (o n last : ℕ) (e : Entry) → last ≡ o * ownerUnit + n * 8 → n < 2 ^ 29 → e .number < 2 ^ 29 → rises o n e ≡ ltb last (rank e)
 rises-rank o n last e p l m = go (ltb o (e .owner)) (eqb o (e .owner)) (ltb n (e .number)) refl refl refl
   where
@@ -237,7 +237,7 @@ module _ {types : ℕ} {ns : List ℕ} {i e last : ℕ} (h : Here types ns i e l
           let w = whole-entries in
           entry-at (length ns / entryStride) ns e (omega arith) ∙ ap (λ (n : ℕ). firstEntry (drop n ns)) (sym a) ∙ sym first
 
-      -- and those behind it
+      -- and those after it
       others : List Entry
       others = entriesOf (length ns / entryStride - (e + 1)) (drop (entryStride * (e + 1)) ns)
 

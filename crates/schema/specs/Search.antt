@@ -22,7 +22,7 @@ seek (suc k) at lost key lo hi =
     if eqb (at mid) key then mid else
     if ltb (at mid) key then above else below
 
--- ---- among the numbers of a schema, five to an entry, of any length
+-- ---- among the numbers of a schema, `entryStride` to an entry, of any length
 
 -- owner and number of the entry at a place, as one number
 abbrev pub ownerNumber : List ℕ → ℕ → ℕ
