@@ -251,14 +251,14 @@ module _ (t level : ℕ) (s : List ℕ) where
       unknown-plain w = checked-good t s _ h g ∙ ap (λ (b : Bool). if b then outerGroup level s else plain (t % 8) s) (ne-eqb (t % 8) startGroupWire w)
 
       -- an end-group tag closes nothing
-      end-is-4 : t % 8 ≡ endGroupWire → plain (t % 8) s ≡ No noGroupOpen
-      end-is-4 w = plain-other s (t % 8) (λ e. omega arith) (λ e. omega arith) (λ e. omega arith) (λ e. omega arith)
+      end-refused : t % 8 ≡ endGroupWire → plain (t % 8) s ≡ No noGroupOpen
+      end-refused w = plain-other s (t % 8) (λ e. omega arith) (λ e. omega arith) (λ e. omega arith) (λ e. omega arith)
 
       pub skip-end : t % 8 ≡ endGroupWire → skipFieldForTag t level s ≡ No noGroupOpen
-      skip-end w = skip-plain (λ e. omega arith) ∙ end-is-4 w
+      skip-end w = skip-plain (λ e. omega arith) ∙ end-refused w
 
       pub unknown-end : t % 8 ≡ endGroupWire → readUnknownOrSkipGroup t level s ≡ No noGroupOpen
-      unknown-end w = unknown-plain (λ e. omega arith) ∙ end-is-4 w
+      unknown-end w = unknown-plain (λ e. omega arith) ∙ end-refused w
 
 -- and what is skipped lies in the bytes
 pub takes-skipFieldForTag : (t level : ℕ) (s : List ℕ) → Takes 0 (length s) (skipFieldForTag t level s)
