@@ -9,6 +9,7 @@ use lib.ListN.{length, getD, drop, set, drop-of-length-le}
 use lib.Seq.{drop-cons}
 use borrow.Author.Tests.{lt-ltb, le-ltb, eq-eqb, ne-eqb}
 use Rattle.printing.specs.Text.{put, puts, Shown, digitsOf, decimal, glyph, hexadecimal, rows, verdict, header, listing}
+use Rattle.spec.specs.Names.{stopColumn}
 
 puts-append : (at : ℕ) (a b out : List ℕ) → puts at (a ++ b) out ≡ puts (puts at a out .0) b (puts at a out .1)
 unfolding puts
@@ -87,15 +88,15 @@ hex-done {bytes} l h = left-done (l .left) (ap hexadecimal (drop-of-length-le by
 
 -- ---- records
 
-row-on : (before between within column n : ℕ) (ns : List ℕ) → column < 5
+row-on : (before between within column n : ℕ) (ns : List ℕ) → column < stopColumn
     → rows before between within column (n ∷ ns) ≡ (before ∷ []) ++ (decimal n ++ rows within between within (column + 1) ns)
 unfolding rows
-row-on before between within column n ns h = simp (lt-ltb column 5 h) refl
+row-on before between within column n ns h = simp (lt-ltb column stopColumn h) refl
 
-row-anew : (before between within column n : ℕ) (ns : List ℕ) → 5 ≤ column
+row-anew : (before between within column n : ℕ) (ns : List ℕ) → stopColumn ≤ column
     → rows before between within column (n ∷ ns) ≡ (before ∷ []) ++ (decimal n ++ rows between between within 0 ns)
 unfolding rows
-row-anew before between within column n ns h = simp (le-ltb column 5 h) refl
+row-anew before between within column n ns h = simp (le-ltb column stopColumn h) refl
 
 pub record Rowing (list : List ℕ) (first between within at : ℕ) (out₀ : List ℕ) (before column i to : ℕ) (out : List ℕ) : Type 0 where
   pub left : Left (rows first between within 0 list) at out₀ (rows before between within column (drop i list)) to out
@@ -103,10 +104,10 @@ pub record Rowing (list : List ℕ) (first between within at : ℕ) (out₀ : Li
 module _ {list : List ℕ} {first between within at : ℕ} {out₀ : List ℕ} {before column i to m n : ℕ} {out mid after : List ℕ}
     (l : Rowing list first between within at out₀ before column i to out) (h : i < length list)
     (s : Shown out to (before ∷ []) mid m) (t : Shown mid m (decimal (getD list i 0)) after n) where
-  pub rows-on : column < 5 → Rowing list first between within at out₀ within (column + 1) (i + 1) n after
+  pub rows-on : column < stopColumn → Rowing list first between within at out₀ within (column + 1) (i + 1) n after
   rows-on c = record { left = left-turn (left-turn (l .left) (ap (rows before between within column) (from list i h) ∙ row-on before between within column _ _ c) s) refl t }
 
-  pub rows-anew : 5 ≤ column → Rowing list first between within at out₀ between 0 (i + 1) n after
+  pub rows-anew : stopColumn ≤ column → Rowing list first between within at out₀ between 0 (i + 1) n after
   rows-anew c = record { left = left-turn (left-turn (l .left) (ap (rows before between within column) (from list i h) ∙ row-anew before between within column _ _ c) s) refl t }
 
 pub rows-done : {list : List ℕ} {first between within at : ℕ} {out₀ : List ℕ} {before column i to : ℕ} {out : List ℕ}

@@ -5,6 +5,7 @@ use mathlib.Core.Path.{_≡_}
 use mathlib.Core.List.{List, [], _∷_, _++_}
 use lib.Dec.{ltb, eqb}
 use lib.ListN.{length, set}
+use Rattle.spec.specs.Names.{stopColumn}
 use Rattle.spec.specs.Base.{if_then_else_}
 
 -- ---- storing
@@ -52,7 +53,7 @@ rows before between within column [] = []
 rows before between within column (n ∷ ns) =
     let on = rows within between within (column + 1) ns in
     let anew = rows between between within 0 ns in
-    (before ∷ []) ++ (decimal n ++ (if ltb column 5 then on else anew))
+    (before ∷ []) ++ (decimal n ++ (if ltb column stopColumn then on else anew))
 
 -- `ok COUNT` or `refused NUMBER at PLACE`
 unfoldable pub verdict : (number count place : ℕ) → List ℕ
