@@ -23,7 +23,7 @@ INSTANCES = {
     ('entries', 'lend_size'): ENTRIES | dict(call='size', result=('struct', 'write', 'Answer'), params=[('types', 'num', 32), ('es', 'ES', 0), ('list', '&', 64), ('payload', '&', 8)]),
     ('entries', 'lend_write'): ENTRIES | dict(call='write', result=('struct', 'write', 'Answer'), params=[('types', 'num', 32), ('es', 'ES', 0), ('list', '&', 64), ('payload', '&', 8), ('out', '&mut', 8)]),
     ('entries', 'lend_lookup'): ENTRIES | dict(call='lookup', result=('enum', 'schema', 'Place'), params=[('es', 'ES', 0), ('owner', 'num', 32), ('number', 'num', 32)]),
-    ('lent', 'lend_read'): ENTRIES | dict(array=16, of='entries', call='read', result=('struct', 'read', 'Answer'), params=[('types', 'num', 32), ('es', 'ES', 0), ('s', '&', 8), ('room', '&mut', 64)]),
+    ('bench_entries', 'lend_read'): ENTRIES | dict(array=16, of='entries', call='read', result=('struct', 'read', 'Answer'), params=[('types', 'num', 32), ('es', 'ES', 0), ('s', '&', 8), ('room', '&mut', 64)]),
 }
 UINT = {8: 'u8', 16: 'u16', 32: 'u32', 64: 'u64'}
 
