@@ -75,7 +75,13 @@ fn entries_from(numbers: &[u32], count: usize) -> [Entry; MOST_MADE]
 }
 
 // Lends the first of these entries to `entries::read`.
-fn lend_read(types: u32, made: [Entry; MOST_MADE], count: usize, s: &[u8], room: &mut [u64]) -> Answer
+fn lend_read(
+    types: u32,
+    made: [Entry; MOST_MADE],
+    count: usize,
+    s: &[u8],
+    room: &mut [u64],
+) -> Answer
     requires { ⌜ count ≤ mostMade ⌝ }
     ensures { λ r. ⌜ (r .number ≡ number (reading (record { types = types; entries = take count made }) (length (now (room .entry)) / stride) (now (s .entry))))
         × (r .place ≡ place (reading (record { types = types; entries = take count made }) (length (now (room .entry)) / stride) (now (s .entry))))

@@ -13,7 +13,7 @@ use Rattle.spec.specs.Base.{filled}
 use Rattle.spec.specs.Schema.{bit, copied, entryStride}
 use Rattle.spec.specs.declared.Entry.{Entry}
 use Rattle.spec.proofs.VarintLaws.{lower-or-not}
-use Rattle.entries.specs.Copied.{mostNumbers, fewOf, few, fiveAt, storedFrom, copiedTo}
+use Rattle.entries.specs.Copied.{mostNumbers, fewOf, few, storedAt, storedFrom, copiedTo}
 
 -- ---- a store behind p is a store in what follows p
 
@@ -24,8 +24,8 @@ set-off (y ∷ p) t n j v e = rw (← e, suc-add) (ap (λ (l : List ℕ). y ∷ 
 set-first : (p t : List ℕ) (n v : ℕ) → length p ≡ n → set (p ++ t) n v ≡ p ++ set t 0 v
 set-first p t n v e = ap (λ (k : ℕ). set (p ++ t) k v) (sym (add-zero n)) ∙ set-off p t n 0 v e
 
-numbers-behind : (p t : List ℕ) (i : ℕ) (e : Entry) → length p ≡ i * entryStride → entryStride ≤ length t → fiveAt (p ++ t) i e ≡ (p ++ copied (e ∷ [])) ++ drop entryStride t
-unfolding fiveAt copied
+numbers-behind : (p t : List ℕ) (i : ℕ) (e : Entry) → length p ≡ i * entryStride → entryStride ≤ length t → storedAt (p ++ t) i e ≡ (p ++ copied (e ∷ [])) ++ drop entryStride t
+unfolding storedAt copied
 numbers-behind p (a ∷ b ∷ c ∷ d ∷ x ∷ t) i e l h =
     rw (
       set-first p (a ∷ b ∷ c ∷ d ∷ x ∷ t) (i * entryStride) (e .owner) l,

@@ -31,15 +31,15 @@ fewOf n = if ltb mostEntries n then 0 else n
 unfoldable pub few : List Entry → List Entry
 few es = if ltb mostEntries (length es) then [] else es
 
--- an array in which the numbers of an entry were stored at the five places of entry i
-unfoldable pub fiveAt : List ℕ → ℕ → Entry → List ℕ
-fiveAt a i e =
+-- an array in which the numbers of an entry were stored at the places of entry i
+unfoldable pub storedAt : List ℕ → ℕ → Entry → List ℕ
+storedAt a i e =
     set (set (set (set (set a (i * entryStride) (e .owner)) (i * entryStride + entryNumberColumn) (e .number)) (i * entryStride + entryKindColumn) (e .kind)) (i * entryStride + repeatedColumn) (bit (e .repeated))) (i * entryStride + childColumn) (e .child)
 
 -- the same of the entries from place i on
 unfoldable pub storedFrom : List ℕ → ℕ → List Entry → List ℕ
 storedFrom a i [] = a
-storedFrom a i (e ∷ es) = storedFrom (fiveAt a i e) (i + 1) es
+storedFrom a i (e ∷ es) = storedFrom (storedAt a i e) (i + 1) es
 
 -- An array that the entries were copied to. Where it has room for them it begins with their numbers, and is else as it was (proofs/CopyLaws).
 unfoldable pub copiedTo : List Entry → List ℕ → List ℕ

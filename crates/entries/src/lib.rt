@@ -11,7 +11,7 @@ ghost use Rattle.spec.specs.Writing.{listCheck, writing, sizing, output};
 ghost use Rattle.list.specs.Told.{asVerdict as verdict};
 ghost use Rattle.schema.specs.Told.{place as entryPlace};
 ghost use Rattle.write.specs.Answers.{answerOfWriting as answer};
-ghost use Rattle.entries.specs.Copied.{mostNumbers, oneMore, nextPlace, fewOf, fiveAt, copiedTo, lentOf, entryAt, countOf, typesOf, firstEntries};
+ghost use Rattle.entries.specs.Copied.{mostNumbers, oneMore, nextPlace, fewOf, storedAt, copiedTo, lentOf, entryAt, countOf, typesOf, firstEntries};
 use list::Verdict;
 use read::Answer;
 use schema::Place;
@@ -72,7 +72,7 @@ fn counted(count: usize) -> usize
 
 fn put(numbers: &mut [u32; MOST_NUMBERS], i: usize, e: Entry) -> usize
     requires { ⌜ i < mostEntries ⌝ }
-    ensures { λ r. ⌜ (r ≡ i + 1) × (now (numbers .exit) ≡ fiveAt (now (numbers .entry)) i e) ⌝ }
+    ensures { λ r. ⌜ (r ≡ i + 1) × (now (numbers .exit) ≡ storedAt (now (numbers .entry)) i e) ⌝ }
 {
     let k = i * columns::ENTRY_STRIDE;
     numbers[k] = e.owner;
@@ -248,7 +248,13 @@ fn lend_write(
 }
 
 // Lends the first of these entries to `read`.
-fn lend_read(types: u32, entries: [Entry; ONE_MORE], count: usize, s: &[u8], room: &mut [u64]) -> Answer
+fn lend_read(
+    types: u32,
+    entries: [Entry; ONE_MORE],
+    count: usize,
+    s: &[u8],
+    room: &mut [u64],
+) -> Answer
     requires { ⌜ count ≤ oneMore ⌝ }
     ensures { λ r. ⌜ (r .number ≡ number (reading (record { types = types; entries = take count entries }) (length (now (room .entry)) / stride) (now (s .entry))))
         × (r .place ≡ place (reading (record { types = types; entries = take count entries }) (length (now (room .entry)) / stride) (now (s .entry))))

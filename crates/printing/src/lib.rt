@@ -60,7 +60,11 @@ fn glyph(digit: u8) -> u8
     requires { ⌜ digit < 16 ⌝ }
     ensures { λ r. ⌜ r ≡ glyph digit ⌝ }
 {
-    if digit < 10 { b'0' + digit } else { LETTERS + digit }
+    if digit < 10 {
+        b'0' + digit
+    } else {
+        LETTERS + digit
+    }
 }
 
 // Bytes in hexadecimal, two digits each.
