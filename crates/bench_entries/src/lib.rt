@@ -4,20 +4,25 @@ ghost use mathlib.Core.Path.{_≡_};
 ghost use mathlib.Core.List.{[], _∷_};
 ghost use Prim.Native.Nat.{_+_, _*_, _/_, _<_, _≤_};
 ghost use lib.ListN.{length, take};
+ghost use Rattle.spec.specs.Names.{childColumn};
 ghost use Rattle.spec.specs.Record.{stride};
-ghost use Rattle.spec.specs.Schema.{entriesOf};
+ghost use Rattle.spec.specs.Schema.{entriesOf, entryStride};
 ghost use Rattle.spec.specs.Reading.{reading, number, place, listed, roomAfter};
 ghost use Rattle.entries.specs.Copied.{entryAt};
-ghost use Rattle.bench_entries.specs.First.{firstCount, firstOf};
+ghost use Rattle.bench_entries.specs.First.{mostMade, firstCount, firstOf};
 use read::Answer;
 use spec::Entry;
+use spec::columns;
+
+// How many entries are made at most.
+const MOST_MADE: usize = 16;
 
 // The entry of the five numbers from place i on.
 fn entry_at(numbers: &[u32], i: usize) -> Entry
-    requires { ⌜ i + 4 < length (now numbers) ⌝ }
+    requires { ⌜ i + childColumn < length (now numbers) ⌝ }
     ensures { λ r. ⌜ r ≡ entryAt (now (numbers .entry)) i ⌝ }
 {
-    let repeated = numbers[i + 3];
+    let repeated = numbers[i + columns::ENTRY_REPEATED];
     if 1 < repeated {
         return Entry {
             owner: 0,
@@ -29,10 +34,10 @@ fn entry_at(numbers: &[u32], i: usize) -> Entry
     }
     Entry {
         owner: numbers[i],
-        number: numbers[i + 1],
-        kind: numbers[i + 2],
+        number: numbers[i + columns::ENTRY_NUMBER],
+        kind: numbers[i + columns::ENTRY_KIND],
         repeated: repeated == 1,
-        child: numbers[i + 4],
+        child: numbers[i + columns::ENTRY_CHILD],
     }
 }
 
@@ -40,16 +45,16 @@ fn entry_at(numbers: &[u32], i: usize) -> Entry
 fn first_count(length: usize) -> usize
     ensures { λ r. ⌜ r ≡ firstCount length ⌝ }
 {
-    let n = length / 5;
-    if 16 < n {
-        return 16;
+    let n = length / columns::ENTRY_STRIDE;
+    if MOST_MADE < n {
+        return MOST_MADE;
     }
     n
 }
 
 // The first so many entries.
-fn entries_from(numbers: &[u32], count: usize) -> [Entry; 16]
-    requires { ⌜ (count ≤ 16) × (count * 5 ≤ length (now numbers)) ⌝ }
+fn entries_from(numbers: &[u32], count: usize) -> [Entry; MOST_MADE]
+    requires { ⌜ (count ≤ mostMade) × (count * entryStride ≤ length (now numbers)) ⌝ }
     ensures { λ r. ⌜ take count r ≡ entriesOf count (now (numbers .entry)) ⌝ }
 {
     let none = Entry {
@@ -59,10 +64,10 @@ fn entries_from(numbers: &[u32], count: usize) -> [Entry; 16]
         repeated: false,
         child: 0,
     };
-    let mut made = [none; 16];
+    let mut made = [none; MOST_MADE];
     let mut i: usize = 0;
     while i < count {
-        let e = entry_at(numbers, i * 5);
+        let e = entry_at(numbers, i * columns::ENTRY_STRIDE);
         made[i] = e;
         i += 1;
     }
@@ -70,8 +75,14 @@ fn entries_from(numbers: &[u32], count: usize) -> [Entry; 16]
 }
 
 // Lends the first of these entries to `entries::read`.
-fn lend_read(types: u32, made: [Entry; 16], count: usize, s: &[u8], room: &mut [u64]) -> Answer
-    requires { ⌜ count ≤ 16 ⌝ }
+fn lend_read(
+    types: u32,
+    made: [Entry; MOST_MADE],
+    count: usize,
+    s: &[u8],
+    room: &mut [u64],
+) -> Answer
+    requires { ⌜ count ≤ mostMade ⌝ }
     ensures { λ r. ⌜ (r .number ≡ number (reading (record { types = types; entries = take count made }) (length (now (room .entry)) / stride) (now (s .entry))))
         × (r .place ≡ place (reading (record { types = types; entries = take count made }) (length (now (room .entry)) / stride) (now (s .entry))))
         × (r .count ≡ length (listed (reading (record { types = types; entries = take count made }) (length (now (room .entry)) / stride) (now (s .entry)))))

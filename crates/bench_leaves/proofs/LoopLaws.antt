@@ -11,6 +11,7 @@ use lib.Bits.{bitXor}
 use lib.Dec.{leb}
 use lib.ListN.{length, getD, drop, drop-of-length-le}
 use lib.Seq.{drop-cons, drop-drop}
+use Rattle.spec.specs.Names.{endsEarly}
 use Rattle.spec.specs.Base.{if_then_else_, Took, No}
 use Rattle.spec.specs.Varint.{varint, varint64, encode}
 use Rattle.wire.specs.Answers.{asRead, stored, Stored}
@@ -54,7 +55,7 @@ xors-refused (suc k) acc j s e = rw e refl
 
 pub xored-end : {s : List ℕ} {at acc : ℕ} → Xored s at acc → length s ≤ at → acc ≡ varints s
 unfolding varint
-xored-end {s} {acc = acc} x h = sym (x .same ∙ ap (xors (x .left) acc) (drop-of-length-le s h) ∙ xors-refused (x .left) acc 1 [] refl)
+xored-end {s} {acc = acc} x h = sym (x .same ∙ ap (xors (x .left) acc) (drop-of-length-le s h) ∙ xors-refused (x .left) acc endsEarly [] refl)
 
 module _ {s : List ℕ} {at acc : ℕ} {f : Found} (x : Xored s at acc) (e : asRead at f ≡ varint64 (drop at s)) where
   pub xored-refused : {j : ℕ} → f ≡ Refused j → acc ≡ varints s

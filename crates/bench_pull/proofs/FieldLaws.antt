@@ -10,6 +10,7 @@ use lib.Bits.{bitXor}
 use lib.ListN.{length, drop}
 use borrow.Author.Tests.{le-leb, lt-leb, ne-eqb}
 use denote.Enum.Declared.{tagOf}
+use Rattle.spec.specs.Names.{mostLevels, tooDeep}
 use Rattle.spec.specs.Base.{part, Read, Took, No}
 use Rattle.spec.specs.Varint.{varint32}
 use Rattle.spec.specs.Kind.{int32, uint32, sint32, fixed32, bool}
@@ -28,7 +29,7 @@ use Rattle.pull.specs.declared.step.Said.the-variants as said
 use Rattle.pull.proofs.step.Said.{the-type}
 use Rattle.bench_pull.specs.declared.message.Sum.{Sum}
 use Rattle.bench_pull.specs.declared.message.Sum.the-variants.{All, Part}
-use Rattle.bench_pull.specs.Fields.{rootAsk, innerAsk, amount, amountOf, Ordered, numberOn, contentOn, foundOn, sumOn, elements, Way, field, turns, innerWay, inner, rootContent}
+use Rattle.bench_pull.specs.Fields.{rootInt32, rootString, rootMessage, rootFloat, rootBool, innerUint32, innerBytes, rootAsk, innerAsk, amount, amountOf, Ordered, numberOn, contentOn, foundOn, sumOn, elements, Way, field, turns, innerWay, inner, rootContent}
 
 -- ---- what a step says
 
@@ -81,39 +82,39 @@ module _ (s : List ℕ) (at level : ℕ) (ask : Ask) (m : Moved) (e : asMoved m 
 -- ---- what is asked behind a tag
 
 module _ (s : List ℕ) (at : ℕ) {tag : ℕ} where
-  pub root-int32 : tag ≡ 8 → stepAt s at 0 (value int32) ≡ stepAt s at 0 (rootAsk tag)
+  pub root-int32 : tag ≡ rootInt32 → stepAt s at 0 (value int32) ≡ stepAt s at 0 (rootAsk tag)
   unfolding rootAsk
   root-int32 e = rw e refl
 
-  pub root-string : tag ≡ 18 → stepAt s at 0 string ≡ stepAt s at 0 (rootAsk tag)
+  pub root-string : tag ≡ rootString → stepAt s at 0 string ≡ stepAt s at 0 (rootAsk tag)
   unfolding rootAsk
   root-string e = rw e refl
 
-  pub root-float : tag ≡ 45 → stepAt s at 0 (value fixed32) ≡ stepAt s at 0 (rootAsk tag)
+  pub root-float : tag ≡ rootFloat → stepAt s at 0 (value fixed32) ≡ stepAt s at 0 (rootAsk tag)
   unfolding rootAsk
   root-float e = rw e refl
 
-  pub root-bool : tag ≡ 56 → stepAt s at 0 (value bool) ≡ stepAt s at 0 (rootAsk tag)
+  pub root-bool : tag ≡ rootBool → stepAt s at 0 (value bool) ≡ stepAt s at 0 (rootAsk tag)
   unfolding rootAsk
   root-bool e = rw e refl
 
-  pub root-other : (tag ≡ 8 → ⊥) → (tag ≡ 18 → ⊥) → (tag ≡ 45 → ⊥) → (tag ≡ 56 → ⊥) → stepAt s at 0 (skip tag) ≡ stepAt s at 0 (rootAsk tag)
+  pub root-other : (tag ≡ rootInt32 → ⊥) → (tag ≡ rootString → ⊥) → (tag ≡ rootFloat → ⊥) → (tag ≡ rootBool → ⊥) → stepAt s at 0 (skip tag) ≡ stepAt s at 0 (rootAsk tag)
   unfolding rootAsk
-  root-other a b c d = rw (ne-eqb tag 8 a, ne-eqb tag 18 b, ne-eqb tag 45 c, ne-eqb tag 56 d) refl
+  root-other a b c d = rw (ne-eqb tag rootInt32 a, ne-eqb tag rootString b, ne-eqb tag rootFloat c, ne-eqb tag rootBool d) refl
 
   -- only a skip looks at the level
   module _ (level : ℕ) where
-    pub inner-uint32 : tag ≡ 8 → stepAt s at 0 (value uint32) ≡ stepAt s at level (innerAsk tag)
+    pub inner-uint32 : tag ≡ innerUint32 → stepAt s at 0 (value uint32) ≡ stepAt s at level (innerAsk tag)
     unfolding innerAsk stepAt
     inner-uint32 e = rw e refl
 
-    pub inner-bytes : tag ≡ 18 → stepAt s at 0 bytes ≡ stepAt s at level (innerAsk tag)
+    pub inner-bytes : tag ≡ innerBytes → stepAt s at 0 bytes ≡ stepAt s at level (innerAsk tag)
     unfolding innerAsk stepAt
     inner-bytes e = rw e refl
 
-    pub inner-other : (tag ≡ 8 → ⊥) → (tag ≡ 18 → ⊥) → stepAt s at level (skip tag) ≡ stepAt s at level (innerAsk tag)
+    pub inner-other : (tag ≡ innerUint32 → ⊥) → (tag ≡ innerBytes → ⊥) → stepAt s at level (skip tag) ≡ stepAt s at level (innerAsk tag)
     unfolding innerAsk
-    inner-other a b = rw (ne-eqb tag 8 a, ne-eqb tag 18 b) refl
+    inner-other a b = rw (ne-eqb tag innerUint32 a, ne-eqb tag innerBytes b) refl
 
 -- ---- the elements of a packed field
 
@@ -287,30 +288,30 @@ module _ {w : Way} {whole : Sum} {s : List ℕ} {at acc : ℕ} (t : Moved) (x : 
 
 -- ---- levels
 
--- a content that was entered is below level 100
-pub entered-below : (s : List ℕ) (at level : ℕ) (m : Moved) → asMoved m ≡ enterAt s at level → {a z : ℕ} → m .said ≡ said.Content a z → level < 100
+-- a content is entered only below the last level
+pub entered-below : (s : List ℕ) (at level : ℕ) (m : Moved) → asMoved m ≡ enterAt s at level → {a z : ℕ} → m .said ≡ said.Content a z → level < mostLevels
 entered-below s at level m e {a} {z} q =
-    lower-or-not level 100 (λ h. h)
-    (λ h. let x : spec.Refused 7 at ≡ spec.Content a z = ap (λ (n : spec.Moved). n .said) (sym (enter-too-deep s at level h) ∙ sym e) ∙ ap saidTold q in
+    lower-or-not level mostLevels (λ h. h)
+    (λ h. let x : spec.Refused tooDeep at ≡ spec.Content a z = ap (λ (n : spec.Moved). n .said) (sym (enter-too-deep s at level h) ∙ sym e) ∙ ap saidTold q in
     let y : _≡_ {A = ℕ} 0 1 = cc in absurd (omega arith))
 
-pub inner-turns : (level from : ℕ) (s : List ℕ) → level ≤ 100 → inner (101 - level) from s ≡ turns (innerWay level (inner (100 - level))) (length s) from 0 s
+pub inner-turns : (level from : ℕ) (s : List ℕ) → level ≤ mostLevels → inner (mostLevels + 1 - level) from s ≡ turns (innerWay level (inner (mostLevels - level))) (length s) from 0 s
 unfolding inner
 inner-turns level from s h =
-    let one : 101 - level ≡ suc (100 - level) = omega arith in
-    let back : 100 - (100 - level) ≡ level = omega arith in
-    ap (λ (n : ℕ). inner n from s) one ∙ ap (λ (l : ℕ). turns (innerWay l (inner (100 - level))) (length s) from 0 s) back
+    let one : mostLevels + 1 - level ≡ suc (mostLevels - level) = omega arith in
+    let back : mostLevels - (mostLevels - level) ≡ level = omega arith in
+    ap (λ (n : ℕ). inner n from s) one ∙ ap (λ (l : ℕ). turns (innerWay l (inner (mostLevels - level))) (length s) from 0 s) back
 
-pub inner-deeper : (level acc : ℕ) (c : List ℕ) {x : Sum} → x ≡ inner (101 - (level + 1)) acc c → x ≡ inner (100 - level) acc c
-inner-deeper level acc c e = e ∙ ap (λ (n : ℕ). inner n acc c) {x = 101 - (level + 1)} {y = 100 - level} (omega arith)
+pub inner-deeper : (level acc : ℕ) (c : List ℕ) {x : Sum} → x ≡ inner (mostLevels + 1 - (level + 1)) acc c → x ≡ inner (mostLevels - level) acc c
+inner-deeper level acc c e = e ∙ ap (λ (n : ℕ). inner n acc c) {x = mostLevels + 1 - (level + 1)} {y = mostLevels - level} (omega arith)
 
 -- ---- the contents of the root
 
 module _ {tag : ℕ} (acc : ℕ) (c : List ℕ) where
-  pub root-message : tag ≡ 26 → inner 100 acc c ≡ rootContent tag acc c
+  pub root-message : tag ≡ rootMessage → inner mostLevels acc c ≡ rootContent tag acc c
   unfolding rootContent
   root-message e = rw e refl
 
-  pub root-packed : (tag ≡ 26 → ⊥) → elements (length c) acc 0 c ≡ rootContent tag acc c
+  pub root-packed : (tag ≡ rootMessage → ⊥) → elements (length c) acc 0 c ≡ rootContent tag acc c
   unfolding rootContent
-  root-packed h = rw (ne-eqb tag 26 h) refl
+  root-packed h = rw (ne-eqb tag rootMessage h) refl

@@ -1,11 +1,12 @@
 -- What the pull loop over a message of bench/bench.proto comes to: the exclusive or of all values and of the lengths of contents. Assumes nothing: these are definitions.
-use Prim.Native.Nat.{ℕ, zero, suc, _-_, _≤_}
+use Prim.Native.Nat.{ℕ, zero, suc, _+_, _-_, _*_, _≤_}
 use mathlib.Core.Path.{_≡_}
 use mathlib.Core.Bool.{Bool, true}
 use mathlib.Core.List.{List}
 use lib.Bits.{bitXor}
 use lib.Dec.{eqb, leb}
 use lib.ListN.{length}
+use Rattle.spec.specs.Names.{delimitedWire, fixed32Wire, mostLevels, varintWire}
 use Rattle.spec.specs.Base.{if_then_else_, part}
 use Rattle.spec.specs.Kind.{int32, uint32, sint32, fixed32, bool}
 use Rattle.spec.specs.Pull.{Ask, rawTag, value, bytes, string, skip, Said, Number, Content, End, Refused, Moved, stepAt, enterAt}
@@ -16,20 +17,51 @@ use Rattle.pull.specs.declared.step.Said.the-variants as said
 use Rattle.bench_pull.specs.declared.message.Sum.{Sum}
 use Rattle.bench_pull.specs.declared.message.Sum.the-variants.{All, Part}
 
+-- ---- the tags of the fields of bench.proto: the field's number, eight times, and its wire type
+
+-- of the root: 1 an int32, 2 a string, 3 a message, 4 a packed field, 5 a float, 7 a bool
+abbrev pub rootInt32 : ℕ
+rootInt32 = 1 * 8 + varintWire
+
+abbrev pub rootString : ℕ
+rootString = 2 * 8 + delimitedWire
+
+abbrev pub rootMessage : ℕ
+rootMessage = 3 * 8 + delimitedWire
+
+abbrev pub rootPacked : ℕ
+rootPacked = 4 * 8 + delimitedWire
+
+abbrev pub rootFloat : ℕ
+rootFloat = 5 * 8 + fixed32Wire
+
+abbrev pub rootBool : ℕ
+rootBool = 7 * 8 + varintWire
+
+-- of an inner message: 1 a uint32, 2 bytes, 3 a message
+abbrev pub innerUint32 : ℕ
+innerUint32 = 1 * 8 + varintWire
+
+abbrev pub innerBytes : ℕ
+innerBytes = 2 * 8 + delimitedWire
+
+abbrev pub innerMessage : ℕ
+innerMessage = 3 * 8 + delimitedWire
+
 -- ---- what a field adds
 
--- what is asked behind a tag of the root, and of an inner message; a field of another number, or of another wire type, is skipped
+-- what is asked after a tag of the root, and of an inner message; a field of another number, or of another wire type, is skipped
 unfoldable pub rootAsk : ℕ → Ask
 rootAsk tag =
-    if eqb tag 8 then value int32 else
-    if eqb tag 18 then string else
-    if eqb tag 45 then value fixed32 else
-    if eqb tag 56 then value bool else skip tag
+    if eqb tag rootInt32 then value int32 else
+    if eqb tag rootString then string else
+    if eqb tag rootFloat then value fixed32 else
+    if eqb tag rootBool then value bool else skip tag
 
 unfoldable pub innerAsk : ℕ → Ask
 innerAsk tag =
-    if eqb tag 8 then value uint32 else
-    if eqb tag 18 then bytes else skip tag
+    if eqb tag innerUint32 then value uint32 else
+    if eqb tag innerBytes then bytes else skip tag
 
 -- a number as it is, and of a content its length; no step but that for a tag says that the bytes are at their end
 unfoldable pub amount : Said → ℕ → Found
@@ -101,20 +133,20 @@ turns w (suc k) acc at s =
     let on = numberOn acc (t .said) (λ tag. field w acc (t .at) tag s (λ x to. turns w k x to s)) in
     if leb (length s) at then All acc else on
 
--- an inner message, with n levels from its own to 100; at level 100 no content is entered
+-- an inner message, with n levels from its own to the last, at which no content is entered
 abbrev pub innerWay : ℕ → (ℕ → List ℕ → Sum) → Way
-innerWay level deeper = record { level = level; ask = innerAsk; holds = λ tag. eqb tag 26; content = λ tag x c. deeper x c }
+innerWay level deeper = record { level = level; ask = innerAsk; holds = λ tag. eqb tag innerMessage; content = λ tag x c. deeper x c }
 
 unfoldable pub inner : (n acc : ℕ) → List ℕ → Sum
 inner zero acc s = Part acc
-inner (suc n) acc s = turns (innerWay (100 - n) (inner n)) (length s) acc 0 s
+inner (suc n) acc s = turns (innerWay (mostLevels - n) (inner n)) (length s) acc 0 s
 
 -- the root: messages of level 1, and packed elements
 unfoldable pub rootContent : (tag acc : ℕ) → List ℕ → Sum
-rootContent tag acc c = if eqb tag 26 then inner 100 acc c else elements (length c) acc 0 c
+rootContent tag acc c = if eqb tag rootMessage then inner mostLevels acc c else elements (length c) acc 0 c
 
 unfoldable pub rootHolds : ℕ → Bool
-rootHolds tag = if eqb tag 26 then true else eqb tag 34
+rootHolds tag = if eqb tag rootMessage then true else eqb tag rootPacked
 
 abbrev pub rootWay : Way
 rootWay = record { level = 0; ask = rootAsk; holds = rootHolds; content = rootContent }

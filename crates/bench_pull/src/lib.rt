@@ -1,5 +1,6 @@
 // The pull loop over a message of bench/bench.proto, exported for C: what bench/ counts of the steps, each value by its type.
 pub mod message;
+pub mod tags;
 pub mod value;
 
 ghost use mathlib.Core.Path.{_≡_};

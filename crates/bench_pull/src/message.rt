@@ -1,8 +1,10 @@
 // The fields of a message, one behind the other: a tag, then the value by its type. A content is gone into where it stands, as a part of the same slice.
 ghost use mathlib.Core.Path.{_≡_};
-ghost use Prim.Native.Nat.{_-_, _≤_};
+ghost use Prim.Native.Nat.{_+_, _-_, _≤_};
 ghost use lib.ListN.{length};
 ghost use Rattle.bench_pull.specs.Fields as spec;
+ghost use Rattle.spec.specs.Names.{mostLevels};
+use crate::tags;
 use crate::value::inner_value;
 use crate::value::root_value;
 use pull::step::Said;
@@ -36,10 +38,10 @@ fn elements(s: &[u8], from: u64) -> Sum
     Sum::All(acc)
 }
 
-// The fields of an inner message, whose level is counted: it is entered below level 100.
+// The fields of an inner message, whose level is counted: no content is entered at level `mostLevels`.
 fn inner(s: &[u8], level: u32, from: u64) -> Sum
-    requires { ⌜ level ≤ 100 ⌝ }
-    ensures { λ r. ⌜ r ≡ spec.inner (101 - level) from (now (s .entry)) ⌝ }
+    requires { ⌜ level ≤ mostLevels ⌝ }
+    ensures { λ r. ⌜ r ≡ spec.inner (mostLevels + 1 - level) from (now (s .entry)) ⌝ }
 {
     let mut at: usize = 0;
     let mut acc: u64 = from;
@@ -50,7 +52,7 @@ fn inner(s: &[u8], level: u32, from: u64) -> Sum
         let Said::Number(tag) = said else {
             return Sum::Part(acc);
         };
-        if tag == 26 {
+        if tag == tags::INNER_MESSAGE {
             let e = enter_at(s, behind, level);
             let next = e.at;
             let held = e.said;
@@ -80,7 +82,7 @@ fn inner(s: &[u8], level: u32, from: u64) -> Sum
 fn content(s: &[u8], tag: u64, from: u64) -> Sum
     ensures { λ r. ⌜ r ≡ spec.rootContent tag from (now (s .entry)) ⌝ }
 {
-    if tag == 26 {
+    if tag == tags::ROOT_MESSAGE {
         return inner(s, 1, from);
     }
     elements(s, from)
@@ -90,10 +92,10 @@ fn content(s: &[u8], tag: u64, from: u64) -> Sum
 fn holds(tag: u64) -> bool
     ensures { λ r. ⌜ r ≡ spec.rootHolds tag ⌝ }
 {
-    if tag == 26 {
+    if tag == tags::ROOT_MESSAGE {
         return true;
     }
-    tag == 34
+    tag == tags::ROOT_PACKED
 }
 
 // The fields of the root.

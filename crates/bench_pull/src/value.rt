@@ -4,6 +4,7 @@ ghost use Prim.Native.Nat.{_^_, _<_};
 ghost use Rattle.spec.specs.Pull.{stepAt};
 ghost use Rattle.pull.specs.Told.{asMoved};
 ghost use Rattle.bench_pull.specs.Fields.{rootAsk, innerAsk, amountOf, Ordered};
+use crate::tags;
 use pull::step::Moved;
 use pull::step::Said;
 use pull::step::bool_at;
@@ -41,10 +42,10 @@ pub(crate) fn root_value(s: &[u8], at: usize, tag: u64) -> Found
     ensures { λ r. ⌜ r ≡ amountOf (stepAt (now (s .entry)) at 0 (rootAsk tag)) ⌝ }
 {
     match tag {
-        8 => amount(int32_at(s, at)),
-        18 => amount(string_at(s, at)),
-        45 => amount(fixed32_at(s, at)),
-        56 => amount(bool_at(s, at)),
+        tags::ROOT_INT32 => amount(int32_at(s, at)),
+        tags::ROOT_STRING => amount(string_at(s, at)),
+        tags::ROOT_FLOAT => amount(fixed32_at(s, at)),
+        tags::ROOT_BOOL => amount(bool_at(s, at)),
         _ => amount(skip_at(s, at, 0, tag as u32)),
     }
 }
@@ -54,8 +55,8 @@ pub(crate) fn inner_value(s: &[u8], at: usize, level: u32, tag: u64) -> Found
     ensures { λ r. ⌜ r ≡ amountOf (stepAt (now (s .entry)) at level (innerAsk tag)) ⌝ }
 {
     match tag {
-        8 => amount(uint32_at(s, at)),
-        18 => amount(bytes_at(s, at)),
+        tags::INNER_UINT32 => amount(uint32_at(s, at)),
+        tags::INNER_BYTES => amount(bytes_at(s, at)),
         _ => amount(skip_at(s, at, level, tag as u32)),
     }
 }

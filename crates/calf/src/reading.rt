@@ -11,13 +11,15 @@ ghost use Rattle.schema.specs.Told.{badPlace};
 ghost use Rattle.read.specs.Answers.{readingBy};
 ghost use Rattle.calf.specs.Told.{numberOf, entryOf};
 use schema::Verdict;
+use spec::columns;
+use spec::refusals;
 
 // How many numbers a record has in lent room and in a list.
 #[no_mangle]
 pub extern "C" fn calf_record_numbers() -> usize
     ensures { λ r. ⌜ r ≡ stride ⌝ }
 {
-    6
+    columns::STRIDE
 }
 
 fn number_of(v: Verdict) -> u32
@@ -25,7 +27,7 @@ fn number_of(v: Verdict) -> u32
 {
     match v {
         Verdict::Valid => 0,
-        Verdict::Bad(_) => 9,
+        Verdict::Bad(_) => refusals::INVALID_SCHEMA,
     }
 }
 

@@ -8,7 +8,8 @@ use mathlib.Core.List.{List, [], _∷_, _++_}
 use lib.ListN.{length, getD, drop, set, drop-of-length-le}
 use lib.Seq.{drop-cons}
 use borrow.Author.Tests.{lt-ltb, le-ltb, eq-eqb, ne-eqb}
-use Rattle.printing.specs.Text.{put, puts, Shown, digitsOf, decimal, glyph, hexadecimal, rows, verdict, header, listing}
+use Rattle.printing.specs.Text.{zeroGlyph, letters, blank, okText, refusedText, atText, put, puts, Shown, digitsOf, decimal, glyph, hexadecimal, rows, verdict, header, listing}
+use Rattle.spec.specs.Names.{stopColumn}
 
 puts-append : (at : ℕ) (a b out : List ℕ) → puts at (a ++ b) out ≡ puts (puts at a out .0) b (puts at a out .1)
 unfolding puts
@@ -87,15 +88,15 @@ hex-done {bytes} l h = left-done (l .left) (ap hexadecimal (drop-of-length-le by
 
 -- ---- records
 
-row-on : (before between within column n : ℕ) (ns : List ℕ) → column < 5
+row-on : (before between within column n : ℕ) (ns : List ℕ) → column < stopColumn
     → rows before between within column (n ∷ ns) ≡ (before ∷ []) ++ (decimal n ++ rows within between within (column + 1) ns)
 unfolding rows
-row-on before between within column n ns h = simp (lt-ltb column 5 h) refl
+row-on before between within column n ns h = simp (lt-ltb column stopColumn h) refl
 
-row-anew : (before between within column n : ℕ) (ns : List ℕ) → 5 ≤ column
+row-anew : (before between within column n : ℕ) (ns : List ℕ) → stopColumn ≤ column
     → rows before between within column (n ∷ ns) ≡ (before ∷ []) ++ (decimal n ++ rows between between within 0 ns)
 unfolding rows
-row-anew before between within column n ns h = simp (le-ltb column 5 h) refl
+row-anew before between within column n ns h = simp (le-ltb column stopColumn h) refl
 
 pub record Rowing (list : List ℕ) (first between within at : ℕ) (out₀ : List ℕ) (before column i to : ℕ) (out : List ℕ) : Type 0 where
   pub left : Left (rows first between within 0 list) at out₀ (rows before between within column (drop i list)) to out
@@ -103,10 +104,10 @@ pub record Rowing (list : List ℕ) (first between within at : ℕ) (out₀ : Li
 module _ {list : List ℕ} {first between within at : ℕ} {out₀ : List ℕ} {before column i to m n : ℕ} {out mid after : List ℕ}
     (l : Rowing list first between within at out₀ before column i to out) (h : i < length list)
     (s : Shown out to (before ∷ []) mid m) (t : Shown mid m (decimal (getD list i 0)) after n) where
-  pub rows-on : column < 5 → Rowing list first between within at out₀ within (column + 1) (i + 1) n after
+  pub rows-on : column < stopColumn → Rowing list first between within at out₀ within (column + 1) (i + 1) n after
   rows-on c = record { left = left-turn (left-turn (l .left) (ap (rows before between within column) (from list i h) ∙ row-on before between within column _ _ c) s) refl t }
 
-  pub rows-anew : 5 ≤ column → Rowing list first between within at out₀ between 0 (i + 1) n after
+  pub rows-anew : stopColumn ≤ column → Rowing list first between within at out₀ between 0 (i + 1) n after
   rows-anew c = record { left = left-turn (left-turn (l .left) (ap (rows before between within column) (from list i h) ∙ row-anew before between within column _ _ c) s) refl t }
 
 pub rows-done : {list : List ℕ} {first between within at : ℕ} {out₀ : List ℕ} {before column i to : ℕ} {out : List ℕ}
@@ -117,12 +118,12 @@ rows-done {list} {between = between} {within = within} {before = before} {column
 
 -- ---- numbers
 
-digits-last : (left n : ℕ) → 0 < left → n < 10 → digitsOf left n ≡ (48 + n) ∷ []
+digits-last : (left n : ℕ) → 0 < left → n < 10 → digitsOf left n ≡ (zeroGlyph + n) ∷ []
 unfolding digitsOf
 digits-last zero n l h = absurd (omega arith)
 digits-last (suc k) n l h = simp (lt-ltb n 10 h) refl
 
-digits-more : (left n : ℕ) → 0 < left → 10 ≤ n → digitsOf left n ≡ digitsOf (left - 1) (n / 10) ++ ((48 + n % 10) ∷ [])
+digits-more : (left n : ℕ) → 0 < left → 10 ≤ n → digitsOf left n ≡ digitsOf (left - 1) (n / 10) ++ ((zeroGlyph + n % 10) ∷ [])
 unfolding digitsOf
 digits-more zero n l h = absurd (omega arith)
 digits-more (suc k) n l h =
@@ -135,36 +136,36 @@ module _ {out : List ℕ} {at : ℕ} where
   unfolding digitsOf
   digits-none n e = rw e shown-none
 
-  pub digits-one : {after : List ℕ} {next left n : ℕ} → 0 < left → n < 10 → Shown out at ((48 + n) ∷ []) after next → Shown out at (digitsOf left n) after next
+  pub digits-one : {after : List ℕ} {next left n : ℕ} → 0 < left → n < 10 → Shown out at ((zeroGlyph + n) ∷ []) after next → Shown out at (digitsOf left n) after next
   digits-one {left = left} {n = n} l h s = rw (digits-last left n l h) s
 
   pub digits-many : {mid after : List ℕ} {m next left n : ℕ} → 0 < left → 10 ≤ n
-      → Shown out at (digitsOf (left - 1) (n / 10)) mid m → Shown mid m ((48 + n % 10) ∷ []) after next → Shown out at (digitsOf left n) after next
+      → Shown out at (digitsOf (left - 1) (n / 10)) mid m → Shown mid m ((zeroGlyph + n % 10) ∷ []) after next → Shown out at (digitsOf left n) after next
   digits-many {left = left} {n = n} l h s t = rw (digits-more left n l h) (shown-join s t)
 
-pub glyph-low : {d : ℕ} → d < 10 → 48 + d ≡ glyph d
+pub glyph-low : {d : ℕ} → d < 10 → zeroGlyph + d ≡ glyph d
 unfolding glyph
 glyph-low {d} h = simp (lt-ltb d 10 h) refl
 
-pub glyph-high : {d : ℕ} → 10 ≤ d → 87 + d ≡ glyph d
+pub glyph-high : {d : ℕ} → 10 ≤ d → letters + d ≡ glyph d
 unfolding glyph
 glyph-high {d} h = simp (le-ltb d 10 h) refl
 
 -- ---- how a reading ended
 
 module _ {out mid after : List ℕ} {at m next : ℕ} (number count place : ℕ) where
-  pub verdict-ok : number ≡ 0 → Shown out at (111 ∷ 107 ∷ 32 ∷ []) mid m → Shown mid m (decimal count) after next → Shown out at (verdict number count place) after next
+  pub verdict-ok : number ≡ 0 → Shown out at okText mid m → Shown mid m (decimal count) after next → Shown out at (verdict number count place) after next
   unfolding verdict
   verdict-ok e s t = rw (eq-eqb number 0 e) (shown-join s t)
 
-  pub verdict-no : {far near : List ℕ} {f n : ℕ} → (number ≡ 0 → ⊥) → Shown out at (114 ∷ 101 ∷ 102 ∷ 117 ∷ 115 ∷ 101 ∷ 100 ∷ 32 ∷ []) mid m
-      → Shown mid m (decimal number) far f → Shown far f (32 ∷ 97 ∷ 116 ∷ 32 ∷ []) near n → Shown near n (decimal place) after next
+  pub verdict-no : {far near : List ℕ} {f n : ℕ} → (number ≡ 0 → ⊥) → Shown out at refusedText mid m
+      → Shown mid m (decimal number) far f → Shown far f atText near n → Shown near n (decimal place) after next
       → Shown out at (verdict number count place) after next
   unfolding verdict
   verdict-no e s t u v = rw (ne-eqb number 0 e) (shown-join s (shown-join t (shown-join u v)))
 
 pub listed : {out a b c after : List ℕ} {at i j k next end : ℕ} (number count place : ℕ) (list : List ℕ)
-    → Shown out at header a i → Shown a i (rows end end 32 0 list) b j → Shown b j (end ∷ []) c k → Shown c k (verdict number count place) after next
+    → Shown out at header a i → Shown a i (rows end end blank 0 list) b j → Shown b j (end ∷ []) c k → Shown c k (verdict number count place) after next
     → Shown out at (listing number count place list end) after next
 unfolding listing
 listed number count place list s t u v = shown-join s (shown-join t (shown-join u v))

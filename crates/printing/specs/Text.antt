@@ -5,6 +5,7 @@ use mathlib.Core.Path.{_≡_}
 use mathlib.Core.List.{List, [], _∷_, _++_}
 use lib.Dec.{ltb, eqb}
 use lib.ListN.{length, set}
+use Rattle.spec.specs.Names.{stopColumn}
 use Rattle.spec.specs.Base.{if_then_else_}
 
 -- ---- storing
@@ -18,9 +19,31 @@ unfoldable pub puts : ℕ → List ℕ → List ℕ → ℕ × List ℕ
 puts at [] out = (at, out)
 puts at (b ∷ bs) out = puts (put at b out .0) bs (put at b out .1)
 
--- What was stored from `at` on is the text, and `next` is the position behind it.
+-- What was stored from `at` on is the text, and `next` is the position after it.
 pub record Shown (out : List ℕ) (at : ℕ) (text : List ℕ) (after : List ℕ) (next : ℕ) : Type 0 where
   pub says : puts at text out ≡ (next, after)
+
+-- ---- bytes of texts
+
+-- `0`; what gives the letter of a hexadecimal digit above nine; a space
+abbrev pub zeroGlyph : ℕ
+zeroGlyph = 48
+
+abbrev pub letters : ℕ
+letters = 87
+
+abbrev pub blank : ℕ
+blank = 32
+
+-- `ok ` and `refused ` and ` at `
+abbrev pub okText : List ℕ
+okText = 111 ∷ 107 ∷ 32 ∷ []
+
+abbrev pub refusedText : List ℕ
+refusedText = 114 ∷ 101 ∷ 102 ∷ 117 ∷ 115 ∷ 101 ∷ 100 ∷ 32 ∷ []
+
+abbrev pub atText : List ℕ
+atText = 32 ∷ 97 ∷ 116 ∷ 32 ∷ []
 
 -- ---- numbers
 
@@ -28,8 +51,8 @@ pub record Shown (out : List ℕ) (at : ℕ) (text : List ℕ) (after : List ℕ
 unfoldable pub digitsOf : ℕ → ℕ → List ℕ
 digitsOf zero n = []
 digitsOf (suc left) n =
-    let more = digitsOf left (n / 10) ++ ((48 + n % 10) ∷ []) in
-    if ltb n 10 then (48 + n) ∷ [] else more
+    let more = digitsOf left (n / 10) ++ ((zeroGlyph + n % 10) ∷ []) in
+    if ltb n 10 then (zeroGlyph + n) ∷ [] else more
 
 -- a number of 64 bits has twenty digits at the most
 unfoldable pub decimal : ℕ → List ℕ
@@ -37,7 +60,7 @@ decimal n = digitsOf 20 n
 
 -- a digit of hexadecimal
 unfoldable pub glyph : ℕ → ℕ
-glyph d = if ltb d 10 then 48 + d else 87 + d
+glyph d = if ltb d 10 then zeroGlyph + d else letters + d
 
 unfoldable pub hexadecimal : List ℕ → List ℕ
 hexadecimal [] = []
@@ -52,13 +75,13 @@ rows before between within column [] = []
 rows before between within column (n ∷ ns) =
     let on = rows within between within (column + 1) ns in
     let anew = rows between between within 0 ns in
-    (before ∷ []) ++ (decimal n ++ (if ltb column 5 then on else anew))
+    (before ∷ []) ++ (decimal n ++ (if ltb column stopColumn then on else anew))
 
 -- `ok COUNT` or `refused NUMBER at PLACE`
 unfoldable pub verdict : (number count place : ℕ) → List ℕ
 verdict number count place =
-    if eqb number 0 then (111 ∷ 107 ∷ 32 ∷ []) ++ decimal count
-    else (114 ∷ 101 ∷ 102 ∷ 117 ∷ 115 ∷ 101 ∷ 100 ∷ 32 ∷ []) ++ (decimal number ++ ((32 ∷ 97 ∷ 116 ∷ 32 ∷ []) ++ decimal place))
+    if eqb number 0 then okText ++ decimal count
+    else refusedText ++ (decimal number ++ (atText ++ decimal place))
 
 -- `depth number kind value start end`
 unfoldable pub header : List ℕ
@@ -68,4 +91,4 @@ header =
 
 -- The listing of a reading: the header, a line for each record, how it ended; `end` stands between lines.
 unfoldable pub listing : (number count place : ℕ) → List ℕ → (end : ℕ) → List ℕ
-listing number count place list end = header ++ (rows end end 32 0 list ++ ((end ∷ []) ++ verdict number count place))
+listing number count place list end = header ++ (rows end end blank 0 list ++ ((end ∷ []) ++ verdict number count place))

@@ -4,6 +4,10 @@ ghost use mathlib.Core.Path.{_≡_};
 ghost use mathlib.Core.List.{[], _∷_};
 ghost use Prim.Native.Nat.{_<_};
 ghost use Rattle.printing.specs.Text.{Shown, digitsOf, decimal, glyph, hexadecimal, rows, verdict, listing};
+use spec::columns;
+
+// What is added to a digit of hexadecimal above nine.
+const LETTERS: u8 = b'a' - 10;
 
 // One byte.
 pub fn put_byte(b: u8, at: usize, out: &mut [u8]) -> usize
@@ -37,11 +41,11 @@ fn put_digits(n: u64, left: u32, at: usize, out: &mut [u8]) -> usize
         return at;
     }
     if n < 10 {
-        return put_byte(48 + n as u8, at, out);
+        return put_byte(b'0' + n as u8, at, out);
     }
     let to = put_digits(n / 10, left - 1, at, out);
     let digit = n % 10;
-    put_byte(48 + digit as u8, to, out)
+    put_byte(b'0' + digit as u8, to, out)
 }
 
 // A number in decimal: no number of 64 bits has more than twenty digits.
@@ -56,7 +60,11 @@ fn glyph(digit: u8) -> u8
     requires { ⌜ digit < 16 ⌝ }
     ensures { λ r. ⌜ r ≡ glyph digit ⌝ }
 {
-    if digit < 10 { 48 + digit } else { 87 + digit }
+    if digit < 10 {
+        b'0' + digit
+    } else {
+        LETTERS + digit
+    }
 }
 
 // Bytes in hexadecimal, two digits each.
@@ -93,7 +101,7 @@ pub fn put_records(
         to = put_byte(before, to, out);
         to = put_decimal(list[i], to, out);
         i += 1;
-        if column < 5 {
+        if column < columns::END {
             column += 1;
             before = within;
         } else {

@@ -5,11 +5,12 @@ use mathlib.Core.Path.{refl}
 use borrow.Author.Needs.{needs}
 use Rattle.spec.specs.Schema.{entriesOf}
 use Rattle.entries.proofs.NumbersLaws.{Here, here-next, here-end}
+use Rattle.bench_entries.specs.First.{mostMade}
 use Rattle.bench_entries.proofs.entries_from.Statement.{statement}
 use Rattle.bench_entries.proofs.entries_from.Tie as tie
 
 abbrev Inv-loop : tie.InvT-loop
-Inv-loop numbers count made₀ i₀ made i = Here 16 numbers count made i
+Inv-loop numbers count made₀ i₀ made i = Here mostMade numbers count made i
 
 abbrev μ-loop : tie.MeasureT-loop
 μ-loop numbers count entries₀ i₀ entries i = count - i

@@ -1,6 +1,6 @@
 -- `bench_pull::message::inner` meets its contract. It calls itself for a message within, one level up: the measure is how many levels are left. The loop's invariant: what
 -- there is in all is what the fields from here come to. Assumes nothing.
-use Prim.Native.Nat.{ℕ, _-_, _≤_, _<_}
+use Prim.Native.Nat.{ℕ, _+_, _-_, _≤_, _<_}
 use native.Mathlib.Omega.{arith}
 use mathlib.Core.Path.{_≡_}
 use lib.Bits.{bitXor}
@@ -9,9 +9,10 @@ use borrow.Author.Needs.{needs}
 use borrow.Author.Tests.{eq-eqb, ne-eqb}
 use borrow.Fn.Kinds.{In}
 use borrow.Fn.PlainCycle.{Measures, is, falls, and}
+use Rattle.spec.specs.Names.{mostLevels}
 use Rattle.spec.specs.Base.{part}
 use Rattle.bench_pull.specs.Fields as spec
-use Rattle.bench_pull.specs.Fields.{innerWay}
+use Rattle.bench_pull.specs.Fields.{innerMessage, innerWay}
 use Rattle.bench_pull.proofs.FieldLaws.{Here, here-start, here-end, tag-refused, tag-small, enter-refused, content-placed, content-refused, content-turn, value-refused, value-placed, value-turn}
 use Rattle.bench_pull.proofs.FieldLaws.{entered-below, inner-turns, inner-deeper}
 use Rattle.bench_pull.proofs.message.inner.Reads as inner
@@ -24,7 +25,7 @@ use Rattle.bench_pull.proofs.message.+inner.{statement}
 use Rattle.bench_pull.proofs.message.+inner.Tie.{close}
 
 abbrev μ-inner : Measures 1 inner-kinds.ps ℕ
-μ-inner κs a = 100 - a .1 .0
+μ-inner κs a = mostLevels - a .1 .0
 
 abbrev inner-at : ℕ → In 1 inner-kinds.ps
 inner-at t = and 1 inner-kinds.ps (is 1 inner-kinds.ps μ-inner t) inner.Pre
@@ -37,7 +38,7 @@ claims t =
     (tag-at-reads.Asked, tag-at-reads.Learnt, enter-at-reads.Asked, enter-at-reads.Learnt, inner-below t, inner.Post, inner-value-reads.Asked, inner-value-reads.Learnt)
 
 abbrev Inv-loop : inner-lts.InvT-loop
-Inv-loop s level from at₀ acc₀ at acc = Here (innerWay level (spec.inner (100 - level))) (spec.inner (101 - level) from s) s at acc
+Inv-loop s level from at₀ acc₀ at acc = Here (innerWay level (spec.inner (mostLevels - level))) (spec.inner (mostLevels + 1 - level) from s) s at acc
 
 abbrev μ-loop : inner-lts.MeasureT-loop
 μ-loop s level from at₀ acc₀ at acc = length s - at
@@ -53,20 +54,20 @@ returns-2 t c =
     let e = c .before in
     let g = e .before .before in
     let k = g .before .before .before in
-    enter-refused (k .tag-at .result) (k .before .before .loop .inv) (omega arith) (k .tag-at .ensures) (g .before .said .given .1) (e .enter-at .result) (e .enter-at .ensures) (eq-eqb _ 26 (e .before .if1 .taken)) (c .match2 .keys2)
+    enter-refused (k .tag-at .result) (k .before .before .loop .inv) (omega arith) (k .tag-at .ensures) (g .before .said .given .1) (e .enter-at .result) (e .enter-at .ensures) (eq-eqb _ innerMessage (e .before .if1 .taken)) (c .match2 .keys2)
 
--- the content of a message within: its bounds, and that its level is no more than 100
+-- the content of a message within: its bounds, and that its level is no more than the last
 within : (t : ℕ) (c : inner-lts.After-known-told2 (claims t) (inner-at t) inner.Post Inv-loop μ-loop) →
     let a = c .before .before .before .before .before .before .before .before .before .before .before .before .args in
     let v = c .before .held .given .0 in
-    (v .0 ≤ v .1 .0) × (v .1 .0 ≤ length (a .s .now)) × (a .level < 100)
+    (v .0 ≤ v .1 .0) × (v .1 .0 ≤ length (a .s .now)) × (a .level < mostLevels)
 within t c =
     let e = c .before .before .before in
     let g = e .before .before in
     let k = g .before .before .before in
     let a = k .before .before .before .before .args in
     let q = c .before .held .given .1 in
-    let p = content-placed (k .tag-at .result) (k .before .before .loop .inv) (omega arith) (k .tag-at .ensures) (g .before .said .given .1) (e .enter-at .result) (e .enter-at .ensures) (eq-eqb _ 26 (e .before .if1 .taken)) q in
+    let p = content-placed (k .tag-at .result) (k .before .before .loop .inv) (omega arith) (k .tag-at .ensures) (g .before .said .given .1) (e .enter-at .result) (e .enter-at .ensures) (eq-eqb _ innerMessage (e .before .if1 .taken)) q in
     (p .0, p .1, entered-below (a .s .now) (k .tag-at .result .at) (a .level) (e .enter-at .result) (e .enter-at .ensures) q)
 
 sub-size : (t : ℕ) → inner-lts.Need-sub-size (claims t) (inner-at t) inner.Post Inv-loop μ-loop
@@ -89,7 +90,7 @@ comes : (t : ℕ) (c : inner-lts.After-inner (claims t) (inner-at t) inner.Post 
     let k = c .before .before .before .before .before .before .before .before .before .before in
     let a = k .before .before .before .before .args in
     let v = c .before .before .before .held .given .0 in
-    c .inner .result ≡ spec.inner (100 - a .level) (bitXor (k .before .before .loop .acc) (v .1 .0 - v .0)) (part (v .0) (v .1 .0) (a .s .now))
+    c .inner .result ≡ spec.inner (mostLevels - a .level) (bitXor (k .before .before .loop .acc) (v .1 .0 - v .0)) (part (v .0) (v .1 .0) (a .s .now))
 comes t c =
     let k = c .before .before .before .before .before .before .before .before .before .before in
     let a = k .before .before .before .before .args in
@@ -102,14 +103,14 @@ returns-3 t c =
     let e = i .before .before .before .before .before in
     let g = e .before .before in
     let k = g .before .before .before in
-    content-refused (k .tag-at .result) (k .before .before .loop .inv) (omega arith) (k .tag-at .ensures) (g .before .said .given .1) (e .enter-at .result) (e .enter-at .ensures) (eq-eqb _ 26 (e .before .if1 .taken)) (i .before .before .before .held .given .1) (i .inner .result) (comes t i) (c .enum-told .given .1)
+    content-refused (k .tag-at .result) (k .before .before .loop .inv) (omega arith) (k .tag-at .ensures) (g .before .said .given .1) (e .enter-at .result) (e .enter-at .ensures) (eq-eqb _ innerMessage (e .before .if1 .taken)) (i .before .before .before .held .given .1) (i .inner .result) (comes t i) (c .enum-told .given .1)
 
 loop-less : (t : ℕ) → inner-lts.Need-loop-less (claims t) (inner-at t) inner.Post Inv-loop μ-loop
 loop-less t c =
     let e = c .before .before .before .before .before .before .before .before in
     let g = e .before .before in
     let k = g .before .before .before in
-    let p = content-placed (k .tag-at .result) (k .before .before .loop .inv) (omega arith) (k .tag-at .ensures) (g .before .said .given .1) (e .enter-at .result) (e .enter-at .ensures) (eq-eqb _ 26 (e .before .if1 .taken)) (c .before .before .before .before .before .before .held .given .1) in
+    let p = content-placed (k .tag-at .result) (k .before .before .loop .inv) (omega arith) (k .tag-at .ensures) (g .before .said .given .1) (e .enter-at .result) (e .enter-at .ensures) (eq-eqb _ innerMessage (e .before .if1 .taken)) (c .before .before .before .before .before .before .held .given .1) in
     omega (arith, p)
 
 loop-again : (t : ℕ) → inner-lts.Need-loop-again (claims t) (inner-at t) inner.Post Inv-loop μ-loop
@@ -118,7 +119,7 @@ loop-again t c =
     let e = i .before .before .before .before .before in
     let g = e .before .before in
     let k = g .before .before .before in
-    content-turn (k .tag-at .result) (k .before .before .loop .inv) (omega arith) (k .tag-at .ensures) (g .before .said .given .1) (e .enter-at .result) (e .enter-at .ensures) (eq-eqb _ 26 (e .before .if1 .taken)) (i .before .before .before .held .given .1) (i .inner .result) (comes t i) (c .before .c .given .1)
+    content-turn (k .tag-at .result) (k .before .before .loop .inv) (omega arith) (k .tag-at .ensures) (g .before .said .given .1) (e .enter-at .result) (e .enter-at .ensures) (eq-eqb _ innerMessage (e .before .if1 .taken)) (i .before .before .before .held .given .1) (i .inner .result) (comes t i) (c .before .c .given .1)
 
 -- a value
 inner-value-requires : (t : ℕ) → inner-lts.Need-inner-value-requires (claims t) (inner-at t) inner.Post Inv-loop μ-loop
@@ -132,14 +133,14 @@ returns-4 t c =
     let v = c .before .before in
     let g = v .before .before in
     let k = g .before .before .before in
-    value-refused (k .tag-at .result) (k .before .before .loop .inv) (omega arith) (k .tag-at .ensures) (g .before .said .given .1) (v .inner-value .result) (v .inner-value .ensures) (ne-eqb _ 26 (v .before .if1 .left)) (c .enum-told2 .given .1)
+    value-refused (k .tag-at .result) (k .before .before .loop .inv) (omega arith) (k .tag-at .ensures) (g .before .said .given .1) (v .inner-value .result) (v .inner-value .ensures) (ne-eqb _ innerMessage (v .before .if1 .left)) (c .enum-told2 .given .1)
 
 loop-less-2 : (t : ℕ) → inner-lts.Need-loop-less-2 (claims t) (inner-at t) inner.Post Inv-loop μ-loop
 loop-less-2 t c =
     let v = c .before .before .before in
     let g = v .before .before in
     let k = g .before .before .before in
-    let p = value-placed (k .tag-at .result) (k .before .before .loop .inv) (omega arith) (k .tag-at .ensures) (g .before .said .given .1) (v .inner-value .result) (v .inner-value .ensures) (ne-eqb _ 26 (v .before .if1 .left)) (c .before .f .given .1) in
+    let p = value-placed (k .tag-at .result) (k .before .before .loop .inv) (omega arith) (k .tag-at .ensures) (g .before .said .given .1) (v .inner-value .result) (v .inner-value .ensures) (ne-eqb _ innerMessage (v .before .if1 .left)) (c .before .f .given .1) in
     omega (arith, p)
 
 loop-again-2 : (t : ℕ) → inner-lts.Need-loop-again-2 (claims t) (inner-at t) inner.Post Inv-loop μ-loop
@@ -147,7 +148,7 @@ loop-again-2 t c =
     let v = c .before .before .before in
     let g = v .before .before in
     let k = g .before .before .before in
-    value-turn (k .tag-at .result) (k .before .before .loop .inv) (omega arith) (k .tag-at .ensures) (g .before .said .given .1) (v .inner-value .result) (v .inner-value .ensures) (ne-eqb _ 26 (v .before .if1 .left)) (c .before .f .given .1)
+    value-turn (k .tag-at .result) (k .before .before .loop .inv) (omega arith) (k .tag-at .ensures) (g .before .said .given .1) (v .inner-value .result) (v .inner-value .ensures) (ne-eqb _ innerMessage (v .before .if1 .left)) (c .before .f .given .1)
 
 returns-5 : (t : ℕ) → inner-lts.Need-returns-5 (claims t) (inner-at t) inner.Post Inv-loop μ-loop
 returns-5 t c = here-end (c .before .loop .inv) (omega arith)

@@ -1,7 +1,7 @@
 -- `bench_pull::message::holds` meets its contract. Assumes nothing.
 use mathlib.Core.Path.{refl}
 use borrow.Author.Tests.{ne-eqb}
-use Rattle.bench_pull.specs.Fields.{rootHolds}
+use Rattle.bench_pull.specs.Fields.{rootMessage, rootHolds}
 use Rattle.bench_pull.proofs.message.holds.Statement.{statement}
 use Rattle.bench_pull.proofs.message.holds.Tie as tie
 
@@ -11,7 +11,7 @@ returns c = rw (c .if1 .taken) refl
 
 returns-2 : tie.Need-returns-2
 unfolding rootHolds
-returns-2 c = rw (ne-eqb (c .before .args .tag) 26 (c .if1 .left)) refl
+returns-2 c = rw (ne-eqb (c .before .args .tag) rootMessage (c .if1 .left)) refl
 
 pub holds-spec : {M : Type 1} → statement M
 holds-spec = tie.close (tie.spec returns returns-2)

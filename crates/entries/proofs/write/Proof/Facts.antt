@@ -9,7 +9,7 @@ use Rattle.spec.specs.Writing.{writing, output, Writing}
 use Rattle.spec.specs.declared.Entry.{Entry}
 use Rattle.write.specs.Answers.{answerOfWriting}
 use Rattle.write.specs.declared.Answer.{Answer}
-use Rattle.entries.specs.Copied.{copiedTo, lentOf}
+use Rattle.entries.specs.Copied.{mostNumbers, copiedTo, lentOf}
 use Rattle.entries.proofs.LentLaws.{lent-alike, alike-writing}
 
 abbrev pub Copied : List Entry → List ℕ → ℕ → List ℕ → Type 0
@@ -24,7 +24,7 @@ Told types n a = Under (schemaOf types (take (lentOf n) a))
 abbrev pub Ends : ℕ → List Entry → List ℕ → List ℕ → List ℕ → Answer → List ℕ → Type 0
 Ends types ys = Under (record { types = types; entries = ys })
 
-pub ends : (types : ℕ) (ys : List Entry) (list payload out a₀ a : List ℕ) (n : ℕ) (r : Answer) (z : List ℕ) → length a₀ ≡ 1280 → length a ≡ 1280 → Copied ys a₀ n a → Told types n a list payload out r z → Ends types ys list payload out r z
+pub ends : (types : ℕ) (ys : List Entry) (list payload out a₀ a : List ℕ) (n : ℕ) (r : Answer) (z : List ℕ) → length a₀ ≡ mostNumbers → length a ≡ mostNumbers → Copied ys a₀ n a → Told types n a list payload out r z → Ends types ys list payload out r z
 ends types ys list payload out a₀ a n r z len wide e t =
     let alike = lent-alike types ys a₀ a len wide (e .1) in
     let same : writing (schemaOf types (take (lentOf n) a)) (length out) payload (recordsOf list) ≡ writing (record { types = types; entries = ys }) (length out) payload (recordsOf list) =
