@@ -6,47 +6,14 @@ ghost use Rattle.calf.specs.Told.{askedBy, stepNumber, stepAnswer};
 use pull::step::Ask;
 use pull::step::Moved;
 use pull::step::Said;
-use spec::kinds;
+use spec::kinds32;
 use spec::limits;
 use spec::refusals;
 
 const LIMIT: usize = limits::LIMIT as usize;
 
-// The kinds that a caller asks for by number.
-const DOUBLE: u32 = kinds::DOUBLE as u32;
-
-const FLOAT: u32 = kinds::FLOAT as u32;
-
-const INT64: u32 = kinds::INT64 as u32;
-
-const UINT64: u32 = kinds::UINT64 as u32;
-
-const INT32: u32 = kinds::INT32 as u32;
-
-const FIXED64: u32 = kinds::FIXED64 as u32;
-
-const FIXED32: u32 = kinds::FIXED32 as u32;
-
-const BOOL: u32 = kinds::BOOL as u32;
-
-const STRING: u32 = kinds::STRING as u32;
-
-const BYTES: u32 = kinds::BYTES as u32;
-
-const UINT32: u32 = kinds::UINT32 as u32;
-
-const ENUM: u32 = kinds::ENUM as u32;
-
-const SFIXED32: u32 = kinds::SFIXED32 as u32;
-
-const SFIXED64: u32 = kinds::SFIXED64 as u32;
-
-const SINT32: u32 = kinds::SINT32 as u32;
-
-const SINT64: u32 = kinds::SINT64 as u32;
-
 // No schema has a group: its number asks for a skip.
-const SKIP: u32 = kinds::GROUP as u32;
+const SKIP: u32 = kinds32::GROUP;
 
 // What a step says, by number: the end, a number, the bounds of a content, the place of a refusal.
 const END: u64 = 0;
@@ -73,23 +40,23 @@ fn asked(kind: u32, tag: u32) -> Ask
     ensures { λ r. ⌜ pulling.asked r ≡ askedBy kind tag ⌝ }
 {
     match kind {
-        DOUBLE => Ask::Double,
-        FLOAT => Ask::Float,
-        INT64 => Ask::Int64,
-        UINT64 => Ask::Uint64,
-        INT32 => Ask::Int32,
-        FIXED64 => Ask::Fixed64,
-        FIXED32 => Ask::Fixed32,
-        BOOL => Ask::Bool,
-        STRING => Ask::String,
+        kinds32::DOUBLE => Ask::Double,
+        kinds32::FLOAT => Ask::Float,
+        kinds32::INT64 => Ask::Int64,
+        kinds32::UINT64 => Ask::Uint64,
+        kinds32::INT32 => Ask::Int32,
+        kinds32::FIXED64 => Ask::Fixed64,
+        kinds32::FIXED32 => Ask::Fixed32,
+        kinds32::BOOL => Ask::Bool,
+        kinds32::STRING => Ask::String,
         SKIP => Ask::Skip(tag),
-        BYTES => Ask::Bytes,
-        UINT32 => Ask::Uint32,
-        ENUM => Ask::Enum,
-        SFIXED32 => Ask::Sfixed32,
-        SFIXED64 => Ask::Sfixed64,
-        SINT32 => Ask::Sint32,
-        SINT64 => Ask::Sint64,
+        kinds32::BYTES => Ask::Bytes,
+        kinds32::UINT32 => Ask::Uint32,
+        kinds32::ENUM => Ask::Enum,
+        kinds32::SFIXED32 => Ask::Sfixed32,
+        kinds32::SFIXED64 => Ask::Sfixed64,
+        kinds32::SINT32 => Ask::Sint32,
+        kinds32::SINT64 => Ask::Sint64,
         _ => Ask::RawTag,
     }
 }

@@ -20,7 +20,7 @@ use spec::columns;
 use spec::limits;
 
 // The numbers of as many entries as a schema may have.
-pub const MOST_NUMBERS: usize = limits::MOST_ENTRIES * columns::ENTRY_STRIDE;
+pub const MOST_NUMBERS: usize = schema::layout::MOST_NUMBERS;
 
 // One entry more than a schema may have.
 const ONE_MORE: usize = limits::MOST_ENTRIES + 1;

@@ -13,7 +13,7 @@ use Rattle.spec.specs.Writing.{Fields, listFault, schemaFirst, listCheck}
 use Rattle.spec.specs.declared.Entry.{Entry}
 use Rattle.spec.proofs.VarintLaws.{lower-or-not}
 use Rattle.spec.proofs.SchemaLaws.{Good, good-entry, at, valid-count, valid-good}
-use Rattle.schema.specs.Layout.{infoLength, keyCount, ownerUnit}
+use Rattle.schema.specs.Layout.{infoLength, keyCount, ownerUnit, noKey}
 use Rattle.schema.specs.Tables.{soundOf, keysWith, infoWith}
 use Rattle.schema.proofs.MakingLaws.{wire-below}
 use Rattle.schema.proofs.StoredLaws.{keys-at, keys-else}
@@ -28,12 +28,12 @@ use Rattle.list.specs.declared.Verdict.the-variants.{Fine, Faulty}
 
 -- every key is the largest number before they are made
 abbrev cleared : List ℕ
-cleared = replicate keyCount (2 ^ 64 - 1)
+cleared = replicate keyCount noKey
 
 key-of-entry : (sch : Schema) → badSchema sch ≡ none → (i type t : ℕ) → i < keyCount → type < mostTypes → t < 2 ^ 32
     → getD (keysWith 0 (sch .entries) cleared) i 0 ≡ type * ownerUnit + t → (1 ≤ t / 8) × (t % 8 ≤ fixed32Wire)
 key-of-entry sch valid i type t l few h e =
-    let long : length cleared ≡ keyCount = length-replicate {A = ℕ} keyCount (2 ^ 64 - 1) in
+    let long : length cleared ≡ keyCount = length-replicate {A = ℕ} keyCount noKey in
     lower-or-not i (length (sch .entries))
     (λ m.
     let g : Good (sch .types) (at sch i) = good-entry (sch .types) (at sch i) (valid-good sch valid i m) in
@@ -43,7 +43,7 @@ key-of-entry sch valid i type t l few h e =
     (omega (arith, k, w, g .number-from, g .number-to), omega (arith, k, w, v, g .number-from, g .number-to)))
     (λ m.
     let k = keys-else (sch .entries) cleared (valid-count sch valid) (omega arith) i m l in
-    absurd (omega (arith, k, getD-replicate keyCount i (2 ^ 64 - 1) 0 l)))
+    absurd (omega (arith, k, getD-replicate keyCount i noKey 0 l)))
 
 pub tables-made : (sch : Schema) → badSchema sch ≡ none → (keys info info₀ : List ℕ) → keys ≡ keysWith 0 (soundOf sch) cleared → info ≡ infoWith 0 (soundOf sch) info₀
     → infoLength ≤ length info₀ → Made sch keys info

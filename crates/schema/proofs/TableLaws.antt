@@ -18,7 +18,7 @@ use Rattle.spec.proofs.FieldLaws.{kind-typed, kind-packed, kind-unknown, kind-l
 use Rattle.spec.proofs.SchemaLaws.{schema-kinds, Is, Before, type-before, number-before, Good, good-entry, at, place-found, place-none, valid-types, valid-count, valid-good, valid-found}
 use Rattle.spec.specs.declared.Entry.{Entry}
 use Rattle.wire.proofs.Below.{equal-below}
-use Rattle.schema.specs.Layout.{infoLength, innersAt, keyCount, kindsAt, mayPack, notFound, ownerUnit}
+use Rattle.schema.specs.Layout.{infoLength, innersAt, keyCount, kindsAt, mayPack, notFound, ownerUnit, noKey}
 use Rattle.schema.proofs.SearchLaws.{Keyed, placedOr, search-place}
 use Rattle.schema.proofs.MakingLaws.{wire-below}
 use Rattle.schema.proofs.StoredLaws.{length-keys, keys-at, keys-else, kinds-at, inners-at}
@@ -114,7 +114,7 @@ keyed-row type t {types} {e} {x} g is l =
     above (number-before p h) = omega (arith, low, g .number-to)
 
 -- Tables that are made over keys that no tag has, and over any `infoLength` numbers.
-module _ (sch : Schema) (valid : badSchema sch ≡ none) (keys₀ info₀ : List ℕ) (sized : length keys₀ ≡ keyCount) (unused : (i : ℕ) → i < keyCount → getD keys₀ i 0 ≡ 2 ^ 64 - 1)
+module _ (sch : Schema) (valid : badSchema sch ≡ none) (keys₀ info₀ : List ℕ) (sized : length keys₀ ≡ keyCount) (unused : (i : ℕ) → i < keyCount → getD keys₀ i 0 ≡ noKey)
     (wide : infoLength ≤ length info₀) where
   abbrev keys : List ℕ
   keys = keysWith 0 (sch .entries) keys₀
@@ -141,7 +141,7 @@ module _ (sch : Schema) (valid : badSchema sch ≡ none) (keys₀ info₀ : List
   inner-at i l = inners-at (sch .entries) info₀ few wide (λ k u. let o = good-at k u .owned in omega (arith, small)) i l
 
   -- a key that a tag of these types has is an entry's
-  key-within : (i key : ℕ) → getD keys i 0 ≡ key → 0 < key → key < 2 ^ 64 - 1 → i < length (sch .entries)
+  key-within : (i key : ℕ) → getD keys i 0 ≡ key → 0 < key → key < noKey → i < length (sch .entries)
   key-within i key p a b =
       lower-or-not i (length (sch .entries)) (λ l. l)
       (λ l. lower-or-not i keyCount
@@ -232,9 +232,9 @@ sound-valid sch valid = ap (λ (bad : Option ℕ). upTo bad (sch .entries)) vali
 
 -- The same of the arrays that a reader clears: every key the largest number.
 pub made-says : (sch : Schema) → badSchema sch ≡ none → (info : List ℕ) → infoLength ≤ length info → (type t : ℕ) → type < mostTypes → 1 ≤ t / 8 → t < 2 ^ 32 → t % 8 ≤ fixed32Wire
-    → tableSays (keysWith 0 (sch .entries) (replicate keyCount (2 ^ 64 - 1))) (infoWith 0 (sch .entries) info) type t ≡ says sch type t
+    → tableSays (keysWith 0 (sch .entries) (replicate keyCount noKey)) (infoWith 0 (sch .entries) info) type t ≡ says sch type t
 made-says sch valid info wide type t a b c d =
-    table-says sch valid (replicate keyCount (2 ^ 64 - 1)) info (length-replicate keyCount (2 ^ 64 - 1)) (λ i l. getD-replicate keyCount i (2 ^ 64 - 1) 0 l) wide type t a b c d
+    table-says sch valid (replicate keyCount noKey) info (length-replicate keyCount noKey) (λ i l. getD-replicate keyCount i noKey 0 l) wide type t a b c d
 
 -- ---- what is said is in range
 

@@ -7,7 +7,6 @@ ghost use Rattle.spec.specs.Kind.{shape};
 ghost use Rattle.spec.specs.Sizes.{prefixedSize, valueSize};
 ghost use Rattle.sizes.specs.SizeParts.{capped, coded};
 
-mod kinds32;
 pub mod packed;
 pub mod singular;
 pub mod unknown_or_group;
@@ -37,6 +36,7 @@ pub use self::singular::string_size;
 pub use self::singular::uint32_size;
 pub use self::singular::uint64_size;
 pub use self::unknown_or_group::unknown_fields_size;
+use spec::kinds32;
 use spec::wire_types;
 use wire::varint::encode::encoded_varint64_len;
 use wire::wire_format::MAX_MESSAGE_SIZE;

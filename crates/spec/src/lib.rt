@@ -1,6 +1,7 @@
 // The definitions are in specs/ and the laws about them in proofs/; the only code is names for the numbers of the rules, and what a schema is made of.
 pub mod columns;
 pub mod kinds;
+pub mod kinds32;
 pub mod limits;
 pub mod refusals;
 pub mod wire_types;
