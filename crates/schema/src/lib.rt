@@ -10,6 +10,8 @@ ghost use Rattle.schema.specs.Tables.{counted, nextKey, innerIn, noted, 
 ghost use Rattle.schema.specs.Told.{entry, fiveAt, badPlace, place, said};
 use wire::wire_format;
 
+pub mod layout;
+
 // The numbers of an entry.
 struct Five {
     owner: u32,
