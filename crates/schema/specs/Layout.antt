@@ -27,6 +27,10 @@ ownerUnit = 4294967296
 abbrev pub guesses : ℕ
 guesses = 16
 
+-- the tags that have guesses are below this: guesses * 8. They are those of one byte
+abbrev pub guessedTags : ℕ
+guessedTags = 128
+
 -- where the kinds of the entries begin, after the guesses of all types: guesses * mostTypes
 abbrev pub kindsAt : ℕ
 kindsAt = 512

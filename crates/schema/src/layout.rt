@@ -18,6 +18,9 @@ pub const NO_KEY: u64 = 0xffff_ffff_ffff_ffff;
 // How many guesses a message type has in `info`: one for each field number below this.
 pub const GUESSES: usize = 16;
 
+// The tags that have guesses: those of one byte, as the numbers below 16 have.
+pub const GUESSED_TAGS: u32 = GUESSES as u32 * 8;
+
 // Where the kinds of the entries begin in `info`, after the guesses of all types.
 pub const KINDS_AT: usize = GUESSES * MOST_TYPES as usize;
 
