@@ -10,6 +10,7 @@ use lib.Seq.{set-append-seam}
 use native.Mathlib.Nat.{suc-add}
 use lib.Dec.{leb}
 use borrow.Author.Tests.{le-leb, lt-leb}
+use Rattle.spec.specs.Names.{noRoom}
 use Rattle.spec.specs.Base.{if_then_else_}
 use Rattle.spec.specs.Record.{Record, stride, numbers, stored}
 use Rattle.spec.specs.Reading.{Reading, Done, Refused, _then_, _followed-by_, within, number, place, listed, roomAfter}
@@ -54,11 +55,11 @@ module _ (room : List ℕ) (b : ℕ) (p q : Reading) {all : Left} {a : Step} {ro
 
 pub emit-room : (room : List ℕ) (b : ℕ) (r : Record) (q : Reading) → b + stride ≤ length room → emit room b (r then q) ≡ emit (placed room b r) (b + stride) q
 unfolding emit
-emit-room room b r q h = ap (λ (t : Bool). if t then emit (placed room b r) (b + stride) q else left (Stop 8 b (r .tag)) room) (le-leb (b + stride) (length room) h)
+emit-room room b r q h = ap (λ (t : Bool). if t then emit (placed room b r) (b + stride) q else left (Stop noRoom b (r .tag)) room) (le-leb (b + stride) (length room) h)
 
-pub emit-full : (room : List ℕ) (b : ℕ) (r : Record) (q : Reading) → length room < b + stride → emit room b (r then q) ≡ left (Stop 8 b (r .tag)) room
+pub emit-full : (room : List ℕ) (b : ℕ) (r : Record) (q : Reading) → length room < b + stride → emit room b (r then q) ≡ left (Stop noRoom b (r .tag)) room
 unfolding emit
-emit-full room b r q h = ap (λ (t : Bool). if t then emit (placed room b r) (b + stride) q else left (Stop 8 b (r .tag)) room) (lt-leb (b + stride) (length room) h)
+emit-full room b r q h = ap (λ (t : Bool). if t then emit (placed room b r) (b + stride) q else left (Stop noRoom b (r .tag)) room) (lt-leb (b + stride) (length room) h)
 
 pub placed-length : (room : List ℕ) (b : ℕ) (r : Record) → length (placed room b r) ≡ length room
 placed-length room b r = simp length-set
