@@ -9,8 +9,8 @@ ghost use Rattle.spec.specs.Skip.{content};
 ghost use Rattle.wire.specs.Answers.{asRead};
 ghost use Rattle.wire.specs.Reached.{varintOf};
 ghost use Rattle.pull.specs.Told.{spanAt};
-use crate::bytes::LAST_32;
-use crate::bytes::MORE_32;
+use crate::bytes::LAST_OF_32;
+use crate::bytes::MORE_OF_32;
 use crate::bytes::by_bytes;
 use crate::wide::wide_found;
 use spec::refusals;
@@ -46,7 +46,7 @@ pub(crate) fn narrow_found(s: &[u8], at: usize) -> Found
             return Found::Value { value: v, next };
         }
     }
-    by_bytes(s, at, MORE_32, LAST_32)
+    by_bytes(s, at, MORE_OF_32, LAST_OF_32)
 }
 
 // A varint of either width, for what is read at both.

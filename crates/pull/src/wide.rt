@@ -5,28 +5,31 @@ ghost use lib.ListN.{length, getD, drop};
 ghost use Rattle.spec.specs.Varint.{varint64};
 ghost use Rattle.wire.specs.Answers.{asRead};
 ghost use Rattle.wire.specs.Reached.{Reached};
-use crate::bytes::LAST_64;
-use crate::bytes::MORE_64;
+use crate::bytes::LAST_OF_64;
+use crate::bytes::MORE_OF_64;
 use crate::bytes::by_bytes;
 use spec::refusals;
 use wire::found::Found;
 
-// What a byte of a varint counts, by its place: the second 128, and each 128 times the one before.
-const THIRD: u64 = 0x4000;
+// The most bytes of a varint64.
+const LONGEST: usize = MORE_OF_64 + 1;
 
-const FOURTH: u64 = 0x20_0000;
+// What the bytes of a varint count from the third on: the second counts 128, and each 128 times as much as the one before it.
+const THIRD: u64 = 128 * 128;
 
-const FIFTH: u64 = 0x1000_0000;
+const FOURTH: u64 = 128 * THIRD;
 
-const SIXTH: u64 = 0x8_0000_0000;
+const FIFTH: u64 = 128 * FOURTH;
 
-const SEVENTH: u64 = 0x400_0000_0000;
+const SIXTH: u64 = 128 * FIFTH;
 
-const EIGHTH: u64 = 0x2_0000_0000_0000;
+const SEVENTH: u64 = 128 * SIXTH;
 
-const NINTH: u64 = 0x100_0000_0000_0000;
+const EIGHTH: u64 = 128 * SEVENTH;
 
-const TENTH: u64 = 0x8000_0000_0000_0000;
+const NINTH: u64 = 128 * EIGHTH;
+
+const TENTH: u64 = 128 * NINTH;
 
 // Those of one to three bytes are read in place, as most are, and the others by a call. It is just small enough that the compiler puts it in place wherever it is called:
 // for the second and the third byte it asks at once whether they are there.
@@ -64,10 +67,10 @@ fn wide_long(s: &[u8], at: usize) -> Found
     requires { ⌜ (at < length (now s)) × (128 ≤ getD (now s) at 0) ⌝ }
     ensures { λ r. ⌜ asRead at r ≡ varint64 (drop at (now (s .entry))) ⌝ }
 {
-    if 10 <= s.len() - at {
+    if LONGEST <= s.len() - at {
         return of_ten(s, at);
     }
-    by_bytes(s, at, MORE_64, LAST_64)
+    by_bytes(s, at, MORE_OF_64, LAST_OF_64)
 }
 
 // A varint of two or more bytes, where ten bytes are there: with no call, so that a long value costs a reader little more than its bytes.
@@ -141,7 +144,7 @@ fn from_eighth(s: &[u8], at: usize, v7: u64) -> Found
         return Found::Value { value: v9, next };
     }
     let b9 = s[at + 9] as u64;
-    if LAST_64 < b9 {
+    if LAST_OF_64 < b9 {
         return Found::Refused(refusals::BAD_VARINT);
     }
     let whole = v9 + b9 * TENTH;

@@ -83,7 +83,13 @@ enum Body {
 // ---- tags
 
 // Any tag.
-fn long_tag(keys: &[u64; layout::KEYS], info: &[u8; layout::INFO], s: &[u8], at: usize, ty: u32) -> Tag
+fn long_tag(
+    keys: &[u64; layout::KEYS],
+    info: &[u8; layout::INFO],
+    s: &[u8],
+    at: usize,
+    ty: u32,
+) -> Tag
     ensures { λ r. ⌜ r ≡ tagAt (tableSays (now (keys .entry)) (now (info .entry)) ty) at (tag (drop at (now (s .entry)))) ⌝ }
 {
     match decode_varint32(s, at) {
@@ -131,7 +137,13 @@ fn quick_tag(info: &[u8; layout::INFO], i: usize, c: u64, at: usize) -> Tag
 }
 
 // The tag at a place. One of a single byte whose entry is the guess needs no search: its key says that owner, number and wire type are right.
-fn tag_at(keys: &[u64; layout::KEYS], info: &[u8; layout::INFO], s: &[u8], at: usize, ty: u32) -> Tag
+fn tag_at(
+    keys: &[u64; layout::KEYS],
+    info: &[u8; layout::INFO],
+    s: &[u8],
+    at: usize,
+    ty: u32,
+) -> Tag
     ensures { λ r. ⌜ r ≡ tagAt (tableSays (now (keys .entry)) (now (info .entry)) ty) at (tag (drop at (now (s .entry)))) ⌝ }
 {
     if at < s.len() {

@@ -54,7 +54,12 @@ fn answered(step: Step) -> Answer
 }
 
 // Reads the message `s` under the tables of a schema, which a caller with many messages makes once. Any arrays are tables.
-pub fn read_prepared(keys: &[u64; layout::KEYS], info: &[u8; layout::INFO], s: &[u8], room: &mut [u64]) -> Answer
+pub fn read_prepared(
+    keys: &[u64; layout::KEYS],
+    info: &[u8; layout::INFO],
+    s: &[u8],
+    room: &mut [u64],
+) -> Answer
     ensures { λ r. ⌜ (r .number ≡ number (readingBy (tableSays (now (keys .entry)) (now (info .entry))) (length (now (room .entry)) / stride) (now (s .entry))))
         × (r .place ≡ place (readingBy (tableSays (now (keys .entry)) (now (info .entry))) (length (now (room .entry)) / stride) (now (s .entry))))
         × (r .count ≡ length (listed (readingBy (tableSays (now (keys .entry)) (now (info .entry))) (length (now (room .entry)) / stride) (now (s .entry)))))

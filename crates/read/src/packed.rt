@@ -60,7 +60,7 @@ fn short_elements(
     Spot { at, to }
 }
 
-// The elements in the content p, which stands at `off`, behind the first `from` numbers of the room; `tag` is the place of the field's tag.
+// The elements in the content p, which stands at `off`, after the first `from` numbers of the room; `tag` is the place of the field's tag.
 fn packed_ints(
     p: &[u8],
     off: usize,

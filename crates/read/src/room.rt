@@ -4,7 +4,6 @@ ghost use Prim.Native.Nat.{_+_, _≤_};
 ghost use lib.ListN.{length};
 ghost use Rattle.spec.specs.Record.{row, stride};
 ghost use Rattle.read.specs.Emit.{placed};
-
 use spec::columns;
 
 // How far a reader came: on, with `to` numbers of the room in use; or refused. Numbers, and not records, so that no turn multiplies.

@@ -224,12 +224,14 @@ fn int_or_none(s: &[u8], at: usize, kind: u64) -> Found
     int_at(s, at, kind)
 }
 
-// A value of a kind that is one number, and else refusal 3.
+// A value of a kind that is one number, and else the refusal of a bad tag.
 pub(crate) fn scalar_at(s: &[u8], at: usize, kind: u64) -> Found
     ensures { λ r. ⌜ asRead at r ≡ scalarOf (shape kind) (drop at (now (s .entry))) ⌝ }
 {
     match kind {
-        kinds::DOUBLE | kinds::FIXED64 | kinds::SFIXED64 | kinds::UNKNOWN_FIXED64 => decode_fixed64(s, at),
+        kinds::DOUBLE | kinds::FIXED64 | kinds::SFIXED64 | kinds::UNKNOWN_FIXED64 => {
+            decode_fixed64(s, at)
+        }
         kinds::FLOAT | kinds::FIXED32 | kinds::UNKNOWN_FIXED32 => decode_fixed32(s, at),
         kinds::SFIXED32 => sfixed32_at(s, at),
         _ => int_or_none(s, at, kind),
