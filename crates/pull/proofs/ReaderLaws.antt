@@ -7,6 +7,7 @@ use mathlib.Core.Bool.{Bool, true, false}
 use lib.ListN.{length}
 use lib.Dec.{ltb}
 use denote.Ref.{RefT, now}
+use Rattle.spec.specs.Names.{tooLarge}
 use Rattle.spec.specs.Base.{if_then_else_, part, limit}
 use Rattle.spec.specs.Pull as spec
 use Rattle.spec.specs.Pull.{says, reader, opened, stepped, entered, stepAt, enterAt}
@@ -36,7 +37,7 @@ open-says s n p e f =
     openedAs : ℕ → List ℕ → spec.Opened
     openedAs k b = record { number = k; reader = reader b 0 0 }
 
-    go : (b : Bool) → openedAs (if b then 11 else 0) (if b then [] else s) ≡ (if b then openedAs 11 [] else openedAs 0 s)
+    go : (b : Bool) → openedAs (if b then tooLarge else 0) (if b then [] else s) ≡ (if b then openedAs tooLarge [] else openedAs 0 s)
     go true = refl
     go false = refl
 

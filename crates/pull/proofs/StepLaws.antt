@@ -9,6 +9,7 @@ use lib.ListN.{length, take, drop, getD, length-drop}
 use native.Mathlib.Numerals.{add-one}
 use lib.Seq.{drop-cons, drop-drop}
 use borrow.Author.Tests.{le-leb}
+use Rattle.spec.specs.Names.{mostLevels, notUtf8, endsEarly, tooDeep}
 use Rattle.spec.specs.Base.{if_then_else_, part, Read, Took, No, digit, longer, _>>=_}
 use Rattle.spec.specs.Varint.{varint, varint64}
 use Rattle.spec.specs.Utf8.{utf8}
@@ -77,7 +78,7 @@ module _ (len : List ℕ → Read) (at : ℕ) (s : List ℕ) where
   span-refused e = rw (content-refused len (drop at s) e)
 
   module _ {m n : ℕ} (e : len (drop at s) ≡ Took m n) where
-    pub span-short : at ≤ length s → length s < at + n + m → span.Bad 1 ≡ spanAt at (content len (drop at s))
+    pub span-short : at ≤ length s → length s < at + n + m → span.Bad endsEarly ≡ spanAt at (content len (drop at s))
     unfolding spanAt
     span-short l h = rw (content-short len (drop at s) e (omega (arith, length-drop at s)))
 
@@ -110,7 +111,7 @@ content-told at (No k) = refl
 -- a string, by what the check said of it
 module _ (at : ℕ) (s : List ℕ) where
   pub text-told : (r : Read) {a e : ℕ} → span.Of a e ≡ spanAt at r → (b : Bool) → b ≡ utf8 (take (e - a) (drop a s))
-      → (if b then says (spec.Content a e) e else says (spec.Refused 6 at) at) ≡ spelled at (drop at s) r
+      → (if b then says (spec.Content a e) e else says (spec.Refused notUtf8 at) at) ≡ spelled at (drop at s) r
   unfolding spanAt spelled moved
   text-told (Took m n) {a} {e} q b u =
       let x : a ≡ at + m = cc in
@@ -132,10 +133,10 @@ module _ (s : List ℕ) (at level : ℕ) where
   unfolding innerOf
   shut-gated k e = record { moves = sym e; inner = rw e refl; ordered = omega arith; inside = omega arith }
 
-  pub deep-gated : 100 ≤ level → Gated s at level (shutAt 7 at level)
-  deep-gated h = shut-gated 7 (enter-too-deep s at level h)
+  pub deep-gated : mostLevels ≤ level → Gated s at level (shutAt tooDeep at level)
+  deep-gated h = shut-gated tooDeep (enter-too-deep s at level h)
 
-  module _ (h : level < 100) where
+  module _ (h : level < mostLevels) where
     entered-as : (r : Read) → r ≡ content varint64 (drop at s) → enterAt s at level ≡ bounded at r
     entered-as r e = enter-content s at level h ∙ ap (bounded at) (sym e)
 

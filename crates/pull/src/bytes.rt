@@ -5,7 +5,17 @@ ghost use Prim.Native.Nat.{_+_, _*_, _^_, _<_, _≤_};
 ghost use lib.ListN.{length, drop};
 ghost use Rattle.spec.specs.Varint.{varint};
 ghost use Rattle.wire.specs.Answers.{asRead};
+use spec::refusals;
 use wire::found::Found;
+
+// Of a varint32, and of a varint64: the most bytes after which another stands, and the largest byte after so many.
+pub(crate) const MORE_OF_32: usize = 4;
+
+pub(crate) const LAST_OF_32: u64 = 15;
+
+pub(crate) const MORE_OF_64: usize = 9;
+
+pub(crate) const LAST_OF_64: u64 = 1;
 
 // At most `more` bytes behind which another stands, and one of at most `last`: a byte a turn, up to the end of the slice.
 pub(crate) fn by_bytes(s: &[u8], at: usize, more: usize, last: u64) -> Found
@@ -18,7 +28,7 @@ pub(crate) fn by_bytes(s: &[u8], at: usize, more: usize, last: u64) -> Found
     let mut scale: u64 = 1;
     while n < more {
         if size <= n {
-            return Found::Refused(1);
+            return Found::Refused(refusals::ENDS_EARLY);
         }
         let b = s[at + n] as u64;
         value += b % 128 * scale;
@@ -30,11 +40,11 @@ pub(crate) fn by_bytes(s: &[u8], at: usize, more: usize, last: u64) -> Found
         scale *= 128;
     }
     if size <= n {
-        return Found::Refused(1);
+        return Found::Refused(refusals::ENDS_EARLY);
     }
     let b = s[at + n] as u64;
     if last < b {
-        return Found::Refused(2);
+        return Found::Refused(refusals::BAD_VARINT);
     }
     let high = b * scale;
     let whole = value + high;

@@ -13,6 +13,11 @@ use crate::step::Moved;
 use crate::step::Said;
 use crate::step::gate_at;
 use crate::step::step_at;
+use spec::limits;
+use spec::refusals;
+
+// The most bytes that are read, as a length.
+const LIMIT: usize = limits::LIMIT as usize;
 
 pub struct Reader<'a> {
     pub s: &'a [u8],
@@ -20,7 +25,7 @@ pub struct Reader<'a> {
     pub level: u32,
 }
 
-// A reader, or refusal 11 and a reader over no bytes.
+// A reader, or the refusal of too many bytes and a reader over no bytes.
 pub struct Opened<'a> {
     pub number: u32,
     pub reader: Reader<'a>,
@@ -41,12 +46,12 @@ pub struct Entered<'a> {
 
 // ---- what the walks call
 
-// 11 for more bytes than may be read, else 0.
+// The refusal of more bytes than may be read, else 0.
 fn open_number(s: &[u8]) -> u32
     ensures { λ r. ⌜ r ≡ openNumber (now (s .entry)) ⌝ }
 {
-    if 0x7fff_ffff < s.len() {
-        return 11;
+    if LIMIT < s.len() {
+        return refusals::TOO_LARGE;
     }
     0
 }
@@ -55,7 +60,7 @@ fn open_number(s: &[u8]) -> u32
 fn first_part<'a>(s: &'a [u8]) -> &'a [u8]
     ensures { λ r. ⌜ now r ≡ firstPart (now (s .entry)) ⌝ }
 {
-    if 0x7fff_ffff < s.len() {
+    if LIMIT < s.len() {
         return &s[0..0];
     }
     s

@@ -14,6 +14,8 @@ use crate::value::sint_found;
 use crate::value::span_at;
 use crate::wide::wide_found;
 use skip::unknown_or_group::skip_field_for_tag;
+use spec::limits;
+use spec::refusals;
 use utf8::is_utf8;
 use wire::fixed::decode_fixed32;
 use wire::fixed::decode_fixed64;
@@ -175,7 +177,7 @@ pub fn string_at(s: &[u8], at: usize) -> Moved
     match span_at(s, at, true) {
         Span::Of { start, end } => {
             if !is_utf8(&s[start..end]) {
-                return refused(6, at);
+                return refused(refusals::NOT_UTF8, at);
             }
             Moved {
                 said: Said::Content { start, end },
@@ -265,8 +267,8 @@ fn shut(number: u32, at: usize, level: u32) -> Gate
 pub(crate) fn gate_at(s: &[u8], at: usize, level: u32) -> Gate
     ensures { λ r. ⌜ Gated (now (s .entry)) at level r ⌝ }
 {
-    if 100 <= level {
-        return shut(7, at, level);
+    if limits::MOST_LEVELS <= level {
+        return shut(refusals::TOO_DEEP, at, level);
     }
     match span_at(s, at, false) {
         Span::Of { start, end } => Gate {

@@ -9,12 +9,20 @@ ghost use Rattle.spec.specs.Skip.{content};
 ghost use Rattle.wire.specs.Answers.{asRead};
 ghost use Rattle.wire.specs.Reached.{varintOf};
 ghost use Rattle.pull.specs.Told.{spanAt};
+use crate::bytes::LAST_OF_32;
+use crate::bytes::MORE_OF_32;
 use crate::bytes::by_bytes;
 use crate::wide::wide_found;
+use spec::refusals;
 use wire::fixed::decode_fixed32;
 use wire::fixed::extend32;
 use wire::found::Found;
 use wire::zigzag::unzigzag;
+
+// The least number beyond the positive int32, and the pattern of the least int32.
+const BEYOND_INT32: u64 = 0x8000_0000;
+
+const LEAST_INT32: u64 = 0xffff_ffff_8000_0000;
 
 // ---- numbers
 
@@ -23,7 +31,7 @@ pub(crate) fn narrow_found(s: &[u8], at: usize) -> Found
     ensures { λ r. ⌜ asRead at r ≡ varint32 (drop at (now (s .entry))) ⌝ }
 {
     if s.len() <= at {
-        return Found::Refused(1);
+        return Found::Refused(refusals::ENDS_EARLY);
     }
     let c = s[at] as u64;
     if c < 128 {
@@ -38,7 +46,7 @@ pub(crate) fn narrow_found(s: &[u8], at: usize) -> Found
             return Found::Value { value: v, next };
         }
     }
-    by_bytes(s, at, 4, 15)
+    by_bytes(s, at, MORE_OF_32, LAST_OF_32)
 }
 
 // A varint of either width, for what is read at both.
@@ -57,13 +65,13 @@ pub(crate) fn int32_found(s: &[u8], at: usize) -> Found
 {
     match wide_found(s, at) {
         Found::Value { value, next } => {
-            if value < 0x8000_0000 {
+            if value < BEYOND_INT32 {
                 return Found::Value { value, next };
             }
-            if 0xffff_ffff_8000_0000 <= value {
+            if LEAST_INT32 <= value {
                 return Found::Value { value, next };
             }
-            Found::Refused(5)
+            Found::Refused(refusals::OUT_OF_RANGE)
         }
         Found::Refused(k) => Found::Refused(k),
     }
@@ -123,7 +131,7 @@ pub(crate) fn span_at(s: &[u8], at: usize, narrow: bool) -> Span
     match varint_found(s, at, narrow) {
         Found::Value { value, next } => {
             if ((s.len() - next) as u64) < value {
-                return Span::Bad(1);
+                return Span::Bad(refusals::ENDS_EARLY);
             }
             let end = next + value as usize;
             Span::Of { start: next, end }

@@ -1,6 +1,6 @@
 -- The turns of a reader's loop, in plain values. Where a loop is says `Further`: what was to be emitted is what the rest emits from here. Here
 -- stands how each end and each turn follows from that. Assumes nothing.
-use Prim.Native.Nat.{ℕ, _+_, _-_, _≤_, _<_, min}
+use Prim.Native.Nat.{ℕ, _+_, _-_, _^_, _≤_, _<_, min}
 use native.Mathlib.Omega.{arith}
 use native.Mathlib.Nat.{add-zero}
 use mathlib.Core.Path.{_≡_, refl, sym, ap, _∙_, subst}
@@ -9,6 +9,7 @@ use mathlib.Core.List.{List, [], _∷_}
 use lib.ListN.{length, drop, length-drop, drop-of-length-le}
 use lib.Seq.{drop-drop}
 use borrow.Author.Tests.{lt-ltb}
+use Rattle.spec.specs.Names.{noRoom}
 use Rattle.spec.specs.Base.{Read, Took, No, meaning, require}
 use Rattle.spec.specs.Varint.{unzigzag}
 use Rattle.spec.specs.Kind.{Scalar, int32, uint32, uint64, bool, sint32, sint64, fixed32, sfixed32, fixed64, Shape, one, other, shape, isScalar, scalar}
@@ -47,7 +48,7 @@ module _ {most : ℕ} {todo : ℕ → Reading} {room₀ : List ℕ} {from b : �
   unfolding emit
   stops e = sym (h .same ∙ ap (emit room to) e)
 
-  pub full : {r : Record} {q : Reading} → todo at ≡ (r then q) → length room - to < stride → left (Stop 8 to (r .tag)) room ≡ emit room₀ b (todo from)
+  pub full : {r : Record} {q : Reading} → todo at ≡ (r then q) → length room - to < stride → left (Stop noRoom to (r .tag)) room ≡ emit room₀ b (todo from)
   full {r} {q} e l = sym (h .same ∙ ap (emit room to) e ∙ emit-full room to r q (omega (arith, h .fits)))
 
   -- a record is stored
@@ -135,7 +136,7 @@ no-elements (other x) d m kind t at s room to i h = refl
 -- a short varint is the value that it means
 short-one : (c : Scalar) (s : List ℕ) (v n w : ℕ) → Shortly s (short.Of v n) → meantAs c v ≡ meant.Is w → scalar c s ≡ Took w n
 unfolding scalar meantAs meaning require
-short-one int32 s v n w (is-short f l) e = let same : v ≡ w = cc in rw (f 6 1, lt-ltb v (2147483648) (omega arith), same)
+short-one int32 s v n w (is-short f l) e = let same : v ≡ w = cc in rw (f 6 1, lt-ltb v (2 ^ 31) (omega arith), same)
 short-one uint32 s v n w (is-short f l) e = let same : v ≡ w = cc in rw (f 1 15, same)
 short-one uint64 s v n w (is-short f l) e = let same : v ≡ w = cc in rw (f 6 1, same)
 short-one bool s v n w (is-short f l) e = let same : min 1 v ≡ w = cc in rw (f 6 1, same)
@@ -205,7 +206,7 @@ module _ (depth number kind tag : ℕ) {p : List ℕ} {off : ℕ} {room₀ : Lis
     pub element-refused : {k : ℕ} → isScalar (shape kind) ≡ true → r ≡ found.Refused k → left (Stop k to tag) room ≡ all
     element-refused i is = from-first (stops (h .further) (element-bad p off depth number kind tag lt i (sym e ∙ ap (asRead at) is)))
 
-    pub element-full : {v next : ℕ} → r ≡ found.Value v next → length room - to < stride → left (Stop 8 to tag) room ≡ all
+    pub element-full : {v next : ℕ} → r ≡ found.Value v next → length room - to < stride → left (Stop noRoom to tag) room ≡ all
     element-full is l = from-first (full (h .further) (found-here p off depth number kind tag lt is e) l)
 
     pub element-within : {v next : ℕ} → r ≡ found.Value v next → (at < next) × (next ≤ length p)

@@ -5,6 +5,7 @@ use mathlib.Core.Path.{_≡_}
 use mathlib.Core.List.{List}
 use lib.ListN.{length, set}
 use lib.Dec.{leb}
+use Rattle.spec.specs.Names.{kindColumn, noRoom, numberColumn, startColumn, stopColumn, valueColumn}
 use Rattle.spec.specs.Base.{if_then_else_}
 use Rattle.spec.specs.Record.{Record, stride}
 use Rattle.spec.specs.Reading.{Reading, Done, Refused, _then_}
@@ -18,7 +19,7 @@ pub data Left : Type 0 where
 -- the room with the record r at its number b
 abbrev pub placed : List ℕ → ℕ → Record → List ℕ
 placed room b r =
-    set (set (set (set (set (set room b (r .depth)) (b + 1) (r .number)) (b + 2) (r .kind)) (b + 3) (r .value)) (b + 4) (r .start)) (b + 5) (r .stop)
+    set (set (set (set (set (set room b (r .depth)) (b + numberColumn) (r .number)) (b + kindColumn) (r .kind)) (b + valueColumn) (r .value)) (b + startColumn) (r .start)) (b + stopColumn) (r .stop)
 
 -- with b numbers of the room in use
 unfoldable pub emit : List ℕ → ℕ → Reading → Left
@@ -26,7 +27,7 @@ emit room b Done = left (Go b) room
 emit room b (Refused k p) = left (Stop k b p) room
 emit room b (r then q) =
     let more = emit (placed room b r) (b + stride) q in
-    if leb (b + stride) (length room) then more else left (Stop 8 b (r .tag)) room
+    if leb (b + stride) (length room) then more else left (Stop noRoom b (r .tag)) room
 
 -- A part of the work is done, up to the place `at` of `most`: what was to be emitted before is what is to be emitted now, where `todo` is what
 -- there is to do from a place on.

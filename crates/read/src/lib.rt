@@ -17,7 +17,14 @@ mod scalar;
 use crate::message::message;
 use crate::room::Step;
 use schema::Verdict;
+use schema::layout;
 use schema::tables;
+use spec::columns;
+use spec::limits;
+use spec::refusals;
+
+// The most bytes that are read, as a length.
+const LIMIT: usize = limits::LIMIT as usize;
 
 // What a reading comes to: the refusal's number, 0 for none; how many records stand in the room; the place of the refusal.
 pub struct Answer {
@@ -32,7 +39,7 @@ fn counted(number: u32, to: usize, place: usize) -> Answer
 {
     Answer {
         number,
-        count: to / 6,
+        count: to / columns::STRIDE,
         place,
     }
 }
@@ -47,15 +54,20 @@ fn answered(step: Step) -> Answer
 }
 
 // Reads the message `s` under the tables of a schema, which a caller with many messages makes once. Any arrays are tables.
-pub fn read_prepared(keys: &[u64; 256], info: &[u8; 1024], s: &[u8], room: &mut [u64]) -> Answer
+pub fn read_prepared(
+    keys: &[u64; layout::KEYS],
+    info: &[u8; layout::INFO],
+    s: &[u8],
+    room: &mut [u64],
+) -> Answer
     ensures { λ r. ⌜ (r .number ≡ number (readingBy (tableSays (now (keys .entry)) (now (info .entry))) (length (now (room .entry)) / stride) (now (s .entry))))
         × (r .place ≡ place (readingBy (tableSays (now (keys .entry)) (now (info .entry))) (length (now (room .entry)) / stride) (now (s .entry))))
         × (r .count ≡ length (listed (readingBy (tableSays (now (keys .entry)) (now (info .entry))) (length (now (room .entry)) / stride) (now (s .entry)))))
         × (now (room .exit) ≡ roomAfter (readingBy (tableSays (now (keys .entry)) (now (info .entry))) (length (now (room .entry)) / stride) (now (s .entry))) (now (room .entry))) ⌝ }
 {
-    if 0x7fff_ffff < s.len() {
+    if LIMIT < s.len() {
         return Answer {
-            number: 11,
+            number: refusals::TOO_LARGE,
             count: 0,
             place: 0,
         };
@@ -70,18 +82,18 @@ pub fn read(types: u32, numbers: &[u32], s: &[u8], room: &mut [u64]) -> Answer
         × (r .count ≡ length (listed (reading (schemaOf types (now (numbers .entry))) (length (now (room .entry)) / stride) (now (s .entry)))))
         × (now (room .exit) ≡ roomAfter (reading (schemaOf types (now (numbers .entry))) (length (now (room .entry)) / stride) (now (s .entry))) (now (room .entry))) ⌝ }
 {
-    if 0x7fff_ffff < s.len() {
+    if LIMIT < s.len() {
         return Answer {
-            number: 11,
+            number: refusals::TOO_LARGE,
             count: 0,
             place: 0,
         };
     }
-    let mut keys: [u64; 256] = [0xffff_ffff_ffff_ffff; 256];
-    let mut info: [u8; 1024] = [0; 1024];
+    let mut keys: [u64; layout::KEYS] = [layout::NO_KEY; layout::KEYS];
+    let mut info: [u8; layout::INFO] = [0; layout::INFO];
     match tables(types, numbers, &mut keys, &mut info) {
         Verdict::Bad(i) => Answer {
-            number: 9,
+            number: refusals::INVALID_SCHEMA,
             count: 0,
             place: i,
         },

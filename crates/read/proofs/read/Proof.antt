@@ -4,6 +4,7 @@ use native.Mathlib.Omega.{arith}
 use mathlib.Core.Path.{sym, ap, _∙_}
 use borrow.Author.Needs.{needs}
 use lib.ListN.{length}
+use Rattle.spec.specs.Names.{invalidSchema, tooLarge}
 use Rattle.spec.specs.Record.{stride}
 use Rattle.spec.specs.Schema.{schemaOf}
 use Rattle.spec.specs.Reading.{Reading, number, place, listed, roomAfter}
@@ -13,13 +14,13 @@ use Rattle.read.proofs.read.Statement.{statement}
 use Rattle.read.proofs.read.Tie as tie
 
 returns : tie.Need-returns
-returns c = answers-refused _ 11 0 _ (reading-long _ _ _ (c .if1 .taken))
+returns c = answers-refused _ tooLarge 0 _ (reading-long _ _ _ (c .if1 .taken))
 
 returns-2 : tie.Need-returns-2
 returns-2 c =
     let i = c .before in
     let t = i .before .before in
-    answers-refused _ 9 _ _ (reading-bad _ _ _ (t .before .before .before .if1 .left) (sym (t .tables .ensures .0) ∙ ap badPlace (i .i .given .1)))
+    answers-refused _ invalidSchema _ _ (reading-bad _ _ _ (t .before .before .before .if1 .left) (sym (t .tables .ensures .0) ∙ ap badPlace (i .i .given .1)))
 
 returns-3 : tie.Need-returns-3
 returns-3 c =

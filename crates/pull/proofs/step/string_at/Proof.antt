@@ -5,6 +5,7 @@ use mathlib.Core.Path.{_≡_, sym, ap, _∙_}
 use mathlib.Core.Bool.{true}
 use borrow.Author.Tests.{not-true, not-false}
 use lib.ListN.{length, drop}
+use Rattle.spec.specs.Names.{notUtf8}
 use Rattle.spec.specs.Base.{if_then_else_}
 use Rattle.spec.specs.Varint.{varint32}
 use Rattle.spec.specs.Skip.{content}
@@ -32,7 +33,7 @@ inside c = let a = c .before .before .before .before .before .args in span-in tr
 text : (c : tie.After-is-utf8) →
     let s = c .before .before .before in
     let a = s .before .before .before .before .args in
-    (if c .is-utf8 .result then says (Content (s .start .given .0 .0) (s .start .given .0 .1 .0)) (s .start .given .0 .1 .0) else says (Refused 6 (a .at)) (a .at))
+    (if c .is-utf8 .result then says (Content (s .start .given .0 .0) (s .start .given .0 .1 .0)) (s .start .given .0 .1 .0) else says (Refused notUtf8 (a .at)) (a .at))
     ≡ spelled (a .at) (drop (a .at) (a .s .now)) (content varint32 (drop (a .at) (a .s .now)))
 text c =
     let t = c .before .before in

@@ -3,6 +3,7 @@ use mathlib.Core.Path.{_≡_, sym, ap, _∙_}
 use lib.ListN.{drop}
 use borrow.Author.Tests.{ne-eqb}
 use borrow.Author.Needs.{needs}
+use Rattle.spec.specs.Names.{groupEnd, groupStart}
 use Rattle.spec.specs.Kind.{shape, shapes}
 use Rattle.wire.specs.Answers.{asRead}
 use Rattle.read.specs.Answers.{bodied}
@@ -24,7 +25,7 @@ number : (c : tie.After-scalar-at) → sortOf (shape (c .before .before .before 
 number c =
     let start = c .before .before .before in
     let k = start .args .kind in
-    sort-kind k ∙ rw (start .pre .1, ne-eqb k 25 (c .before .match .rest .0 .1), ne-eqb k 26 (c .before .match .rest .1))
+    sort-kind k ∙ rw (start .pre .1, ne-eqb k groupStart (c .before .match .rest .0 .1), ne-eqb k groupEnd (c .before .match .rest .1))
 
 returns-3 : tie.Need-returns-3
 returns-3 c =

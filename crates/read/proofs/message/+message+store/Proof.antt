@@ -5,6 +5,7 @@ use native.Mathlib.Omega.{arith}
 use mathlib.Core.Path.{sym, _∙_}
 use borrow.Author.Needs.{needs}
 use lib.ListN.{length}
+use Rattle.spec.specs.Names.{deepest}
 use Rattle.spec.specs.Reading.{read}
 use Rattle.schema.specs.Tables.{tableSays}
 use mathlib.Core.Logic.{inl, inr}
@@ -29,10 +30,10 @@ use Rattle.read.proofs.message.+message+store.{statement}
 use Rattle.read.proofs.message.+message+store.Tie.{close}
 
 abbrev μ-message : Measures 4 message-kinds.ps ℕ
-μ-message κs a = 2 * (101 - a .1 .1 .1 .1 .1 .0) + 1
+μ-message κs a = 2 * (deepest - a .1 .1 .1 .1 .1 .0) + 1
 
 abbrev μ-store : Measures 4 store-kinds.ps ℕ
-μ-store κs a = 2 * (101 - a .1 .1 .1 .1 .1 .0)
+μ-store κs a = 2 * (deepest - a .1 .1 .1 .1 .1 .0)
 
 abbrev message-at : ℕ → In 4 message-kinds.ps
 message-at t = and 4 message-kinds.ps (is 4 message-kinds.ps μ-message t) message.Pre

@@ -1,4 +1,4 @@
--- `read::room::put` meets its contract: the six stores are the definition's. Assumes nothing.
+-- `read::room::put` meets its contract: its stores are those of the definition, column by column. Assumes nothing.
 use native.Mathlib.Omega.{arith}
 use lib.ListN.{length-set}
 use borrow.Author.Needs.{needs}
