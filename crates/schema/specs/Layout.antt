@@ -1,9 +1,5 @@
 -- How the two tables of a schema are laid out: names for the numbers of specs/Tables. The code has the same names in capitals (src/layout).
-<<<<<<< HEAD
 --     keys[e]                   entry e: `ownerUnit` times its owner, plus 8 times its number, plus its wire type; unused ones are `noKey`
-=======
---     keys[e]                   entry e: `ownerUnit` times its owner, plus 8 times its number, plus its wire type; unused ones are the largest number
->>>>>>> h3
 --     info[guesses * t + n]     a guess at the entry of type t and number n below `guesses`; keys says whether it is right
 --     info[kindsAt + e]         the kind of entry e
 --     info[innersAt + e]        its child type, or `mayPack`
@@ -25,13 +21,10 @@ notFound = keyCount
 abbrev pub ownerUnit : ℕ
 ownerUnit = 4294967296
 
-<<<<<<< HEAD
 -- the key at a place that no entry has, which no tag of a message has: 2 ^ 64 - 1
 abbrev pub noKey : ℕ
 noKey = 18446744073709551615
 
-=======
->>>>>>> h3
 -- ---- info
 
 -- how many guesses a message type has: one for each field number below this

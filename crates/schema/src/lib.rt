@@ -29,17 +29,18 @@ use spec::columns::ENTRY_NUMBER;
 use spec::columns::ENTRY_REPEATED;
 use spec::columns::ENTRY_STRIDE;
 use spec::kinds;
+use spec::kinds32;
 use spec::limits::LARGEST_NUMBER;
 use spec::limits::MOST_TYPES;
 use spec::wire_types;
 use wire::wire_format;
 
 // Kinds as numbers of an entry: those that are tested, and the last of descriptor.proto.
-const ENTRY_GROUP: u32 = kinds::GROUP as u32;
+const ENTRY_GROUP: u32 = kinds32::GROUP;
 
-const ENTRY_MESSAGE: u32 = kinds::MESSAGE as u32;
+const ENTRY_MESSAGE: u32 = kinds32::MESSAGE;
 
-const LAST_KIND: u32 = kinds::SINT64 as u32;
+const LAST_KIND: u32 = kinds32::SINT64;
 
 // Kinds as bytes of the tables.
 const MESSAGE: u8 = kinds::MESSAGE as u8;
