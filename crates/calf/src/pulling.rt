@@ -10,8 +10,6 @@ use spec::kinds32;
 use spec::limits;
 use spec::refusals;
 
-const LIMIT: usize = limits::LIMIT as usize;
-
 // No schema has a group: its number asks for a skip.
 const SKIP: u32 = kinds32::GROUP;
 
@@ -29,7 +27,7 @@ const REFUSED: u64 = 3;
 pub extern "C" fn calf_pull_open(s: &[u8]) -> u32
     ensures { λ r. ⌜ r ≡ opened (now (s .entry)) .number ⌝ }
 {
-    if LIMIT < s.len() {
+    if limits::MOST_BYTES < s.len() {
         return refusals::TOO_LARGE;
     }
     0

@@ -43,13 +43,6 @@ const TYPES: u8 = limits::MOST_TYPES as u8;
 // How many numbers two records have.
 const TWO_RECORDS: usize = 2 * STRIDE;
 
-// Values of 32 signed bits are below the first of these, or from the second on: the patterns of negative numbers. Those of 32 bits are below the third.
-const POSITIVE32_END: u64 = 0x8000_0000;
-
-const LEAST_NEGATIVE32: u64 = 0xffff_ffff_8000_0000;
-
-const UNSIGNED32_END: u64 = 0x1_0000_0000;
-
 // Whether a record's number and kind are what reading would give, and then its kind's wire type, and the type of a message's fields or the kind
 // of a packed field's elements.
 pub(crate) enum Asked {
@@ -183,14 +176,14 @@ pub(crate) fn value_fits(kind: u64, v: u64) -> bool
     if kind == kinds::BOOL {
         return false;
     }
-    if v < POSITIVE32_END {
+    if v < limits::BEYOND_INT32 {
         return true;
     }
     if is_signed32(kind) {
-        return LEAST_NEGATIVE32 <= v;
+        return limits::LEAST_INT32 <= v;
     }
     if is_unsigned32(kind) {
-        return v < UNSIGNED32_END;
+        return v < limits::BEYOND_UINT32;
     }
     true
 }

@@ -8,15 +8,6 @@ ghost use Rattle.wire.specs.Answers.{asRead};
 use spec::refusals;
 use wire::found::Found;
 
-// Of a varint32, and of a varint64: the most bytes after which another stands, and the largest byte after so many.
-pub(crate) const MORE_OF_32: usize = 4;
-
-pub(crate) const LAST_OF_32: u64 = 15;
-
-pub(crate) const MORE_OF_64: usize = 9;
-
-pub(crate) const LAST_OF_64: u64 = 1;
-
 // At most `more` bytes behind which another stands, and one of at most `last`: a byte a turn, up to the end of the slice.
 pub(crate) fn by_bytes(s: &[u8], at: usize, more: usize, last: u64) -> Found
     requires { ⌜ (128 ^ more < 2 ^ 64) × ((last + 1) * 128 ^ more ≤ 2 ^ 64) × (at < length (now s)) ⌝ }

@@ -16,9 +16,6 @@ use crate::step::step_at;
 use spec::limits;
 use spec::refusals;
 
-// The most bytes that are read, as a length.
-const LIMIT: usize = limits::LIMIT as usize;
-
 pub struct Reader<'a> {
     pub s: &'a [u8],
     pub at: usize,
@@ -50,7 +47,7 @@ pub struct Entered<'a> {
 fn open_number(s: &[u8]) -> u32
     ensures { λ r. ⌜ r ≡ openNumber (now (s .entry)) ⌝ }
 {
-    if LIMIT < s.len() {
+    if limits::MOST_BYTES < s.len() {
         return refusals::TOO_LARGE;
     }
     0
@@ -60,7 +57,7 @@ fn open_number(s: &[u8]) -> u32
 fn first_part<'a>(s: &'a [u8]) -> &'a [u8]
     ensures { λ r. ⌜ now r ≡ firstPart (now (s .entry)) ⌝ }
 {
-    if LIMIT < s.len() {
+    if limits::MOST_BYTES < s.len() {
         return &s[0..0];
     }
     s

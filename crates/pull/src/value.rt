@@ -9,20 +9,16 @@ ghost use Rattle.spec.specs.Skip.{content};
 ghost use Rattle.wire.specs.Answers.{asRead};
 ghost use Rattle.wire.specs.Reached.{varintOf};
 ghost use Rattle.pull.specs.Told.{spanAt};
-use crate::bytes::LAST_OF_32;
-use crate::bytes::MORE_OF_32;
 use crate::bytes::by_bytes;
 use crate::wide::wide_found;
+use spec::limits;
 use spec::refusals;
 use wire::fixed::decode_fixed32;
 use wire::fixed::extend32;
 use wire::found::Found;
+use wire::varint::LAST_OF_32;
+use wire::varint::MORE_OF_32;
 use wire::zigzag::unzigzag;
-
-// The least number beyond the positive int32, and the pattern of the least int32.
-const BEYOND_INT32: u64 = 0x8000_0000;
-
-const LEAST_INT32: u64 = 0xffff_ffff_8000_0000;
 
 // ---- numbers
 
@@ -65,10 +61,10 @@ pub(crate) fn int32_found(s: &[u8], at: usize) -> Found
 {
     match wide_found(s, at) {
         Found::Value { value, next } => {
-            if value < BEYOND_INT32 {
+            if value < limits::BEYOND_INT32 {
                 return Found::Value { value, next };
             }
-            if LEAST_INT32 <= value {
+            if limits::LEAST_INT32 <= value {
                 return Found::Value { value, next };
             }
             Found::Refused(refusals::OUT_OF_RANGE)

@@ -5,14 +5,12 @@ ghost use lib.ListN.{length, getD, drop};
 ghost use Rattle.spec.specs.Varint.{varint64};
 ghost use Rattle.wire.specs.Answers.{asRead};
 ghost use Rattle.wire.specs.Reached.{Reached};
-use crate::bytes::LAST_OF_64;
-use crate::bytes::MORE_OF_64;
 use crate::bytes::by_bytes;
 use spec::refusals;
 use wire::found::Found;
-
-// The most bytes of a varint64.
-const LONGEST: usize = MORE_OF_64 + 1;
+use wire::varint::LAST_OF_64;
+use wire::varint::LONGEST;
+use wire::varint::MORE_OF_64;
 
 // What the bytes of a varint count from the third on: the second counts 128, and each 128 times as much as the one before it.
 const THIRD: u64 = 128 * 128;

@@ -23,9 +23,6 @@ use spec::columns;
 use spec::limits;
 use spec::refusals;
 
-// The most bytes that are read, as a length.
-const LIMIT: usize = limits::LIMIT as usize;
-
 // What a reading comes to: the refusal's number, 0 for none; how many records stand in the room; the place of the refusal.
 pub struct Answer {
     pub number: u32,
@@ -65,7 +62,7 @@ pub fn read_prepared(
         × (r .count ≡ length (listed (readingBy (tableSays (now (keys .entry)) (now (info .entry))) (length (now (room .entry)) / stride) (now (s .entry)))))
         × (now (room .exit) ≡ roomAfter (readingBy (tableSays (now (keys .entry)) (now (info .entry))) (length (now (room .entry)) / stride) (now (s .entry))) (now (room .entry))) ⌝ }
 {
-    if LIMIT < s.len() {
+    if limits::MOST_BYTES < s.len() {
         return Answer {
             number: refusals::TOO_LARGE,
             count: 0,
@@ -82,7 +79,7 @@ pub fn read(types: u32, numbers: &[u32], s: &[u8], room: &mut [u64]) -> Answer
         × (r .count ≡ length (listed (reading (schemaOf types (now (numbers .entry))) (length (now (room .entry)) / stride) (now (s .entry)))))
         × (now (room .exit) ≡ roomAfter (reading (schemaOf types (now (numbers .entry))) (length (now (room .entry)) / stride) (now (s .entry))) (now (room .entry))) ⌝ }
 {
-    if LIMIT < s.len() {
+    if limits::MOST_BYTES < s.len() {
         return Answer {
             number: refusals::TOO_LARGE,
             count: 0,

@@ -10,6 +10,7 @@ ghost use Rattle.wire.specs.Answers.{asRead};
 ghost use Rattle.wire.specs.Reached.{varintOf};
 ghost use Rattle.read.specs.Answers.{scalarOf, meantBy, isInt, mustFit32, isVarint32, inRange, intBy, sizeOf, Shortly};
 use spec::kinds;
+use spec::limits;
 use spec::refusals;
 use wire::fixed::decode_fixed32;
 use wire::fixed::decode_fixed64;
@@ -24,11 +25,6 @@ const THIRD: u64 = 128 * 128;
 
 // The first number after the kinds of descriptor.proto.
 const OWN_KINDS: u64 = kinds::OWN_KINDS as u64;
-
-// The least number beyond the positive int32, and the pattern of the least int32.
-const BEYOND_INT32: u64 = 0x8000_0000;
-
-const LEAST_INT32: u64 = 0xffff_ffff_8000_0000;
 
 // ---- a byte as a number, and as a place among 256
 
@@ -148,10 +144,10 @@ fn in_range(kind: u64, v: u64) -> bool
     if !must_fit_32(kind) {
         return true;
     }
-    if v < BEYOND_INT32 {
+    if v < limits::BEYOND_INT32 {
         return true;
     }
-    LEAST_INT32 <= v
+    limits::LEAST_INT32 <= v
 }
 
 // Whether a value of a kind is a varint32: uint32 and sint32.

@@ -3,7 +3,6 @@ ghost use mathlib.Core.Path.{_≡_};
 ghost use mathlib.Core.List.{[]};
 ghost use lib.ListN.{length};
 ghost use Rattle.spec.specs.Document.{isRun, isDocument};
-use crate::LIMIT;
 use crate::field::Past;
 use crate::field::past_plain;
 use crate::field::quick_value;
@@ -63,7 +62,7 @@ fn is_run(s: &[u8]) -> bool
 pub fn is_document(s: &[u8]) -> bool
     ensures { λ r. ⌜ r ≡ isDocument (now (s .entry)) ⌝ }
 {
-    if LIMIT < s.len() {
+    if limits::MOST_BYTES < s.len() {
         return false;
     }
     is_run(s)

@@ -6,7 +6,6 @@ ghost use Rattle.spec.specs.Base.{refusal, taken};
 ghost use Rattle.spec.specs.Skip.{skipField, skipGroup, innerGroup, outerGroup, skipFieldForTag, readUnknownOrSkipGroup};
 ghost use Rattle.skip.specs.Passed.{past, behind, atEnd};
 ghost use Rattle.skip.specs.Checked.{Checked};
-use crate::LIMIT;
 use crate::field::Past;
 use crate::field::past_plain;
 use crate::field::quick_value;
@@ -107,7 +106,7 @@ fn used_of(p: Past) -> Skipped
 fn checked(tag: u32, s: &[u8]) -> u32
     ensures { λ r. ⌜ Checked tag (now (s .entry)) r ⌝ }
 {
-    if LIMIT < s.len() {
+    if limits::MOST_BYTES < s.len() {
         return refusals::TOO_LARGE;
     }
     if FIXED32 < tag % 8 {
