@@ -386,11 +386,11 @@ records-drop (suc n) ns =
     let empty : ns ≡ [] = drop-of-length-le ns {i = 0} (omega arith) in
     rw (empty, records-nil, drop-nil (suc n), drop-nil (stride * suc n), records-nil) refl))
     (λ l.
-    let six : stride + stride * n ≡ stride * suc n = omega arith in
-    ap (drop (suc n)) (records-cons ns l) ∙ records-drop n (drop stride ns) ∙ ap recordsOf (drop-drop (stride * n) stride ns ∙ ap (λ (k : ℕ). drop k ns) six))
+    let one-more : stride + stride * n ≡ stride * suc n = omega arith in
+    ap (drop (suc n)) (records-cons ns l) ∙ records-drop n (drop stride ns) ∙ ap recordsOf (drop-drop (stride * n) stride ns ∙ ap (λ (k : ℕ). drop k ns) one-more))
 
--- six numbers make a record, and so does a rest of fewer
-pub records-count : (k : ℕ) (ns : List ℕ) → length ns ≤ k → (length ns ≤ stride * length (recordsOf ns)) × (stride * length (recordsOf ns) ≤ length ns + 5)
+-- as many numbers as the stride says make a record, and so does a rest of fewer
+pub records-count : (k : ℕ) (ns : List ℕ) → length ns ≤ k → (length ns ≤ stride * length (recordsOf ns)) × (stride * length (recordsOf ns) < length ns + stride)
 records-count zero ns h =
     let empty : ns ≡ [] = drop-of-length-le ns {i = 0} (omega arith) in
     rw (empty, records-nil) (omega arith, omega arith)

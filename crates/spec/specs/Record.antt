@@ -6,7 +6,7 @@ use lib.Dec.{ltb}
 use Rattle.spec.specs.Base.{if_then_else_}
 use Rattle.spec.specs.Names.{depthColumn, numberColumn, kindColumn, valueColumn, startColumn, stopColumn}
 
--- the six numbers of a record, and the place of its field's tag, which refusal 8 tells
+-- the numbers of a record, and the place of its field's tag, which refusal 8 tells
 pub record Record : Type 0 where
   pub depth : ℕ
   pub number : ℕ
