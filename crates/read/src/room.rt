@@ -22,7 +22,7 @@ pub struct Spot {
     pub to: usize,
 }
 
-// Stores a record from `to` on, where it has room; the place after it. A column more is stored here, and the definitions of `spec` say the rest.
+// Stores a record from `to` on, where it has room; the place after it. To add a column, change this function, and the definitions of `spec`.
 pub(crate) fn put(
     room: &mut [u64],
     to: usize,
