@@ -8,14 +8,13 @@ use mathlib.Core.Bool.{Bool, true, false}
 use mathlib.Core.List.{List, [], _∷_, _++_, append-assoc}
 use lib.ListN.{length, drop, set, length-set, length-append, length-drop}
 use lib.Seq.{set-append-seam, drop-drop}
-use native.Mathlib.Nat.{suc-add}
 use lib.Dec.{leb}
 use borrow.Author.Tests.{le-leb, lt-leb}
 use Rattle.spec.specs.Names.{noRoom}
 use Rattle.spec.specs.Base.{if_then_else_, filled}
 use Rattle.spec.specs.Record.{Record, stride, numbers, stored}
 use Rattle.spec.specs.Reading.{Reading, Done, Refused, _then_, _followed-by_, within, number, place, listed, roomAfter}
-use Rattle.read.specs.Emit.{Left, left, placed, emit}
+use Rattle.read.specs.Emit.{Left, left, storedFrom, placed, emit}
 use Rattle.read.specs.declared.room.Step.{Step}
 use Rattle.read.specs.declared.room.Step.the-variants.{Go, Stop}
 
@@ -62,31 +61,34 @@ pub emit-full : (room : List ℕ) (b : ℕ) (r : Record) (q : Reading) → lengt
 unfolding emit
 emit-full room b r q h = ap (λ (t : Bool). if t then emit (placed room b r) (b + stride) q else left (Stop noRoom b (r .tag)) room) (lt-leb (b + stride) (length room) h)
 
+stored-length : (xs room : List ℕ) (b i : ℕ) → length (storedFrom room b i xs) ≡ length room
+unfolding storedFrom
+stored-length [] room b i = refl
+stored-length (x ∷ xs) room b i = stored-length xs (set room (b + i) x) b (suc i) ∙ length-set room (b + i) x
+
 pub placed-length : (room : List ℕ) (b : ℕ) (r : Record) → length (placed room b r) ≡ length room
-placed-length room b r = simp length-set
+placed-length room b r = stored-length (numbers r) room b 0
 
 -- ---- the whole call
 
--- a number stored behind the front part `pre` of the room, and a record
-set-behind : (pre l : List ℕ) (i x : ℕ) → set (pre ++ l) (length pre + i) x ≡ pre ++ set l i x
-set-behind [] l i x = ap (λ (k : ℕ). set l k x) (omega arith)
-set-behind (y ∷ pre) l i x =
-    ap (λ (k : ℕ). set (y ∷ (pre ++ l)) k x) (suc-add (length pre) i) ∙ ap (_∷_ y) (set-behind pre l i x)
-
--- The columns of a record are stored one by one: this law and `read::room::put` alone know how many they are.
-placed-behind : (pre : List ℕ) (r : Record) (rest : List ℕ) → stride ≤ length rest → placed (pre ++ rest) (length pre) r ≡ pre ++ (numbers r ++ drop stride rest)
-unfolding numbers
-placed-behind pre r [] h = absurd (omega arith)
-placed-behind pre r (a ∷ []) h = absurd (omega arith)
-placed-behind pre r (a ∷ b ∷ []) h = absurd (omega arith)
-placed-behind pre r (a ∷ b ∷ c ∷ []) h = absurd (omega arith)
-placed-behind pre r (a ∷ b ∷ c ∷ d ∷ []) h = absurd (omega arith)
-placed-behind pre r (a ∷ b ∷ c ∷ d ∷ e ∷ []) h = absurd (omega arith)
-placed-behind pre r (a ∷ b ∷ c ∷ d ∷ e ∷ f ∷ rest) h = simp (set-append-seam, set-behind)
+-- numbers stored after the front part `pre` of the room, and a record
+stored-behind : (xs pre rest : List ℕ) (b i : ℕ) → b + i ≡ length pre → length xs ≤ length rest → storedFrom (pre ++ rest) b i xs ≡ pre ++ (xs ++ drop (length xs) rest)
+unfolding storedFrom
+stored-behind [] pre rest b i e h = refl
+stored-behind (x ∷ xs) pre [] b i e h = absurd (omega arith)
+stored-behind (x ∷ xs) pre (y ∷ rest) b i e h =
+    ap (λ (k : ℕ). storedFrom (set (pre ++ (y ∷ rest)) k x) b (suc i) xs) e
+    ∙ ap (λ (l : List ℕ). storedFrom l b (suc i) xs) (set-append-seam pre y rest x ∙ sym (append-assoc pre (x ∷ []) rest))
+    ∙ stored-behind xs (pre ++ (x ∷ [])) rest b (suc i) (omega (arith, length-append pre (x ∷ []))) (omega arith)
+    ∙ append-assoc pre (x ∷ []) (xs ++ drop (length xs) rest)
 
 numbers-length : (r : Record) → length (numbers r) ≡ stride
 unfolding numbers
 numbers-length r = refl
+
+placed-behind : (pre : List ℕ) (r : Record) (rest : List ℕ) → stride ≤ length rest → placed (pre ++ rest) (length pre) r ≡ pre ++ (numbers r ++ drop stride rest)
+placed-behind pre r rest h =
+    stored-behind (numbers r) pre rest (length pre) 0 (omega arith) (omega (arith, numbers-length r)) ∙ ap (λ (n : ℕ). pre ++ (numbers r ++ drop n rest)) (numbers-length r)
 
 -- how a reading ends, with b numbers before its records
 pub ended : ℕ → Reading → Step

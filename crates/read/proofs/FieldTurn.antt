@@ -15,7 +15,7 @@ use Rattle.spec.specs.Varint.{varint, tag}
 use Rattle.spec.specs.Kind.{Shape, one, other, shape}
 use Rattle.spec.specs.Schema.{Says}
 use Rattle.spec.specs.Skip.{outerGroup}
-use Rattle.spec.specs.Record.{Record, row, stride}
+use Rattle.spec.specs.Record.{Record, row, stride, numbers}
 use Rattle.spec.specs.Reading as spec
 use Rattle.spec.specs.Reading.{Look, Reading, Done, Refused, _then_, _followed-by_, contents, records, read, used}
 use Rattle.spec.proofs.Laws.{chosen, by-test}
@@ -316,6 +316,7 @@ module _ (look : Look) (depth ty : ℕ) {s : List ℕ} {off : ℕ} {room₀ : Li
   pub int-stored : {room′ : List ℕ} {to′ : ℕ} → to + stride ≤ length room
       → room′ ≡ placed room to (row depth (c / 8) k w (off + at + 1) (off + at + 1 + n) 0) → to′ ≡ to + stride
       → Here (read look depth ty) s off room₀ from b room′ (at + (1 + n)) to′
+  unfolding numbers
   int-stored l put next =
       let end : off + at + 1 + n ≡ off + at + (1 + n) = omega arith in
       record {

@@ -13,7 +13,7 @@ use Rattle.spec.specs.Names.{noRoom}
 use Rattle.spec.specs.Base.{Read, Took, No, meaning, require}
 use Rattle.spec.specs.Varint.{unzigzag}
 use Rattle.spec.specs.Kind.{Scalar, int32, uint32, uint64, bool, sint32, sint64, fixed32, sfixed32, fixed64, Shape, one, other, shape, isScalar, scalar}
-use Rattle.spec.specs.Record.{Record, row, stride}
+use Rattle.spec.specs.Record.{Record, row, stride, numbers}
 use Rattle.spec.specs.Reading.{Reading, Done, Refused, _then_, element, elements, contents}
 use Rattle.spec.proofs.Laws.{Takes, took, none, takes-scalar}
 use Rattle.spec.proofs.ReadingLaws.{elements-cons}
@@ -215,6 +215,7 @@ module _ (depth number kind tag : ℕ) {p : List ℕ} {off : ℕ} {room₀ : Lis
     pub element-stored : {v next : ℕ} → r ≡ found.Value v next → {room′ : List ℕ} {to′ : ℕ} → to + stride ≤ length room
         → room′ ≡ placed room to (row depth number kind v (off + at) (off + next) 0) → to′ ≡ to + stride
         → Here (contents (shape kind) depth number kind tag) p off room₀ 0 from room′ next to′
+    unfolding numbers
     element-stored is l put next =
         let k = element-within is in
         record { further = stored (h .further) (found-here p off depth number kind tag lt is e) (omega (arith, k .0)) (k .1) l put next }
@@ -232,5 +233,6 @@ module _ (depth number kind tag : ℕ) {p : List ℕ} {off : ℕ} {room₀ : Lis
   pub short-stored : {room′ : List ℕ} {to′ : ℕ} → to + stride ≤ length room
       → room′ ≡ placed room to (row depth number kind w (off + at) (off + (at + n)) 0) → to′ ≡ to + stride
       → Here (contents (shape kind) depth number kind tag) p off room₀ from b room′ (at + n) to′
+  unfolding numbers
   short-stored l put next =
       record { further = stored (h .further) (element-here p off depth number kind tag lt {v = w} {n = n} this) (omega arith) (short-within .1) l put next }

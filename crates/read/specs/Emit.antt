@@ -1,13 +1,13 @@
 -- What a reader does with lent room: each record in turn is stored behind those before it, until one does not fit. Assumes nothing: these are
 -- definitions. That reading from the start of the room leaves what the definition of the call says is a law (proofs/EmitLaws).
-use Prim.Native.Nat.{ℕ, _+_, _≤_}
+use Prim.Native.Nat.{ℕ, suc, _+_, _≤_}
 use mathlib.Core.Path.{_≡_}
-use mathlib.Core.List.{List}
+use mathlib.Core.List.{List, [], _∷_}
 use lib.ListN.{length, set}
 use lib.Dec.{leb}
-use Rattle.spec.specs.Names.{kindColumn, noRoom, numberColumn, startColumn, stopColumn, valueColumn}
+use Rattle.spec.specs.Names.{noRoom}
 use Rattle.spec.specs.Base.{if_then_else_}
-use Rattle.spec.specs.Record.{Record, stride}
+use Rattle.spec.specs.Record.{Record, stride, numbers}
 use Rattle.spec.specs.Reading.{Reading, Done, Refused, _then_}
 use Rattle.read.specs.declared.room.Step.{Step}
 use Rattle.read.specs.declared.room.Step.the-variants.{Go, Stop}
@@ -16,10 +16,14 @@ use Rattle.read.specs.declared.room.Step.the-variants.{Go, Stop}
 pub data Left : Type 0 where
   left : Step → List ℕ → Left
 
+-- the room with the numbers xs stored from its number b + i on
+unfoldable pub storedFrom : List ℕ → (b i : ℕ) → List ℕ → List ℕ
+storedFrom room b i [] = room
+storedFrom room b i (x ∷ xs) = storedFrom (set room (b + i) x) b (suc i) xs
+
 -- the room with the record r at its number b
 abbrev pub placed : List ℕ → ℕ → Record → List ℕ
-placed room b r =
-    set (set (set (set (set (set room b (r .depth)) (b + numberColumn) (r .number)) (b + kindColumn) (r .kind)) (b + valueColumn) (r .value)) (b + startColumn) (r .start)) (b + stopColumn) (r .stop)
+placed room b r = storedFrom room b 0 (numbers r)
 
 -- with b numbers of the room in use
 unfoldable pub emit : List ℕ → ℕ → Reading → Left

@@ -72,7 +72,7 @@ pub fn read_prepared(
     answered(message(keys, info, s, 0, 0, 0, room, 0))
 }
 
-// Reads the message `s` under a schema of five numbers an entry.
+// Reads the message `s` under a schema whose entries are lent as numbers, one entry after the other.
 pub fn read(types: u32, numbers: &[u32], s: &[u8], room: &mut [u64]) -> Answer
     ensures { λ r. ⌜ (r .number ≡ number (reading (schemaOf types (now (numbers .entry))) (length (now (room .entry)) / stride) (now (s .entry))))
         × (r .place ≡ place (reading (schemaOf types (now (numbers .entry))) (length (now (room .entry)) / stride) (now (s .entry))))

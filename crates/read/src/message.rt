@@ -34,7 +34,7 @@ enum Kind {
     Other,
 }
 
-// The kind of the field whose tag is the one byte c, of wire type 0. Number 0 is asked for last: no table of a schema has a key for it.
+// The kind of the field whose tag is the one byte c, of the wire type of varints. Number 0 is asked for last: no table of a schema has a key for it.
 fn int_kind(keys: &[u64; layout::KEYS], info: &[u8; layout::INFO], c: u8, ty: u32) -> Kind
     requires { ⌜ ty < mostTypes ⌝ }
     ensures { λ r. ⌜ Tells (tableSays (now (keys .entry)) (now (info .entry)) ty) c r ⌝ }

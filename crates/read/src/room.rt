@@ -22,7 +22,7 @@ pub struct Spot {
     pub to: usize,
 }
 
-// Stores a record from `to` on, where it has room; the place behind it.
+// Stores a record from `to` on, where it has room; the place after it. To add a column, change this function, and the definitions of `spec`.
 pub(crate) fn put(
     room: &mut [u64],
     to: usize,
