@@ -1,17 +1,21 @@
 // A schema word, and the verbs of the schema alone.
 ghost use Prim.Native.Nat.{_≤_};
 ghost use lib.ListN.{length};
-use crate::told::one;
+use crate::answers::Answer;
+use crate::answers::NONE;
+use crate::answers::OK;
+use crate::answers::REFUSED_ENTRY;
+use crate::answers::one;
+use crate::answers::word;
+use crate::answers::word_one;
 use crate::words::NOWHERE;
 use crate::words::digits;
-use crate::words::done;
 use crate::words::groups;
-use crate::words::number32;
 use crate::words::past;
-use printing::put_decimal;
-use printing::put_text;
 use schema::Place;
 use schema::Verdict;
+use spec::columns::ENTRY_REPEATED;
+use spec::columns::ENTRY_STRIDE;
 
 // A schema: its type count, how many numbers its entries are, and where the word ends.
 pub struct SchemaWord {
@@ -47,7 +51,7 @@ pub fn schema_word(line: &[u8], at: usize, list: &mut [u64], numbers: &mut [u32]
         next: NOWHERE,
     };
     let t = digits(line, at, 0xffff_ffff);
-    let g = groups(line, past(line, t.next, b'|'), 5, b';', list);
+    let g = groups(line, past(line, t.next, b'|'), ENTRY_STRIDE, b';', list);
     let count = g.count;
     if g.next == NOWHERE {
         return nothing;
@@ -69,30 +73,16 @@ pub fn schema_word(line: &[u8], at: usize, list: &mut [u64], numbers: &mut [u32]
 }
 
 // `schema SCHEMA`: `ok` or `refused 9 at I`.
-pub fn schema(
-    line: &[u8],
-    at: usize,
-    list: &mut [u64],
-    numbers: &mut [u32],
-    out: &mut [u8],
-) -> usize {
-    let s = schema_word(line, at, list, numbers);
-    if !done(line, s.next) {
-        return 0;
-    }
-    let count = s.count;
-    match schema::check(s.types, &numbers[0..count]) {
-        Verdict::Valid => put_text(b"ok", 0, out),
-        Verdict::Bad(i) => {
-            let to = put_text(b"refused 9 at ", 0, out);
-            put_decimal(i as u64, to, out)
-        }
+pub fn schema(types: u32, numbers: &[u32]) -> Answer {
+    match schema::check(types, numbers) {
+        Verdict::Valid => word(OK),
+        Verdict::Bad(i) => word_one(REFUSED_ENTRY, i as u64),
     }
 }
 
 // The number at place i, where `repeated` is at most 1: an entry has only yes or no there.
 fn clipped(i: usize, v: u32) -> u32 {
-    if i % 5 == 3 {
+    if i % ENTRY_STRIDE == ENTRY_REPEATED {
         if 1 < v {
             return 1;
         }
@@ -111,22 +101,9 @@ fn find_entry(numbers: &mut [u32], owner: u32, number: u32) -> Place {
 }
 
 // `lookup SCHEMA OWNER NUMBER`: the entry's index or `none`.
-pub fn lookup(
-    line: &[u8],
-    at: usize,
-    list: &mut [u64],
-    numbers: &mut [u32],
-    out: &mut [u8],
-) -> usize {
-    let s = schema_word(line, at, list, numbers);
-    let o = number32(line, s.next);
-    let n = number32(line, o.next);
-    if !done(line, n.next) {
-        return 0;
-    }
-    let count = s.count;
-    match find_entry(&mut numbers[0..count], o.value, n.value) {
-        Place::At(i) => one(i as u64, out),
-        Place::Nothing => put_text(b"none", 0, out),
+pub fn lookup(numbers: &mut [u32], owner: u32, number: u32) -> Answer {
+    match find_entry(numbers, owner, number) {
+        Place::At(i) => one(i as u64),
+        Place::Nothing => word(NONE),
     }
 }

@@ -295,3 +295,15 @@ pub fn name_in(names: &[u8], line: &[u8], at: usize) -> Many {
         next: NOWHERE,
     }
 }
+
+// Where a word ends.
+pub fn word_end(line: &[u8], at: usize) -> usize {
+    let mut i = at;
+    while i < line.len() {
+        if line[i] == b' ' {
+            return i;
+        }
+        i += 1;
+    }
+    i
+}
