@@ -127,30 +127,28 @@ fn put_word(word: usize, out: &mut [u8]) -> usize {
     }
 }
 
-// A number, after a space where it is not the first of the text.
-fn put_number(n: u64, at: usize, out: &mut [u8]) -> usize {
-    if at == 0 {
-        return put_decimal(n, 0, out);
+// A number where there is one, after a space where it is not the first of the text.
+fn put_number(is: bool, n: u64, at: usize, out: &mut [u8]) -> usize {
+    if is {
+        return put_decimal(n, put_space(at, out), out);
     }
-    let to = put_byte(b' ', at, out);
-    put_decimal(n, to, out)
+    at
+}
+
+// A space, but not at the beginning.
+fn put_space(at: usize, out: &mut [u8]) -> usize {
+    if at == 0 {
+        return at;
+    }
+    put_byte(b' ', at, out)
 }
 
 // The text of an answer: how many characters it has, 0 where the line is no case.
 pub fn put_answer(r: Answer, out: &mut [u8]) -> usize {
     let said = put_word(r.word, out);
-    if r.count == 0 {
-        return said;
-    }
-    let first = put_number(r.a, said, out);
-    if r.count == 1 {
-        return first;
-    }
-    let second = put_number(r.b, first, out);
-    if r.count == 2 {
-        return second;
-    }
-    put_number(r.c, second, out)
+    let first = put_number(0 < r.count, r.a, said, out);
+    let second = put_number(1 < r.count, r.b, first, out);
+    put_number(2 < r.count, r.c, second, out)
 }
 
 // What follows an answer whose watched room has changed where it should not.

@@ -55,6 +55,7 @@ fn plain(verb: usize, c: Case, s: &[u8], list: &[u64], numbers: &[u32]) -> Answe
     match verb {
         verbs::PACKEDSIZE => sizings::packedsize(c.first, c.second, list),
         verbs::SCHEMA => schemas::schema(c.types, numbers),
+        verbs::LOOKUP => schemas::lookup(numbers, c.first, c.second),
         verbs::SIZE => writings::size(c.types, numbers, list, s),
         _ => bad(),
     }
@@ -86,16 +87,22 @@ fn answer_to(
     line: &[u8],
     s: &[u8],
     list: &mut [u64],
-    numbers: &mut [u32],
+    numbers: &[u32],
     out: &mut [u8],
 ) -> usize {
     match verb {
         verbs::ENCODE => leaves::encode(c.wide, out),
-        verbs::LOOKUP => put_answer(schemas::lookup(numbers, c.first, c.second), out),
         verbs::READ => readings::read(c.types, numbers, s, c.first, list, out),
         verbs::RECORDS => readings::records(c.types, numbers, s, list, out),
         verbs::PULL => pulls::pull(c.first, line, c.steps, s, out),
         _ => with_list(verb, c, s, list, numbers, out),
+    }
+}
+
+// Where an entry is looked up, whatever `repeated` says is taken.
+fn clip_for(verb: usize, numbers: &mut [u32]) {
+    if verb == verbs::LOOKUP {
+        schemas::clip(numbers);
     }
 }
 
@@ -113,6 +120,7 @@ fn answer(
     if !done(line, c.next) {
         return 0;
     }
+    clip_for(v.count, numbers);
     let size = c.size;
     let entries = c.entries;
     answer_to(
@@ -121,7 +129,7 @@ fn answer(
         line,
         &bytes[0..size],
         list,
-        &mut numbers[0..entries],
+        &numbers[0..entries],
         out,
     )
 }
@@ -139,19 +147,16 @@ fn ended(answered: usize, out: &mut [u8]) -> usize {
 fn line_in<'a>(buf: &'a [u8], l: Line) -> &'a [u8] {
     let start = l.start;
     let end = l.end;
-    if l.long {
-        return &buf[0..0];
+    if !l.long {
+        if start <= end {
+            if end <= buf.len() {
+                if end - start <= LONGEST {
+                    return &buf[start..end];
+                }
+            }
+        }
     }
-    if end < start {
-        return &buf[0..0];
-    }
-    if buf.len() < end {
-        return &buf[0..0];
-    }
-    if LONGEST < end - start {
-        return &buf[0..0];
-    }
-    &buf[start..end]
+    &buf[0..0]
 }
 
 // Answers the line that stands in the buffer.

@@ -205,29 +205,26 @@ fn above(
     let start = top.start;
     let end = top.end;
     let below = top.below;
-    if READERS <= below {
-        return top;
+    if below < READERS {
+        if start <= end {
+            if stop <= end - start {
+                if from <= stop {
+                    let k = below * KEPT;
+                    stack[k] = start;
+                    stack[k + 1] = end;
+                    stack[k + 2] = pos;
+                    return Top {
+                        start: start + from,
+                        end: start + stop,
+                        at: 0,
+                        level,
+                        below: below + 1,
+                    };
+                }
+            }
+        }
     }
-    if end < start {
-        return top;
-    }
-    if end - start < stop {
-        return top;
-    }
-    if stop < from {
-        return top;
-    }
-    let k = below * KEPT;
-    stack[k] = start;
-    stack[k + 1] = end;
-    stack[k + 2] = pos;
-    Top {
-        start: start + from,
-        end: start + stop,
-        at: 0,
-        level,
-        below: below + 1,
-    }
+    top
 }
 
 // `enter`: a refused one puts no reader on top.
@@ -254,26 +251,24 @@ fn enter(bytes: &[u8], top: Top, stack: &mut [usize; STACK]) -> Gone {
 fn under(top: Top, stack: &[usize; STACK]) -> Top {
     let below = top.below;
     let level = top.level;
-    if below == 0 {
-        return top;
+    if 0 < below {
+        if below <= READERS {
+            if 0 < level {
+                let k = (below - 1) * KEPT;
+                let start = stack[k];
+                let end = stack[k + 1];
+                let pos = stack[k + 2];
+                return Top {
+                    start,
+                    end,
+                    at: pos,
+                    level: level - 1,
+                    below: below - 1,
+                };
+            }
+        }
     }
-    if READERS < below {
-        return top;
-    }
-    if level == 0 {
-        return top;
-    }
-    let k = (below - 1) * KEPT;
-    let start = stack[k];
-    let end = stack[k + 1];
-    let pos = stack[k + 2];
-    Top {
-        start,
-        end,
-        at: pos,
-        level: level - 1,
-        below: below - 1,
-    }
+    top
 }
 
 // What leaving a reader with so many below it comes to.

@@ -9,6 +9,7 @@ use crate::answers::one;
 use crate::answers::word;
 use crate::answers::word_one;
 use crate::words::NOWHERE;
+use crate::words::as_narrow;
 use crate::words::digits;
 use crate::words::groups;
 use crate::words::past;
@@ -41,35 +42,31 @@ fn narrowed(list: &[u64], numbers: &mut [u32]) -> bool {
     true
 }
 
+// The entries' numbers are narrowed; none where that cannot be.
+fn entries_word(types: u32, list: &[u64], next: usize, numbers: &mut [u32]) -> SchemaWord
+    ensures { λ r. ⌜ r .count ≤ length (now (numbers .exit)) ⌝ }
+{
+    let count = list.len();
+    if count <= numbers.len() {
+        if narrowed(list, numbers) {
+            return SchemaWord { types, count, next };
+        }
+    }
+    SchemaWord {
+        types: 0,
+        count: 0,
+        next: NOWHERE,
+    }
+}
+
 // `T|o,n,k,r,c;...`: the entries' numbers are stored from the front on.
 pub fn schema_word(line: &[u8], at: usize, list: &mut [u64], numbers: &mut [u32]) -> SchemaWord
     ensures { λ r. ⌜ r .count ≤ length (now (numbers .exit)) ⌝ }
 {
-    let nothing = SchemaWord {
-        types: 0,
-        count: 0,
-        next: NOWHERE,
-    };
-    let t = digits(line, at, 0xffff_ffff);
+    let t = as_narrow(digits(line, at, 0xffff_ffff));
     let g = groups(line, past(line, t.next, b'|'), ENTRY_STRIDE, b';', list);
     let count = g.count;
-    if g.next == NOWHERE {
-        return nothing;
-    }
-    if numbers.len() < count {
-        return nothing;
-    }
-    if !narrowed(&list[0..count], numbers) {
-        return nothing;
-    }
-    if 0xffff_ffff < t.value {
-        return nothing;
-    }
-    SchemaWord {
-        types: t.value as u32,
-        count,
-        next: g.next,
-    }
+    entries_word(t.value, &list[0..count], g.next, numbers)
 }
 
 // `schema SCHEMA`: `ok` or `refused 9 at I`.
@@ -90,19 +87,18 @@ fn clipped(i: usize, v: u32) -> u32 {
     v
 }
 
-// Looks up an entry of these numbers, whatever `repeated` says: it is not asked for.
-fn find_entry(numbers: &mut [u32], owner: u32, number: u32) -> Place {
+// Makes `repeated` at most 1 in each entry, for a look-up, which does not ask for it.
+pub fn clip(numbers: &mut [u32]) {
     let mut i: usize = 0;
     while i < numbers.len() {
         numbers[i] = clipped(i, numbers[i]);
         i += 1;
     }
-    entries::lookup_numbers(numbers, owner, number)
 }
 
 // `lookup SCHEMA OWNER NUMBER`: the entry's index or `none`.
-pub fn lookup(numbers: &mut [u32], owner: u32, number: u32) -> Answer {
-    match find_entry(numbers, owner, number) {
+pub fn lookup(numbers: &[u32], owner: u32, number: u32) -> Answer {
+    match entries::lookup_numbers(numbers, owner, number) {
         Place::At(i) => one(i as u64),
         Place::Nothing => word(NONE),
     }

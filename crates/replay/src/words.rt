@@ -1,9 +1,9 @@
-// The words of a line. Each function begins at a position and returns the position behind the word and the space, or the line's end, that ends it.
+// The words of a line. Each function begins at a position and returns the position after the word and the space, or the line's end, that ends it.
 // Where the word is none, the position is `NOWHERE`, at which no further word is found: so a verb parses its words in a row and asks once, by `done`.
 ghost use Prim.Native.Nat.{_≤_};
 ghost use lib.ListN.{length};
 
-// Behind every line.
+// After every line.
 pub const NOWHERE: usize = 0xffff_ffff_ffff_ffff;
 
 // A number, and where it ends.
@@ -18,7 +18,7 @@ pub struct Many {
     pub next: usize,
 }
 
-// Behind the byte `b`, where it stands here; a space stands at the line's end too.
+// After the byte `b`, where it stands here; a space stands at the line's end too.
 pub fn past(line: &[u8], at: usize, b: u8) -> usize {
     if at < line.len() {
         if line[at] == b {
@@ -98,8 +98,8 @@ pub struct Narrow {
     pub next: usize,
 }
 
-pub fn number32(line: &[u8], at: usize) -> Narrow {
-    let d = number64(line, at);
+// A number as one of 32 bits.
+pub fn as_narrow(d: Number) -> Narrow {
     let value = d.value;
     if value <= 0xffff_ffff {
         return Narrow {
@@ -111,6 +111,10 @@ pub fn number32(line: &[u8], at: usize) -> Narrow {
         value: 0,
         next: NOWHERE,
     }
+}
+
+pub fn number32(line: &[u8], at: usize) -> Narrow {
+    as_narrow(number64(line, at))
 }
 
 // A digit of hexadecimal in lower case; 16 for any other byte.
@@ -175,7 +179,7 @@ pub fn hex(line: &[u8], at: usize, bytes: &mut [u8]) -> Many
     }
 }
 
-// Behind the separator of a list: `,` within a group, and `between` behind one.
+// After the separator of a list: `,` within a group, and `between` after one.
 fn separated(line: &[u8], at: usize, left: usize, between: u8) -> usize {
     if left < 2 {
         past(line, at, between)
@@ -263,7 +267,7 @@ fn named(names: &[u8], i: usize, line: &[u8], at: usize) -> usize {
     p
 }
 
-// Behind the name that stands at `i`, and the space behind it.
+// After the name that stands at `i`, and the space after it.
 fn name_end(names: &[u8], i: usize) -> usize {
     let mut k = i;
     while k < names.len() {
