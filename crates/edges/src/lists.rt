@@ -10,15 +10,23 @@ use list::Verdict;
 use printing::put_byte;
 use printing::put_hex;
 use printing::put_text;
+use spec::columns::STRIDE;
+
+// Where a list begins to tell: after a record, within the second, and after two.
+const ONE: usize = STRIDE;
+
+const WITHIN_SECOND: usize = STRIDE + 1;
+
+const TWO: usize = 2 * STRIDE;
 
 // Two fields of int32.
-pub const PLAIN: [u64; 12] = [0, 1, 5, 150, 0, 0, 0, 1, 5, 7, 0, 0];
+pub const PLAIN: [u64; 2 * STRIDE] = [0, 1, 5, 150, 0, 0, 0, 1, 5, 7, 0, 0];
 
 // A message head, and a field of it.
-const MESSAGE: [u64; 12] = [0, 3, 11, 0, 0, 0, 1, 1, 13, 5, 0, 0];
+const MESSAGE: [u64; 2 * STRIDE] = [0, 3, 11, 0, 0, 0, 1, 1, 13, 5, 0, 0];
 
 // An int32, a packed head, and two elements of it.
-const PACKED: [u64; 24] = [
+const PACKED: [u64; 4 * STRIDE] = [
     0,
     1,
     5,
@@ -46,10 +54,10 @@ const PACKED: [u64; 24] = [
 ];
 
 // An int32, a string of the payload's first byte, and another int32.
-const STRING: [u64; 18] = [0, 1, 5, 150, 0, 0, 0, 2, 9, 0, 0, 1, 0, 1, 5, 7, 0, 0];
+const STRING: [u64; 3 * STRIDE] = [0, 1, 5, 150, 0, 0, 0, 2, 9, 0, 0, 1, 0, 1, 5, 7, 0, 0];
 
 // Two packed heads, and an element of the second.
-const HEADS: [u64; 18] = [0, 4, 20, 0, 0, 0, 0, 4, 20, 0, 0, 0, 1, 4, 17, 1, 0, 0];
+const HEADS: [u64; 3 * STRIDE] = [0, 4, 20, 0, 0, 0, 0, 4, 20, 0, 0, 0, 1, 4, 17, 1, 0, 0];
 
 // A payload that is no UTF-8.
 const PAYLOAD: [u8; 1] = [0xff];
@@ -161,14 +169,14 @@ fn list_lines(name: &[u8], list: &[u64], from: usize, at: usize, out: &mut [u8])
 // A rest is the fault, or the packed head right before it.
 fn rests(at: usize, out: &mut [u8]) -> usize {
     let plain = list_lines(b"plain", &PLAIN, 0, at, out);
-    let message = list_lines(b"message", &MESSAGE, 6, plain, out);
-    list_lines(b"packed", &PACKED, 12, message, out)
+    let message = list_lines(b"message", &MESSAGE, ONE, plain, out);
+    list_lines(b"packed", &PACKED, TWO, message, out)
 }
 
 // A fault before the rest comes first.
 fn faults(at: usize, out: &mut [u8]) -> usize {
-    let string = list_lines(b"string", &STRING, 7, at, out);
-    list_lines(b"heads", &HEADS, 12, string, out)
+    let string = list_lines(b"string", &STRING, WITHIN_SECOND, at, out);
+    list_lines(b"heads", &HEADS, TWO, string, out)
 }
 
 // Each list from where it begins to tell.

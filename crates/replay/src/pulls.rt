@@ -14,7 +14,41 @@ use pull::step::Moved;
 use pull::step::Said;
 use spec::limits::MOST_LEVELS;
 
-// The steps that are not asked for alone, by their place in the list of names: `skip` is followed by `:TAG`.
+// The steps, by their place in the list of names: `skip` is followed by `:TAG`.
+const AT_TAG: usize = 0;
+
+const AT_DOUBLE: usize = 1;
+
+const AT_FLOAT: usize = 2;
+
+const AT_INT64: usize = 3;
+
+const AT_UINT64: usize = 4;
+
+const AT_INT32: usize = 5;
+
+const AT_FIXED64: usize = 6;
+
+const AT_FIXED32: usize = 7;
+
+const AT_BOOL: usize = 8;
+
+const AT_STRING: usize = 9;
+
+const AT_BYTES: usize = 10;
+
+const AT_UINT32: usize = 11;
+
+const AT_ENUM: usize = 12;
+
+const AT_SFIXED32: usize = 13;
+
+const AT_SFIXED64: usize = 14;
+
+const AT_SINT32: usize = 15;
+
+const AT_SINT64: usize = 16;
+
 const AT_SKIP: usize = 17;
 
 const AT_ENTER: usize = 18;
@@ -102,23 +136,23 @@ fn step_word(line: &[u8], at: usize) -> Named {
 // What the reader is asked for.
 fn ask_of(which: usize, tag: u32) -> Ask {
     match which {
-        0 => Ask::RawTag,
-        1 => Ask::Double,
-        2 => Ask::Float,
-        3 => Ask::Int64,
-        4 => Ask::Uint64,
-        5 => Ask::Int32,
-        6 => Ask::Fixed64,
-        7 => Ask::Fixed32,
-        8 => Ask::Bool,
-        9 => Ask::String,
-        10 => Ask::Bytes,
-        11 => Ask::Uint32,
-        12 => Ask::Enum,
-        13 => Ask::Sfixed32,
-        14 => Ask::Sfixed64,
-        15 => Ask::Sint32,
-        16 => Ask::Sint64,
+        AT_TAG => Ask::RawTag,
+        AT_DOUBLE => Ask::Double,
+        AT_FLOAT => Ask::Float,
+        AT_INT64 => Ask::Int64,
+        AT_UINT64 => Ask::Uint64,
+        AT_INT32 => Ask::Int32,
+        AT_FIXED64 => Ask::Fixed64,
+        AT_FIXED32 => Ask::Fixed32,
+        AT_BOOL => Ask::Bool,
+        AT_STRING => Ask::String,
+        AT_BYTES => Ask::Bytes,
+        AT_UINT32 => Ask::Uint32,
+        AT_ENUM => Ask::Enum,
+        AT_SFIXED32 => Ask::Sfixed32,
+        AT_SFIXED64 => Ask::Sfixed64,
+        AT_SINT32 => Ask::Sint32,
+        AT_SINT64 => Ask::Sint64,
         _ => Ask::Skip(tag),
     }
 }

@@ -16,7 +16,7 @@ const PATTERN: u64 = 0xa5c3_5a3c_a5c3_5a3c;
 const MOST: u32 = 4096;
 
 // How many numbers more are watched after them.
-const BEHIND: usize = 12;
+const WATCHED: usize = 2 * STRIDE;
 
 // How many numbers the room of the listing has: 1,024 records, as the program `records` lends.
 const LISTED: usize = 1024 * STRIDE;
@@ -109,7 +109,7 @@ pub fn read(
         return 0;
     }
     let n = most as usize * STRIDE;
-    let end = n + BEHIND;
+    let end = n + WATCHED;
     if room.len() < end {
         return 0;
     }

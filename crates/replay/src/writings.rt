@@ -14,8 +14,10 @@ const PATTERN: u8 = 0xa5;
 // The most bytes of output that a line may name.
 const MOST: u64 = 65536;
 
-// The output: the most bytes, and 64 more that are watched after them.
-const OUTPUT: usize = MOST as usize + 64;
+// How many bytes more are watched after them.
+const WATCHED: usize = 64;
+
+const OUTPUT: usize = MOST as usize + WATCHED;
 
 // Whether a byte of a part is not the pattern.
 fn changed(part: &[u8]) -> bool {
@@ -91,20 +93,6 @@ fn put_writing(r: Answer, output: &[u8], out: &mut [u8]) -> usize {
     put_output(output, filled(r), to, out)
 }
 
-// Writes into the first `n` bytes of an output that is watched as a whole.
-fn write_watched(
-    types: u32,
-    numbers: &[u32],
-    list: &[u64],
-    payload: &[u8],
-    n: usize,
-    out: &mut [u8],
-) -> usize {
-    let mut output = [PATTERN; OUTPUT];
-    let r = write_into(types, numbers, list, payload, n, &mut output);
-    put_writing(r, &output, out)
-}
-
 // `write SCHEMA RECORDS HEX ROOM`.
 pub fn write(
     types: u32,
@@ -117,5 +105,9 @@ pub fn write(
     if MOST < most {
         return 0;
     }
-    write_watched(types, numbers, list, payload, most as usize, out)
+    let n = most as usize;
+    let end = n + WATCHED;
+    let mut output = [PATTERN; OUTPUT];
+    let r = write_into(types, numbers, list, payload, n, &mut output);
+    put_writing(r, &output[0..end], out)
 }

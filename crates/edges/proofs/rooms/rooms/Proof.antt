@@ -1,8 +1,9 @@
 -- `edges::rooms::rooms` is safe and ends. Assumes nothing.
-use Prim.Native.Nat.{_-_}
+use Prim.Native.Nat.{_+_, _*_, _-_}
 use borrow.Author.Needs.{needs}
 use mathlib.Core.Path.{_≡_}
 use lib.ListN.{length}
+use Rattle.spec.specs.Record.{stride}
 use Rattle.edges.proofs.rooms.rooms.Statement.{statement}
 use Rattle.edges.proofs.rooms.rooms.Tie as tie
 
@@ -10,7 +11,7 @@ abbrev Inv-loop : tie.InvT-loop
 Inv-loop at out₀ to₀ n₀ out to n = length out ≡ length out₀
 
 abbrev μ-loop : tie.MeasureT-loop
-μ-loop at out₀ to₀ n₀ out to n = 14 - n
+μ-loop at out₀ to₀ n₀ out to n = (2 * stride + 2) - n
 
 pub rooms-spec : {M : Type 1} → statement M
 rooms-spec =
