@@ -1,21 +1,32 @@
 // Lists that end within a record: the list check, the size and the writing of each.
+use crate::parts::put_name;
+use crate::parts::put_three;
+use crate::parts::put_two;
+use crate::parts::touched;
 use crate::schemas::ENTRIES;
-use crate::told::put_name;
-use crate::told::put_three;
-use crate::told::put_two;
-use crate::told::touched;
+use crate::schemas::SCHEMA_A;
+use crate::schemas::TYPES;
 use list::Verdict;
+use printing::put_byte;
 use printing::put_hex;
 use printing::put_text;
+use spec::columns::STRIDE;
+
+// Where a list begins to tell: after a record, within the second, and after two.
+const ONE: usize = STRIDE;
+
+const WITHIN_SECOND: usize = STRIDE + 1;
+
+const TWO: usize = 2 * STRIDE;
 
 // Two fields of int32.
-pub const PLAIN: [u64; 12] = [0, 1, 5, 150, 0, 0, 0, 1, 5, 7, 0, 0];
+pub const PLAIN: [u64; 2 * STRIDE] = [0, 1, 5, 150, 0, 0, 0, 1, 5, 7, 0, 0];
 
 // A message head, and a field of it.
-const MESSAGE: [u64; 12] = [0, 3, 11, 0, 0, 0, 1, 1, 13, 5, 0, 0];
+const MESSAGE: [u64; 2 * STRIDE] = [0, 3, 11, 0, 0, 0, 1, 1, 13, 5, 0, 0];
 
 // An int32, a packed head, and two elements of it.
-const PACKED: [u64; 24] = [
+const PACKED: [u64; 4 * STRIDE] = [
     0,
     1,
     5,
@@ -43,10 +54,10 @@ const PACKED: [u64; 24] = [
 ];
 
 // An int32, a string of the payload's first byte, and another int32.
-const STRING: [u64; 18] = [0, 1, 5, 150, 0, 0, 0, 2, 9, 0, 0, 1, 0, 1, 5, 7, 0, 0];
+const STRING: [u64; 3 * STRIDE] = [0, 1, 5, 150, 0, 0, 0, 2, 9, 0, 0, 1, 0, 1, 5, 7, 0, 0];
 
 // Two packed heads, and an element of the second.
-const HEADS: [u64; 18] = [0, 4, 20, 0, 0, 0, 0, 4, 20, 0, 0, 0, 1, 4, 17, 1, 0, 0];
+const HEADS: [u64; 3 * STRIDE] = [0, 4, 20, 0, 0, 0, 0, 4, 20, 0, 0, 0, 1, 4, 17, 1, 0, 0];
 
 // A payload that is no UTF-8.
 const PAYLOAD: [u8; 1] = [0xff];
@@ -54,14 +65,8 @@ const PAYLOAD: [u8; 1] = [0xff];
 // What each byte of the output is where nothing is written.
 const PATTERN: u8 = 0xa5;
 
-// Fills the output.
-fn fill(part: &mut [u8]) {
-    let mut i: usize = 0;
-    while i < part.len() {
-        part[i] = PATTERN;
-        i += 1;
-    }
-}
+// The output of a writing: longer than any of the lists takes.
+const OUTPUT: usize = 64;
 
 // Whether a byte of a part is not the pattern.
 fn changed(part: &[u8]) -> bool {
@@ -104,77 +109,78 @@ fn filled(r: write::Answer) -> usize {
     0
 }
 
+// The bytes, or `-` where there are none.
+fn put_bytes(bytes: &[u8], at: usize, out: &mut [u8]) -> usize {
+    if bytes.len() == 0 {
+        return put_text(b" -", at, out);
+    }
+    let space = put_byte(b' ', at, out);
+    put_hex(bytes, space, out)
+}
+
 // The bytes that were written, and whether others have changed.
 fn put_written(size: usize, output: &[u8], at: usize, out: &mut [u8]) -> usize {
     if output.len() < size {
         return touched(true, at, out);
     }
-    let bad = changed(&output[size..]);
-    if size == 0 {
-        let none = put_text(b" -", at, out);
-        return touched(bad, none, out);
-    }
-    let space = put_text(b" ", at, out);
-    let shown = put_hex(&output[0..size], space, out);
-    touched(bad, shown, out)
+    let shown = put_bytes(&output[0..size], at, out);
+    touched(changed(&output[size..]), shown, out)
 }
 
-// The writing into an output that is filled with the pattern.
-fn put_writing(list: &[u64], output: &mut [u8], at: usize, out: &mut [u8]) -> usize {
-    fill(output);
-    let r = write::write(2, &ENTRIES[0..45], list, &PAYLOAD, output);
+// The answer of the writing into an output that is made of the pattern, and its bytes.
+fn put_writing(list: &[u64], at: usize, out: &mut [u8]) -> usize {
+    let mut output = [PATTERN; OUTPUT];
+    let r = write::write(TYPES, &ENTRIES[0..SCHEMA_A], list, &PAYLOAD, &mut output);
     let told = put_answer(b" | write ", r, at, out);
-    put_written(filled(r), output, told, out)
+    put_written(filled(r), &output, told, out)
 }
 
 // The list check and the size.
 fn put_judged(list: &[u64], at: usize, out: &mut [u8]) -> usize {
-    let a = &ENTRIES[0..45];
-    let checked = put_checked(b"check ", list::check(2, a, list, &PAYLOAD), at, out);
-    put_answer(b" | size ", write::size(2, a, list, &PAYLOAD), checked, out)
+    let a = &ENTRIES[0..SCHEMA_A];
+    let checked = put_checked(b"check ", list::check(TYPES, a, list, &PAYLOAD), at, out);
+    put_answer(
+        b" | size ",
+        write::size(TYPES, a, list, &PAYLOAD),
+        checked,
+        out,
+    )
 }
 
 // A line: what the three calls say of a list.
-fn list_line(name: &[u8], list: &[u64], output: &mut [u8], at: usize, out: &mut [u8]) -> usize {
+fn list_line(name: &[u8], list: &[u64], at: usize, out: &mut [u8]) -> usize {
     let named = put_name(name, list.len(), at, out);
     let judged = put_judged(list, named, out);
-    let written = put_writing(list, output, judged, out);
-    put_text(b"\n", written, out)
+    let written = put_writing(list, judged, out);
+    put_byte(b'\n', written, out)
 }
 
 // The lists of the first `from` numbers, of one more, and so on to all of them.
-fn list_lines(
-    name: &[u8],
-    list: &[u64],
-    from: usize,
-    output: &mut [u8],
-    at: usize,
-    out: &mut [u8],
-) -> usize {
+fn list_lines(name: &[u8], list: &[u64], from: usize, at: usize, out: &mut [u8]) -> usize {
     let mut to = at;
     let mut n = from;
     while n <= list.len() {
-        to = list_line(name, &list[0..n], output, to, out);
+        to = list_line(name, &list[0..n], to, out);
         n += 1;
     }
     to
 }
 
 // A rest is the fault, or the packed head right before it.
-fn rests(output: &mut [u8], at: usize, out: &mut [u8]) -> usize {
-    let plain = list_lines(b"plain", &PLAIN, 0, output, at, out);
-    let message = list_lines(b"message", &MESSAGE, 6, output, plain, out);
-    list_lines(b"packed", &PACKED, 12, output, message, out)
+fn rests(at: usize, out: &mut [u8]) -> usize {
+    let plain = list_lines(b"plain", &PLAIN, 0, at, out);
+    let message = list_lines(b"message", &MESSAGE, ONE, plain, out);
+    list_lines(b"packed", &PACKED, TWO, message, out)
 }
 
 // A fault before the rest comes first.
-fn faults(output: &mut [u8], at: usize, out: &mut [u8]) -> usize {
-    let string = list_lines(b"string", &STRING, 7, output, at, out);
-    list_lines(b"heads", &HEADS, 12, output, string, out)
+fn faults(at: usize, out: &mut [u8]) -> usize {
+    let string = list_lines(b"string", &STRING, WITHIN_SECOND, at, out);
+    list_lines(b"heads", &HEADS, TWO, string, out)
 }
 
 // Each list from where it begins to tell.
-pub fn lists(output: &mut [u8], at: usize, out: &mut [u8]) -> usize {
-    let to = rests(output, at, out);
-    faults(output, to, out)
+pub fn lists(at: usize, out: &mut [u8]) -> usize {
+    let to = rests(at, out);
+    faults(to, out)
 }

@@ -2,16 +2,25 @@
 use crate::lists::PLAIN;
 use crate::lists::put_answer;
 use crate::lists::put_checked;
+use crate::parts::put_name;
+use crate::parts::put_two;
 use crate::rooms::BYTES;
-use crate::rooms::fill;
+use crate::rooms::PATTERN;
+use crate::rooms::ROOM;
 use crate::rooms::put_reading;
-use crate::told::put_name;
-use crate::told::put_two;
-use printing::put_text;
+use printing::put_byte;
 use schema::Verdict;
+use spec::columns::ENTRY_STRIDE;
+use spec::refusals::INVALID_SCHEMA;
+
+// How many message types the schemas have.
+pub const TYPES: u32 = 2;
+
+// How many numbers the entries of schema A are.
+pub const SCHEMA_A: usize = 9 * ENTRY_STRIDE;
 
 // Owner, number, kind, repeated, child of each entry: the nine of schema A, and one more.
-pub const ENTRIES: [u32; 50] = [
+pub const ENTRIES: [u32; 10 * ENTRY_STRIDE] = [
     0,
     1,
     5,
@@ -65,64 +74,62 @@ pub const ENTRIES: [u32; 50] = [
 ];
 
 // The second of three entries says `repeated` 2.
-const TWICE: [u32; 15] = [0, 1, 5, 0, 0, 0, 4, 17, 2, 0, 0, 5, 2, 0, 0];
+const TWICE: [u32; 3 * ENTRY_STRIDE] = [0, 1, 5, 0, 0, 0, 4, 17, 2, 0, 0, 5, 2, 0, 0];
 
 // The schema check: 9 and the bad entry, or twice 0.
 fn put_judged(v: Verdict, at: usize, out: &mut [u8]) -> usize {
     match v {
         Verdict::Valid => put_two(b"check ", 0, 0, at, out),
-        Verdict::Bad(i) => put_two(b"check ", 9, i as u64, at, out),
+        Verdict::Bad(i) => put_two(b"check ", INVALID_SCHEMA as u64, i as u64, at, out),
     }
 }
 
-// The reading into a room that is filled with the pattern.
-fn put_read(numbers: &[u32], room: &mut [u64], at: usize, out: &mut [u8]) -> usize {
-    fill(room);
-    let r = read::read(2, numbers, &BYTES, room);
-    put_reading(b" | read ", r, room, at, out)
+// The reading into a room that is made of the pattern.
+fn put_read(numbers: &[u32], at: usize, out: &mut [u8]) -> usize {
+    let mut room = [PATTERN; ROOM];
+    let r = read::read(TYPES, numbers, &BYTES, &mut room);
+    put_reading(b" | read ", r, &room, at, out)
 }
 
 // The list check and the size of a list of two records.
 fn put_listed(numbers: &[u32], at: usize, out: &mut [u8]) -> usize {
-    let checked = put_checked(b" | list ", list::check(2, numbers, &PLAIN, &[]), at, out);
+    let checked = put_checked(
+        b" | list ",
+        list::check(TYPES, numbers, &PLAIN, &[]),
+        at,
+        out,
+    );
     put_answer(
         b" | size ",
-        write::size(2, numbers, &PLAIN, &[]),
+        write::size(TYPES, numbers, &PLAIN, &[]),
         checked,
         out,
     )
 }
 
 // A line: what the four calls say of a schema.
-fn schema_line(name: &[u8], numbers: &[u32], room: &mut [u64], at: usize, out: &mut [u8]) -> usize {
+fn schema_line(name: &[u8], numbers: &[u32], at: usize, out: &mut [u8]) -> usize {
     let named = put_name(name, numbers.len(), at, out);
-    let judged = put_judged(schema::check(2, numbers), named, out);
-    let told = put_read(numbers, room, judged, out);
+    let judged = put_judged(schema::check(TYPES, numbers), named, out);
+    let told = put_read(numbers, judged, out);
     let listed = put_listed(numbers, told, out);
-    put_text(b"\n", listed, out)
+    put_byte(b'\n', listed, out)
 }
 
 // The schemas of the first `from` numbers, of one more, and so on to all of them.
-fn schema_lines(
-    name: &[u8],
-    numbers: &[u32],
-    from: usize,
-    room: &mut [u64],
-    at: usize,
-    out: &mut [u8],
-) -> usize {
+fn schema_lines(name: &[u8], numbers: &[u32], from: usize, at: usize, out: &mut [u8]) -> usize {
     let mut to = at;
     let mut n = from;
     while n <= numbers.len() {
-        to = schema_line(name, &numbers[0..n], room, to, out);
+        to = schema_line(name, &numbers[0..n], to, out);
         n += 1;
     }
     to
 }
 
-// A rest behind no entry, behind schema A, and before and behind an entry that is bad in itself.
-pub fn schemas(room: &mut [u64], at: usize, out: &mut [u8]) -> usize {
-    let none = schema_lines(b"schema", &ENTRIES[0..5], 0, room, at, out);
-    let a = schema_lines(b"schema", &ENTRIES, 45, room, none, out);
-    schema_lines(b"twice", &TWICE, 5, room, a, out)
+// A rest after no entry, after schema A, and before and after an entry that is bad in itself.
+pub fn schemas(at: usize, out: &mut [u8]) -> usize {
+    let none = schema_lines(b"schema", &ENTRIES[0..ENTRY_STRIDE], 0, at, out);
+    let a = schema_lines(b"schema", &ENTRIES, SCHEMA_A, none, out);
+    schema_lines(b"twice", &TWICE, ENTRY_STRIDE, a, out)
 }

@@ -1,20 +1,47 @@
 // The verbs of sizes: a field, and a packed field.
+use crate::answers::Answer;
+use crate::answers::bad;
+use crate::answers::one;
+use crate::answers::sized;
 use crate::signs::fits32;
 use crate::signs::signed;
 use crate::signs::signed32;
-use crate::told::one;
-use crate::told::put_sized;
-use crate::words::done;
-use crate::words::groups;
-use crate::words::number32;
-use crate::words::number64;
+use spec::kinds;
+
+const DOUBLE: u32 = kinds::DOUBLE as u32;
+
+const FLOAT: u32 = kinds::FLOAT as u32;
+
+const INT64: u32 = kinds::INT64 as u32;
+
+const UINT64: u32 = kinds::UINT64 as u32;
+
+const INT32: u32 = kinds::INT32 as u32;
+
+const FIXED32: u32 = kinds::FIXED32 as u32;
+
+const BOOL: u32 = kinds::BOOL as u32;
+
+const STRING: u32 = kinds::STRING as u32;
+
+const MESSAGE: u32 = kinds::MESSAGE as u32;
+
+const UINT32: u32 = kinds::UINT32 as u32;
+
+const ENUM: u32 = kinds::ENUM as u32;
+
+const SFIXED32: u32 = kinds::SFIXED32 as u32;
+
+const SINT32: u32 = kinds::SINT32 as u32;
+
+const SINT64: u32 = kinds::SINT64 as u32;
 
 // Whether a pattern is a number of 32 bits, signed or not, as far as the kind has that width; bool is 0 or 1.
 fn fits(kind: u32, value: u64) -> bool {
     match kind {
-        2 | 7 | 13 => value <= 0xffff_ffff,
-        5 | 14 | 15 | 17 => fits32(value),
-        8 => value <= 1,
+        FLOAT | FIXED32 | UINT32 => value <= 0xffff_ffff,
+        INT32 | ENUM | SFIXED32 | SINT32 => fits32(value),
+        BOOL => value <= 1,
         _ => true,
     }
 }
@@ -22,33 +49,26 @@ fn fits(kind: u32, value: u64) -> bool {
 // Whether it is a kind that a field of its own has.
 fn is_kind(kind: u32) -> bool {
     match kind {
-        1..=9 | 11..=18 => true,
+        DOUBLE..=STRING | MESSAGE..=SINT64 => true,
         _ => false,
     }
 }
 
 // `fieldsize KIND NUMBER VALUE`: the size of a field with its tag. Where the crate has a function for the kind, ours of that name is run.
-pub fn fieldsize(line: &[u8], at: usize, out: &mut [u8]) -> usize {
-    let k = number32(line, at);
-    let n = number32(line, k.next);
-    let v = number64(line, n.next);
-    if !done(line, v.next) {
-        return 0;
-    }
-    let kind = k.value;
+pub fn fieldsize(kind: u32, number: u32, value: u64) -> Answer {
     if !is_kind(kind) {
-        return 0;
+        return bad();
     }
-    if !fits(kind, v.value) {
-        return 0;
+    if !fits(kind, value) {
+        return bad();
     }
     match kind {
-        3 => one(sizes::int64_size(n.value, signed(v.value)), out),
-        4 => one(sizes::uint64_size(n.value, v.value), out),
-        5 | 14 => one(sizes::int32_size(n.value, signed32(v.value)), out),
-        17 => one(sizes::sint32_size(n.value, signed32(v.value)), out),
-        18 => one(sizes::sint64_size(n.value, signed(v.value)), out),
-        _ => put_sized(sizes::field_size(kind, n.value, v.value), out),
+        INT64 => one(sizes::int64_size(number, signed(value))),
+        UINT64 => one(sizes::uint64_size(number, value)),
+        INT32 | ENUM => one(sizes::int32_size(number, signed32(value))),
+        SINT32 => one(sizes::sint32_size(number, signed32(value))),
+        SINT64 => one(sizes::sint64_size(number, signed(value))),
+        _ => sized(sizes::field_size(kind, number, value)),
     }
 }
 
@@ -67,25 +87,18 @@ fn all_fit(kind: u32, values: &[u64]) -> bool {
 // Whether fields of this kind may be packed.
 fn is_packable(kind: u32) -> bool {
     match kind {
-        1..=8 | 13..=18 => true,
+        DOUBLE..=BOOL | UINT32..=SINT64 => true,
         _ => false,
     }
 }
 
 // `packedsize KIND NUMBER VALUES`: the size of a packed field, or `refused 11`.
-pub fn packedsize(line: &[u8], at: usize, list: &mut [u64], out: &mut [u8]) -> usize {
-    let k = number32(line, at);
-    let n = number32(line, k.next);
-    let g = groups(line, n.next, 1, b',', list);
-    if !done(line, g.next) {
-        return 0;
+pub fn packedsize(kind: u32, number: u32, values: &[u64]) -> Answer {
+    if !is_packable(kind) {
+        return bad();
     }
-    let count = g.count;
-    if !is_packable(k.value) {
-        return 0;
+    if !all_fit(kind, values) {
+        return bad();
     }
-    if !all_fit(k.value, &list[0..count]) {
-        return 0;
-    }
-    put_sized(sizes::packed_size(k.value, n.value, &list[0..count]), out)
+    sized(sizes::packed_size(kind, number, values))
 }

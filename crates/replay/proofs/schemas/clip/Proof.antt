@@ -1,19 +1,19 @@
--- `replay::schemas::find_entry` is safe and ends. Assumes nothing.
+-- `replay::schemas::clip` is safe and ends. Assumes nothing.
 use Prim.Native.Nat.{_-_}
 use borrow.Author.Needs.{needs}
 use mathlib.Core.Path.{_≡_}
 use lib.ListN.{length}
-use Rattle.replay.proofs.schemas.find_entry.Statement.{statement}
-use Rattle.replay.proofs.schemas.find_entry.Tie as tie
+use Rattle.replay.proofs.schemas.clip.Statement.{statement}
+use Rattle.replay.proofs.schemas.clip.Tie as tie
 
 abbrev Inv-loop : tie.InvT-loop
-Inv-loop numbers₀ owner number i₀ numbers i = length numbers ≡ length numbers₀
+Inv-loop numbers₀ i₀ numbers i = length numbers ≡ length numbers₀
 
 abbrev μ-loop : tie.MeasureT-loop
-μ-loop numbers₀ owner number i₀ numbers i = length numbers₀ - i
+μ-loop numbers₀ i₀ numbers i = length numbers₀ - i
 
-pub find-entry-spec : {M : Type 1} → statement M
-find-entry-spec =
+pub clip-spec : {M : Type 1} → statement M
+clip-spec =
     tie.close
     (tie.spec
     Inv-loop
@@ -27,6 +27,5 @@ find-entry-spec =
     (λ c. search needs)
     (λ c. search needs)
     (λ c. search needs)
-    (λ c κs. search needs)
     (λ c. search needs)
     (λ c. search needs))

@@ -1,12 +1,18 @@
-// What lines are made of.
+// What the lines are made of: names, numbers, and whether a buffer has changed where it should not.
+use printing::put_byte;
 use printing::put_decimal;
 use printing::put_text;
+
+// A space and a number.
+fn spaced(n: u64, at: usize, out: &mut [u8]) -> usize {
+    let to = put_byte(b' ', at, out);
+    put_decimal(n, to, out)
+}
 
 // What a line is about, with how many numbers there are.
 pub fn put_name(name: &[u8], n: usize, at: usize, out: &mut [u8]) -> usize {
     let named = put_text(name, at, out);
-    let space = put_text(b" ", named, out);
-    let counted = put_decimal(n as u64, space, out);
+    let counted = spaced(n as u64, named, out);
     put_text(b": ", counted, out)
 }
 
@@ -14,15 +20,13 @@ pub fn put_name(name: &[u8], n: usize, at: usize, out: &mut [u8]) -> usize {
 pub fn put_two(call: &[u8], a: u64, b: u64, at: usize, out: &mut [u8]) -> usize {
     let named = put_text(call, at, out);
     let first = put_decimal(a, named, out);
-    let space = put_text(b" ", first, out);
-    put_decimal(b, space, out)
+    spaced(b, first, out)
 }
 
 // A call's name and three numbers.
 pub fn put_three(call: &[u8], a: u64, b: u64, c: u64, at: usize, out: &mut [u8]) -> usize {
     let two = put_two(call, a, b, at, out);
-    let space = put_text(b" ", two, out);
-    put_decimal(c, space, out)
+    spaced(c, two, out)
 }
 
 // What follows an answer whose buffer has changed where it should not.

@@ -1,9 +1,9 @@
--- `replay::pulls::word_end` is safe and ends. Assumes nothing.
+-- `replay::words::word_end` is safe and ends. Assumes nothing.
 use Prim.Native.Nat.{_-_, _≤_}
 use borrow.Author.Needs.{needs}
 use lib.ListN.{length}
-use Rattle.replay.proofs.pulls.word_end.Statement.{statement}
-use Rattle.replay.proofs.pulls.word_end.Tie as tie
+use Rattle.replay.proofs.words.word_end.Statement.{statement}
+use Rattle.replay.proofs.words.word_end.Tie as tie
 
 abbrev Inv-loop : tie.InvT-loop
 Inv-loop line at i₀ i = at ≤ i
