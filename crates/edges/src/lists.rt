@@ -1,4 +1,4 @@
-// Lists that end within a record: the list check, the size and the writing of each.
+// Lists that end within a record: what the list check, the size and the writing say of each.
 use crate::parts::put_name;
 use crate::parts::put_three;
 use crate::parts::put_two;
@@ -82,7 +82,7 @@ fn changed(part: &[u8]) -> bool {
 }
 
 // The list check's number and index.
-pub fn put_checked(call: &[u8], v: Verdict, at: usize, out: &mut [u8]) -> usize {
+fn put_checked(call: &[u8], v: Verdict, at: usize, out: &mut [u8]) -> usize {
     match v {
         Verdict::Fine => put_two(call, 0, 0, at, out),
         Verdict::Faulty { number, index } => { put_two(call, number as u64, index as u64, at, out) }
@@ -90,7 +90,7 @@ pub fn put_checked(call: &[u8], v: Verdict, at: usize, out: &mut [u8]) -> usize 
 }
 
 // A number, a size and an index.
-pub fn put_answer(call: &[u8], r: write::Answer, at: usize, out: &mut [u8]) -> usize {
+fn put_answer(call: &[u8], r: write::Answer, at: usize, out: &mut [u8]) -> usize {
     put_three(
         call,
         r.number as u64,
@@ -135,13 +135,19 @@ fn put_writing(list: &[u64], at: usize, out: &mut [u8]) -> usize {
     put_written(filled(r), &output, told, out)
 }
 
-// The list check and the size.
-fn put_judged(list: &[u64], at: usize, out: &mut [u8]) -> usize {
-    let a = &ENTRIES[0..SCHEMA_A];
-    let checked = put_checked(b"check ", list::check(TYPES, a, list, &PAYLOAD), at, out);
+// The list check and the size of a list under these entries.
+pub fn put_judged(
+    call: &[u8],
+    numbers: &[u32],
+    list: &[u64],
+    payload: &[u8],
+    at: usize,
+    out: &mut [u8],
+) -> usize {
+    let checked = put_checked(call, list::check(TYPES, numbers, list, payload), at, out);
     put_answer(
         b" | size ",
-        write::size(TYPES, a, list, &PAYLOAD),
+        write::size(TYPES, numbers, list, payload),
         checked,
         out,
     )
@@ -150,7 +156,7 @@ fn put_judged(list: &[u64], at: usize, out: &mut [u8]) -> usize {
 // A line: what the three calls say of a list.
 fn list_line(name: &[u8], list: &[u64], at: usize, out: &mut [u8]) -> usize {
     let named = put_name(name, list.len(), at, out);
-    let judged = put_judged(list, named, out);
+    let judged = put_judged(b"check ", &ENTRIES[0..SCHEMA_A], list, &PAYLOAD, named, out);
     let written = put_writing(list, judged, out);
     put_byte(b'\n', written, out)
 }

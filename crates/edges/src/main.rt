@@ -1,7 +1,8 @@
-// Asks what no case line can say, and prints a line for each: lists, rooms and copied schema numbers that end within a record or an entry. An entry with
-// `repeated` 2 is asked too, since case lines ask all calls but the schema check through lent entries. What must be printed stands in the file stdout,
-// derived by hand from the rules: a rest after whole records is a broken record, 10 at its index, but the fault of a packed head right before it; an
-// earlier fault comes first; room is as many records as fit whole; a rest after whole entries is a wrong entry count, 9 at 0, before any entry is judged.
+// The program that asks what no case line can say, and prints a line for each: lists, rooms and copied schema numbers that end within a record or an
+// entry. An entry with `repeated` 2 is asked too, since case lines ask all calls but the schema check through lent entries. What must be printed stands
+// in the file stdout, derived by hand from the rules: a rest after whole records is a broken record, 10 at its index, but the fault of a packed head
+// right before it; an earlier fault comes first; room is as many records as fit whole; a rest after whole entries is a wrong entry count, 9 at 0, before
+// any entry is judged.
 mod lists;
 mod parts;
 mod rooms;

@@ -1,4 +1,4 @@
-// What the lines are made of: names, numbers, and whether a buffer has changed where it should not.
+// The parts that printed lines are made of: names, numbers, and whether a buffer has changed where it should not.
 use printing::put_byte;
 use printing::put_decimal;
 use printing::put_text;

@@ -1,4 +1,4 @@
-// Readings into rooms of any length: the numbers of each, the records that were stored, and whether anything after them has changed.
+// Readings into rooms of any length: the answer of each, the records that were stored, and whether anything after them has changed.
 use crate::parts::put_name;
 use crate::parts::put_three;
 use crate::parts::touched;
@@ -12,10 +12,10 @@ use read::Answer;
 use spec::columns::STRIDE;
 
 // Two records: the int32 150 and the bool 1.
-pub const BYTES: [u8; 5] = [0x08, 0x96, 0x01, 0x38, 0x01];
+const BYTES: [u8; 5] = [0x08, 0x96, 0x01, 0x38, 0x01];
 
 // What each number of the room is where nothing is stored.
-pub const PATTERN: u64 = 0xa5c3_5a3c_a5c3_5a3c;
+const PATTERN: u64 = 0xa5c3_5a3c_a5c3_5a3c;
 
 // The room: four records.
 pub const ROOM: usize = 4 * STRIDE;
@@ -54,7 +54,7 @@ fn put_room(room: &[u64], end: usize, at: usize, out: &mut [u8]) -> usize {
 }
 
 // Number, count and place, the records that stand in the room, and whether anything after them has changed.
-pub fn put_reading(call: &[u8], r: Answer, room: &[u64], at: usize, out: &mut [u8]) -> usize {
+fn put_reading(call: &[u8], r: Answer, room: &[u64], at: usize, out: &mut [u8]) -> usize {
     let count = r.count;
     let told = put_three(call, r.number as u64, count as u64, r.place as u64, at, out);
     if room.len() / STRIDE < count {
@@ -64,9 +64,9 @@ pub fn put_reading(call: &[u8], r: Answer, room: &[u64], at: usize, out: &mut [u
 }
 
 // Reads into the first `n` numbers of a room.
-fn read_into(n: usize, room: &mut [u64]) -> Answer {
+fn read_into(numbers: &[u32], n: usize, room: &mut [u64]) -> Answer {
     if n <= room.len() {
-        return read::read(TYPES, &ENTRIES[0..SCHEMA_A], &BYTES, &mut room[0..n]);
+        return read::read(TYPES, numbers, &BYTES, &mut room[0..n]);
     }
     Answer {
         number: 0,
@@ -76,16 +76,16 @@ fn read_into(n: usize, room: &mut [u64]) -> Answer {
 }
 
 // The reading into the first `n` numbers of a room that is made of the pattern; all of it is watched.
-fn put_read(n: usize, at: usize, out: &mut [u8]) -> usize {
+pub fn put_read(call: &[u8], numbers: &[u32], n: usize, at: usize, out: &mut [u8]) -> usize {
     let mut room = [PATTERN; ROOM];
-    let r = read_into(n, &mut room);
-    put_reading(b"read ", r, &room, at, out)
+    let r = read_into(numbers, n, &mut room);
+    put_reading(call, r, &room, at, out)
 }
 
 // A line: what reading says of a room.
 fn room_line(n: usize, at: usize, out: &mut [u8]) -> usize {
     let named = put_name(b"room", n, at, out);
-    let told = put_read(n, named, out);
+    let told = put_read(b"read ", &ENTRIES[0..SCHEMA_A], n, named, out);
     put_byte(b'\n', told, out)
 }
 

@@ -1,13 +1,10 @@
 // Copied schema numbers: what the schema check, reading, the list check and the size say of each.
 use crate::lists::PLAIN;
-use crate::lists::put_answer;
-use crate::lists::put_checked;
+use crate::lists::put_judged;
 use crate::parts::put_name;
 use crate::parts::put_two;
-use crate::rooms::BYTES;
-use crate::rooms::PATTERN;
 use crate::rooms::ROOM;
-use crate::rooms::put_reading;
+use crate::rooms::put_read;
 use printing::put_byte;
 use schema::Verdict;
 use spec::columns::ENTRY_STRIDE;
@@ -77,42 +74,19 @@ pub const ENTRIES: [u32; 10 * ENTRY_STRIDE] = [
 const TWICE: [u32; 3 * ENTRY_STRIDE] = [0, 1, 5, 0, 0, 0, 4, 17, 2, 0, 0, 5, 2, 0, 0];
 
 // The schema check: 9 and the bad entry, or twice 0.
-fn put_judged(v: Verdict, at: usize, out: &mut [u8]) -> usize {
+fn put_valid(v: Verdict, at: usize, out: &mut [u8]) -> usize {
     match v {
         Verdict::Valid => put_two(b"check ", 0, 0, at, out),
         Verdict::Bad(i) => put_two(b"check ", INVALID_SCHEMA as u64, i as u64, at, out),
     }
 }
 
-// The reading into a room that is made of the pattern.
-fn put_read(numbers: &[u32], at: usize, out: &mut [u8]) -> usize {
-    let mut room = [PATTERN; ROOM];
-    let r = read::read(TYPES, numbers, &BYTES, &mut room);
-    put_reading(b" | read ", r, &room, at, out)
-}
-
-// The list check and the size of a list of two records.
-fn put_listed(numbers: &[u32], at: usize, out: &mut [u8]) -> usize {
-    let checked = put_checked(
-        b" | list ",
-        list::check(TYPES, numbers, &PLAIN, &[]),
-        at,
-        out,
-    );
-    put_answer(
-        b" | size ",
-        write::size(TYPES, numbers, &PLAIN, &[]),
-        checked,
-        out,
-    )
-}
-
 // A line: what the four calls say of a schema.
 fn schema_line(name: &[u8], numbers: &[u32], at: usize, out: &mut [u8]) -> usize {
     let named = put_name(name, numbers.len(), at, out);
-    let judged = put_judged(schema::check(TYPES, numbers), named, out);
-    let told = put_read(numbers, judged, out);
-    let listed = put_listed(numbers, told, out);
+    let judged = put_valid(schema::check(TYPES, numbers), named, out);
+    let told = put_read(b" | read ", numbers, ROOM, judged, out);
+    let listed = put_judged(b" | list ", numbers, &PLAIN, &[], told, out);
     put_byte(b'\n', listed, out)
 }
 

@@ -1,4 +1,4 @@
-// Prints the records of one message on standard input, read under schema A of the rules: at most 65,536 bytes, and room for 1,024 records.
+// The program that prints the records of one message on standard input, read under schema A of the rules: at most 65,536 bytes, and room for 1,024 records.
 use libc::STDIN_FILENO;
 use libc::STDOUT_FILENO;
 use printing::put_byte;

@@ -1,4 +1,4 @@
-// Answers of a word and up to three numbers, and their text.
+// The answers that most verbs give, a word and up to three numbers, and their text.
 use printing::put_byte;
 use printing::put_decimal;
 use printing::put_text;

@@ -1,4 +1,5 @@
-// A case: the words of a line after its verb, as far as the verb takes them. Numbers are told; bytes, lists and entries are stored from the front on.
+// A case: the words of a line after its verb, as far as the verb takes them. Numbers are returned; bytes, lists and entries are stored from the front on
+// of a lent buffer, and how many there are is returned.
 ghost use Prim.Native.Nat.{_≤_};
 ghost use lib.ListN.{length};
 use crate::schemas::SchemaWord;

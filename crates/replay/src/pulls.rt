@@ -1,4 +1,4 @@
-// The verb `pull`: steps of a pull reader, and of the readers that it enters.
+// The verb `pull`: the steps of a pull reader, and of the readers that it enters, one after the other, and the answer to each.
 use crate::words::NOWHERE;
 use crate::words::digits;
 use crate::words::name_in;

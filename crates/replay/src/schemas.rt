@@ -1,4 +1,4 @@
-// A schema word, and the verbs of the schema alone.
+// A schema as a word of a line, and the verbs on a schema alone: `schema` and `lookup`.
 ghost use Prim.Native.Nat.{_≤_};
 ghost use lib.ListN.{length};
 use crate::answers::Answer;

@@ -1,4 +1,4 @@
-// Signed numbers and their 64-bit patterns. Zigzag, whose functions are there for both, leads from the one to the other.
+// Signed numbers and their 64-bit patterns. Each is made from the other by way of zigzag, since the library encodes and decodes zigzag for both.
 use wire::zigzag::decode_zig_zag_32;
 use wire::zigzag::decode_zig_zag_64;
 use wire::zigzag::encode_zig_zag_32;

@@ -1,4 +1,4 @@
-// The verbs of sizes: a field, and a packed field.
+// The verbs of sizes: `fieldsize` and `packedsize`.
 use crate::answers::Answer;
 use crate::answers::bad;
 use crate::answers::one;

@@ -1,5 +1,6 @@
 // The words of a line. Each function begins at a position and returns the position after the word and the space, or the line's end, that ends it.
-// Where the word is none, the position is `NOWHERE`, at which no further word is found: so a verb parses its words in a row and asks once, by `done`.
+// Where no such word stands, the position is `NOWHERE`, at which no further word is found: so all words of a line are parsed in a row, and `done` is asked
+// once.
 ghost use Prim.Native.Nat.{_≤_};
 ghost use lib.ListN.{length};
 
