@@ -16,11 +16,12 @@ WIRES = "varintWire fixed64Wire delimitedWire startGroupWire endGroupWire fixed3
 refusal = {str(i + 1): n for i, n in enumerate(REFUSALS)}
 kind = {str(i + 1): n for i, n in enumerate(KINDS) if n != "-"}
 wire = {str(i): n for i, n in enumerate(WIRES) if n != "-"}
+column = {"1": "numberColumn", "2": "kindColumn", "3": "valueColumn", "4": "startColumn", "5": "stopColumn"}
+recorded = {"25": "recordKinds"}
 level = {"100": "mostLevels"}
 largest = {"536870911": "largestNumber", "0x1fff_ffff": "largestNumber"}
 sized = {"2147483647": "limit", "0x7fff_ffff": "limit"}
 stride = {"6": "stride"}
-entry = {"5": "entryStride"}
 
 # what a number stands for where the text around it is this; the number is the group n
 RULES = [
@@ -36,7 +37,7 @@ RULES = [
     (wire, r"% 8\) (?P<n>[0-57])(?= |\)|$|\n)"),
     (wire, r"\b[tvgbc] % 8 (?:≡|≤) (?P<n>[0-5])\b"),
     (wire, r"\b(?:eqb|eq-eqb|ne-eqb|eqb-true|eqb-false) w (?P<n>[0-57])\b"),
-    (wire, r"(?<!size )\bw ≡ (?P<n>[0-57])\b"),
+    (wire, r"(?<!size )(?<!number )\bw ≡ (?P<n>[0-57])\b"),
     (wire, r"\b(?:w|wire \w+) (?:≤|<) (?P<n>5)\b"),
     (wire, r"\b(?:leb|ltb|le-leb|lt-leb|leb-true) w (?P<n>[0-57])\b"),
     (wire, r"\bIsTag \w+ (?P<n>[34])\b"),
@@ -55,7 +56,13 @@ RULES = [
     (wire, r"\bgetD (?:ws|wires) \w+ (?P<n>7)\b"),
     (refusal, r"\bnumber w (?:≢|≡) (?P<n>12)\b"),
     (refusal, r"\bnumber = (?P<n>\d+);"),
-    (level, r"\b(?P<n>100)\b"),
+    (kind, r"\b(?:packedSize|fieldSize) (?P<n>\d+)\b"),
+    (kind, r"(?:\.kind|(?<!wire )\bkind) ≢ (?P<n>\d+)\b"),
+    (refusal, r"(?:\.Bad|\bStop|\bshutAt|\bopenedAs) (?P<n>[1-9]\d*)\b"),
+    (column, r"\bgetD list \([^()]*\+ (?P<n>[1-5])\) 0"),
+    (recorded, r"\btake (?P<n>25) wires\b"),
+    (level, r"(?:\b(?:leb|ltb|le-leb|lt-leb|Run) |[≤<] )(?P<n>100)\b"),
+    (level, r"(?<![\w.])(?P<n>100) (?:≤|<|-)"),
     (largest, r"\b(?P<n>536870911|0x1fff_ffff)\b"),
     (sized, r"(?<!limit = )\b(?P<n>2147483647|0x7fff_ffff)\b"),
 ]
@@ -69,10 +76,11 @@ CASES = re.compile(r"Cases\.antt$")
 
 # where a number of the rules stands bare in code; the names to write are in crates/spec/src/
 CODE = [
-    r"\bRefused\(\d", r"\bBad\([1-9]", r"\bnumber: [1-9]", r"\bfaulty\(\d", r"\breturn (?:6|7|10);", r"\bkind (?:==|!=|<|<=) \d", r"(?<!\w)\d+ <=? kind\b",
-    r"^\s*\d+(?: \| \d+)* => ", r"\bw (?:==|!=|<) \d", r"% 8 (?:==|!=|<) \d", r"\blist\[[a-z]+ [+-] \d\]", r"\broom\[to \+ \d\]", r"\bnumbers\[[^\]]*\+ \d\]",
-    r"(?:\+=|-=|\+|-|/|\*|<=?) 6\b", r"\b6 (?:<=?|\*)", r"\b(?:512|768|0x2000_0000|536870911|72057594037927936|4294967296|0x1_0000_0000) [+*<]", r"[*] (?:4294967296|0x1_0000_0000)\b",
-    r"\b(?:99|100) <=? \w", r"\b0x7fff_ffff\b(?!;)", r"\binner == 255\b", r"\* 255\b",
+    r"\bRefused\([1-9]", r"\bBad\([1-9]", r"\bnumber: [1-9]", r"\b(?:faulty|refused|shut)\([1-9]", r"\breturn (?:6|7|9|1[0-2]);",
+    r"\bkind (?:==|!=|<|<=) [1-9]", r"(?<![\w.])[1-9]\d* <=? kind\b", r"^\s*(?:[3-9]|\d\d+|\d+ \| \d+)(?: \| \d+)* => ",
+    r"\bw (?:==|!=|<) \d", r"% 8 (?:==|!=|<) \d", r"\blist\[[a-z]+ [+-] \d\]", r"\broom\[to \+ \d\]", r"\bnumbers\[[^\]]*\+ \d\]",
+    r"(?:\+=|-=|/|\*|<=?|\+ 6 <=) 6\b", r"(?<![\w.])6 (?:<=?|\*)", r"\[(?:512|768) \+", r"\b(?:536870911|72057594037927936|4294967296)\b", r"\b0x7fff_ffff\b",
+    r"(?<![\w.])(?:99|100) <=? \w", r"\b(?:== |\* )255\b",
 ]
 
 
