@@ -206,11 +206,16 @@ fn serve(buf: &mut [u8], bytes: &mut [u8], list: &mut [u64], numbers: &mut [u32]
     }
 }
 
+// Answers each line in turn, with buffers for lists and entries.
+fn serve_all(buf: &mut [u8], bytes: &mut [u8], out: &mut [u8]) {
+    let mut list = [0u64; NUMBERS];
+    let mut numbers = [0u32; NUMBERS];
+    serve(buf, bytes, &mut list, &mut numbers, out);
+}
+
 fn main() {
     let mut buf = [0u8; INPUT];
     let mut bytes = [0u8; BYTES];
-    let mut list = [0u64; NUMBERS];
-    let mut numbers = [0u32; NUMBERS];
     let mut out = [0u8; ANSWER];
-    serve(&mut buf, &mut bytes, &mut list, &mut numbers, &mut out);
+    serve_all(&mut buf, &mut bytes, &mut out);
 }

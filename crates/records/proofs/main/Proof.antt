@@ -1,4 +1,4 @@
--- `records::main` is safe and ends. Assumes nothing. How long each buffer is follows from a law: to count the zeros, as `search` does, takes seconds.
+-- `records::main` is safe and ends. Assumes nothing. How long each buffer is follows from a law, which is cheaper than to count its zeros.
 use Prim.Native.Nat.{ℕ}
 use borrow.Author.Needs.{needs}
 use mathlib.Core.Path.{sym}
