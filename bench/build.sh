@@ -1,5 +1,5 @@
 #!/bin/bash
-# build.sh: proves the libraries `calf`, `perf`, `fields` and `lent` and makes work/bench, one static x86-64 program of them, their peers and the driver bench.c; the inputs, in
+# build.sh: proves the libraries `calf`, `bench_leaves`, `bench_pull` and `bench_entries` and makes work/bench, one static x86-64 program of them, their peers and the driver bench.c; the inputs, in
 # work/data; and the counter, work/icount.so. Also work/native/bench, for times: the same for this processor, with the proved libraries' own LLVM modules, as the
 # prover handed them to its compiler, compiled for it. On x86-64 that means that the branches of the modules and of the peers are kept within blocks of 32 bytes: some
 # processors take longer over others, and where a branch falls else depends on what is linked before it. After setup.sh.
@@ -9,7 +9,7 @@ K=${RATTLE_HOME:-$(dirname "$(dirname "$(readlink -f "$(command -v rt)")")")}/on
 mkdir -p "$W/data" "$W/gen" "$N"
 python3 gen.py "$W/data"
 gcc -O2 -shared -fPIC -o "$W/icount.so" icount.c
-for c in calf perf fields lent; do (cd .. && rt staticlib $c); done
+for c in calf bench_leaves bench_pull bench_entries; do (cd .. && rt staticlib $c); done
 # the tools of root/ find their own libraries there
 own() { LD_LIBRARY_PATH=$R/usr/lib/$M-linux-gnu "$@"; }
 own "$R/usr/bin/protoc" --cpp_out="$W/gen" bench.proto
@@ -34,7 +34,7 @@ program() {
 }
 
 X=; [ "$M" = x86_64 ] || X=$R/usr/bin/x86_64-linux-gnu-
-program "$W" x86_64 "${X}gcc${X:+-12}" "${X}g++${X:+-12}" "-static -no-pie" ../target/staticlib/lib{calf,perf,fields,lent}.a
+program "$W" x86_64 "${X}gcc${X:+-12}" "${X}g++${X:+-12}" "-static -no-pie" ../target/staticlib/lib{calf,bench_leaves,bench_pull,bench_entries}.a
 
 # a toolchain folder whose clang keeps the module that it is handed
 mkdir -p "$W/tc/bin" "$W/tc/kept"
@@ -43,7 +43,7 @@ for t in "$T"/bin/*; do ln -sf "$t" "$W/tc/bin/"; done
 rm "$W/tc/bin/clang"
 printf '%s\n' '#!/bin/bash' "for a in \"\$@\"; do case \$a in *.bc | *.ll) cp \"\$a\" '$W/tc/kept/module' ;; esac; done" "exec -a clang '$T/bin/clang' \"\$@\"" >"$W/tc/bin/clang"
 chmod +x "$W/tc/bin/clang"
-for c in calf perf fields lent; do
+for c in calf bench_leaves bench_pull bench_entries; do
     deps=$(sed -n "s/^$c: *//p" ../crates.txt); set --
     for d in $deps; do set -- "$@" --extern "$d=../target/rlib/$d.rlib"; done
     "$K/bin/rattle" build --crate-name $c ../crates/$c/src/lib.rt --extern "std=$K/rlib/std.rlib" "$@" -L dependency=../target/rlib -L "dependency=$K/rlib" \
@@ -61,5 +61,5 @@ for c in calf perf fields lent; do
 done
 L=
 [ "$M" = aarch64 ] || { L="-static -no-pie"; AS=-Wa,-mbranches-within-32B-boundaries; RUST='-C llvm-args=-x86-branches-within-32B-boundaries'; }
-program "$N" $M gcc g++ "$L" "$N"/{calf,perf,fields,lent}.o
+program "$N" $M gcc g++ "$L" "$N"/{calf,bench_leaves,bench_pull,bench_entries}.o
 echo "build: done; now ./run.sh"

@@ -29,7 +29,7 @@ import sys
 from pathlib import Path
 
 INSTANCES = {
-    ('entries', 'copy'): dict(elem=('spec', 'Entry'), size=20, blank=('Rattle.spec.specs.Schema', 'noEntry'), width=32, count='counted', step='put', limit=256, array=1280),
+    ('entries', 'copy'): dict(elem=('spec', 'Entry'), size=20, blank=('Rattle.spec.specs.Schema', 'noEntry'), width=32, count='counted', step='put', limit=('Rattle.spec.specs.Names', 'mostEntries'), array=('Copied', 'mostNumbers')),
 }
 
 
@@ -43,6 +43,8 @@ def gen(crate, fn, c):
     init, step = c['count'], c['step']
     elem_of, elem = c['elem']
     blank_in, blank = c['blank']
+    limit_in, limit = c['limit']
+    N_in, N = c['array']
     names = ['res', 'es', 'array', 'n', 'i', 'len', 'test', 'ref', 'tmp', 'ptr', 'elem']
     m = len(names)
     num = {x: k for k, x in enumerate(names)}
@@ -123,10 +125,12 @@ use denote.Triple.Spec.{{Meets, tripleOf}}
 use denote.Triple.Table.{{entered, cited}}
 use denote.Triple.Walked.{{says, Stays, stay-none-slice, stay-ref, walkOf, goes-none-slice, goes-ref, Walks, ends-at, walked, walk-meets}}
 use denote.Exit.{{yes}}
+use {limit_in}.{{{limit}}}
 use {blank_in}.{{{blank}}}
 use Rattle.{elem_of}.specs.declared.{elem}.{{{elem}}}
 use Rattle.{elem_of}.proofs.{elem} as T
 use Rattle.{elem_of}.proofs.{elem}.Laws as T′
+use Rattle.{crate}.specs.{N_in}.{{{N}}}
 use {lib}.Pieces.{{after}}
 use {lib}.{init} as {I}
 use {lib}.{init}.Symbol as {I}-def
@@ -145,7 +149,7 @@ use {lib}.{fn}.Proof.Facts.{{bound, Stepped, SoFar, Ends, starts, allowed, next,
 
 -- the array
 abbrev Arr : RattleType
-Arr = Array u{c['width']} {c['array']}
+Arr = Array u{c['width']} {N}
 
 abbrev stayed : Stays (fn.ended .signature .params) (fn.ended .kept)
 stayed = (stay-none-slice (0 ∷ []) tt (plain (λ _. T.the-row)) yes, (stay-ref (1 ∷ []) tt (plain (λ _. Arr)), tt))
@@ -244,7 +248,7 @@ module _ {{M : Type 1}} (𝓤 : URA M) (H : Heap 𝓤) (A : Atoms 𝓤) (W : Giv
   abbrev to-step : ℕ → GName → List ℕ → ℕ → {elem} → Step 𝓤 H A mem run .Ghost
   to-step ν δ a i e = (((ν ∷ [], tt), (fullShare, tt), tt, (y δ a, (i, (e, tt))), (vptr b₁ o₁ ∷ [], (vint w64 i ∷ [], (vals e, tt)))), tt)
 
-  goes-step : (ν : ℕ) (δ : GName) (a : List ℕ) (i : ℕ) (e : {elem}) → i < {c['limit']} → i < 2 ^ 64 → Is T.the-row e (vals e)
+  goes-step : (ν : ℕ) (δ : GName) (a : List ℕ) (i : ℕ) (e : {elem}) → i < {limit} → i < 2 ^ 64 → Is T.the-row e (vals e)
       → ent 𝓤 (sep 𝓤 (A .lft (ν ∷ []) fullShare) (sem 𝓤 H A (MutRef (named 0) (ν ∷ []) Arr .own (y δ a) (vptr b₁ o₁ ∷ [])))) (Step 𝓤 H A mem run .pre (to-step ν δ a i e))
   goes-step ν δ a i e within fits ise =
       qed W (‵ (flft (ν ∷ []) fullShare) ∷ ‵ (MutRef (named 0) (ν ∷ []) Arr .own (y δ a) (vptr b₁ o₁ ∷ [])) ∷ []) ∵ says ! within $ nothing ! $ move ! (1 ∷ 0 ∷ []) $ join ! $ frame ! $

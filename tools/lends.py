@@ -16,14 +16,14 @@ The instances are below. A context is kept as a list of labels, and each `move` 
 import sys
 from pathlib import Path
 
-ENTRIES = dict(elem=('spec', 'Entry'), size=20, array=257)
+ENTRIES = dict(elem=('spec', 'Entry'), size=20, array=('Copied', 'oneMore'))
 INSTANCES = {
     ('entries', 'lend_read'): ENTRIES | dict(call='read', result=('struct', 'read', 'Answer'), params=[('types', 'num', 32), ('es', 'ES', 0), ('s', '&', 8), ('room', '&mut', 64)]),
     ('entries', 'lend_check'): ENTRIES | dict(call='check', result=('enum', 'list', 'Verdict'), params=[('types', 'num', 32), ('es', 'ES', 0), ('list', '&', 64), ('payload', '&', 8)]),
     ('entries', 'lend_size'): ENTRIES | dict(call='size', result=('struct', 'write', 'Answer'), params=[('types', 'num', 32), ('es', 'ES', 0), ('list', '&', 64), ('payload', '&', 8)]),
     ('entries', 'lend_write'): ENTRIES | dict(call='write', result=('struct', 'write', 'Answer'), params=[('types', 'num', 32), ('es', 'ES', 0), ('list', '&', 64), ('payload', '&', 8), ('out', '&mut', 8)]),
     ('entries', 'lend_lookup'): ENTRIES | dict(call='lookup', result=('enum', 'schema', 'Place'), params=[('es', 'ES', 0), ('owner', 'num', 32), ('number', 'num', 32)]),
-    ('lent', 'lend_read'): ENTRIES | dict(array=16, of='entries', call='read', result=('struct', 'read', 'Answer'), params=[('types', 'num', 32), ('es', 'ES', 0), ('s', '&', 8), ('room', '&mut', 64)]),
+    ('bench_entries', 'lend_read'): ENTRIES | dict(array=('First', 'mostMade'), of='entries', call='read', result=('struct', 'read', 'Answer'), params=[('types', 'num', 32), ('es', 'ES', 0), ('s', '&', 8), ('room', '&mut', 64)]),
 }
 UINT = {8: 'u8', 16: 'u16', 32: 'u32', 64: 'u64'}
 
@@ -73,7 +73,8 @@ def gen(crate, fn, c):
     lib = f'Rattle.{crate}.proofs'
     home = c.get('of', crate)
     there = lib if home == crate else f'Rattle.{home}.proofs'
-    call, N, size = c['call'], c['array'], c['size']
+    call, size = c['call'], c['size']
+    N_in, N = c['array']
     elem_of, elem = c['elem']
     F, CO = dash(fn), dash(call) + '′'
     rkind, result_of, result = c['result']
@@ -397,6 +398,7 @@ use Rattle.{elem_of}.proofs.{elem}.Laws as T′
 use Rattle.{result_of}.specs.declared.{result}.{{{result}}}
 use Rattle.{result_of}.proofs.{result} as R
 use Rattle.{result_of}.proofs.{result}.Laws as R′
+use Rattle.{crate}.specs.{N_in}.{{{N}}}
 use {there}.Locals.{{part-in, part-out, behind, parts-cut, parts-joined}}
 use {there}.{call} as {CO}
 use {there}.{call}.Symbol as {CO}-def

@@ -22,7 +22,7 @@ The instances are below. A context is kept as a list of labels, and each `move` 
 import sys
 from pathlib import Path
 
-ENTRIES = dict(elem=('spec', 'Entry'), copy='copy', array=1280)
+ENTRIES = dict(elem=('spec', 'Entry'), copy='copy', array=('Copied', 'mostNumbers'))
 INSTANCES = {
     ('entries', 'read'): ENTRIES | dict(core='read_copied', result=('struct', 'read', 'Answer'), params=[('s', '&', 8), ('room', '&mut', 64)]),
     ('entries', 'check'): ENTRIES | dict(core='check_copied', result=('enum', 'list', 'Verdict'), params=[('list', '&', 64), ('payload', '&', 8)]),
@@ -75,7 +75,8 @@ class Ctx:
 
 def gen(crate, fn, c):
     lib = f'Rattle.{crate}.proofs'
-    copy, core, N = c['copy'], c['core'], c['array']
+    copy, core = c['copy'], c['core']
+    N_in, N = c['array']
     elem_of, elem = c['elem']
     F, CP, CO = dash(fn), dash(copy) + '′', dash(core) + '′'
     rkind, result_of, result = c['result']
@@ -438,6 +439,7 @@ use Rattle.{elem_of}.proofs.{elem} as T
 use Rattle.{result_of}.specs.declared.{result}.{{{result}}}
 use Rattle.{result_of}.proofs.{result} as R
 use Rattle.{result_of}.proofs.{result}.Laws as R′
+use Rattle.{crate}.specs.{N_in}.{{{N}}}
 use {lib}.Locals.{{part-in, part-out, big}}
 use {lib}.{copy} as {CP}
 use {lib}.{copy}.Symbol as {CP}-def

@@ -2,6 +2,7 @@
 use Prim.Native.Nat.{ℕ, _+_}
 use mathlib.Core.List.{List, [], _∷_}
 use mathlib.Core.Option.{Option, none, some}
+use Rattle.spec.specs.Names.{boolKind, bytesKind, doubleKind, enumKind, fixed32Kind, fixed64Kind, floatKind, groupKind, int32Kind, int64Kind, invalidSchema, sfixed32Kind, sfixed64Kind, sint32Kind, sint64Kind, stringKind, uint32Kind, uint64Kind}
 use Rattle.spec.specs.Base.{if_then_else_, Read, Took, No}
 use lib.Dec.{eqb}
 use Rattle.spec.specs.Kind.{int32, uint32, uint64, bool, sint32, sint64, fixed32, sfixed32, fixed64}
@@ -34,7 +35,7 @@ placeOf NoRoom = 0
 -- the number and the place of what a schema's check finds
 abbrev pub numberOf : Option ℕ → ℕ
 numberOf none = 0
-numberOf (some i) = 9
+numberOf (some i) = invalidSchema
 
 abbrev pub entryOf : Option ℕ → ℕ
 entryOf none = 0
@@ -49,40 +50,56 @@ abbrev pub indexOf : Verdict → ℕ
 indexOf Fine = 0
 indexOf (Faulty number index) = index
 
--- what a kind asks of a pull reader: its value, a float and a double as their bits, a signed number as its pattern; 10 is a skip, and 0 and all others the raw tag
+-- what a kind asks of a pull reader: its value, a float and a double as their bits, a signed number as its pattern; the number of a group, which no schema has, asks for a skip, and 0 and all others for the raw tag
 unfoldable pub askedBy : (kind tag : ℕ) → Ask
 askedBy kind tag =
-    if eqb kind 1 then value fixed64 else
-    if eqb kind 2 then value fixed32 else
-    if eqb kind 3 then value uint64 else
-    if eqb kind 4 then value uint64 else
-    if eqb kind 5 then value int32 else
-    if eqb kind 6 then value fixed64 else
-    if eqb kind 7 then value fixed32 else
-    if eqb kind 8 then value bool else
-    if eqb kind 9 then string else
-    if eqb kind 10 then skip tag else
-    if eqb kind 12 then bytes else
-    if eqb kind 13 then value uint32 else
-    if eqb kind 14 then value int32 else
-    if eqb kind 15 then value sfixed32 else
-    if eqb kind 16 then value fixed64 else
-    if eqb kind 17 then value sint32 else
-    if eqb kind 18 then value sint64 else
+    if eqb kind doubleKind then value fixed64 else
+    if eqb kind floatKind then value fixed32 else
+    if eqb kind int64Kind then value uint64 else
+    if eqb kind uint64Kind then value uint64 else
+    if eqb kind int32Kind then value int32 else
+    if eqb kind fixed64Kind then value fixed64 else
+    if eqb kind fixed32Kind then value fixed32 else
+    if eqb kind boolKind then value bool else
+    if eqb kind stringKind then string else
+    if eqb kind groupKind then skip tag else
+    if eqb kind bytesKind then bytes else
+    if eqb kind uint32Kind then value uint32 else
+    if eqb kind enumKind then value int32 else
+    if eqb kind sfixed32Kind then value sfixed32 else
+    if eqb kind sfixed64Kind then value fixed64 else
+    if eqb kind sint32Kind then value sint32 else
+    if eqb kind sint64Kind then value sint64 else
     rawTag
 
--- what a step says, in numbers: the refusal's number; and 0 the end, 1 a number, 2 the bounds of a content, 3 the place of a refusal, with the position then
+-- ---- what a step says, in numbers
+
+-- which of the four it is: the end, a number, the bounds of a content, the place of a refusal
+abbrev pub endSaid : ℕ
+endSaid = 0
+
+abbrev pub numberSaid : ℕ
+numberSaid = 1
+
+abbrev pub contentSaid : ℕ
+contentSaid = 2
+
+abbrev pub refusedSaid : ℕ
+refusedSaid = 3
+
+-- the refusal's number
 abbrev pub saidNumber : Said → ℕ
 saidNumber (Number v) = 0
 saidNumber (Content a z) = 0
 saidNumber End = 0
 saidNumber (Refused k p) = k
 
+-- which of the four, the one or two numbers that go with it, and the position then
 abbrev pub saidAnswer : Said → ℕ → List ℕ
-saidAnswer (Number v) at = 1 ∷ v ∷ 0 ∷ at ∷ []
-saidAnswer (Content a z) at = 2 ∷ a ∷ z ∷ at ∷ []
-saidAnswer End at = 0 ∷ 0 ∷ 0 ∷ at ∷ []
-saidAnswer (Refused k p) at = 3 ∷ p ∷ 0 ∷ at ∷ []
+saidAnswer (Number v) at = numberSaid ∷ v ∷ 0 ∷ at ∷ []
+saidAnswer (Content a z) at = contentSaid ∷ a ∷ z ∷ at ∷ []
+saidAnswer End at = endSaid ∷ 0 ∷ 0 ∷ at ∷ []
+saidAnswer (Refused k p) at = refusedSaid ∷ p ∷ 0 ∷ at ∷ []
 
 abbrev pub stepNumber : Moved → ℕ
 stepNumber m = saidNumber (m .said)

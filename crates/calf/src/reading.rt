@@ -6,31 +6,37 @@ ghost use lib.ListN.{length, replicate};
 ghost use Rattle.spec.specs.Record.{stride};
 ghost use Rattle.spec.specs.Schema.{badSchema, schemaOf};
 ghost use Rattle.spec.specs.Reading.{reading, number, place, listed, roomAfter};
+ghost use Rattle.schema.specs.Layout.{keyCount, infoLength, noKey};
 ghost use Rattle.schema.specs.Tables.{soundOf, keysWith, infoWith, tableSays};
-ghost use Rattle.schema.specs.Told.{told};
+ghost use Rattle.schema.specs.Told.{badPlace};
 ghost use Rattle.read.specs.Answers.{readingBy};
 ghost use Rattle.calf.specs.Told.{numberOf, entryOf};
 use schema::Verdict;
+use schema::layout::INFO;
+use schema::layout::KEYS;
+use schema::layout::NO_KEY;
+use spec::columns;
+use spec::refusals;
 
 // How many numbers a record has in lent room and in a list.
 #[no_mangle]
 pub extern "C" fn calf_record_numbers() -> usize
     ensures { λ r. ⌜ r ≡ stride ⌝ }
 {
-    6
+    columns::STRIDE
 }
 
 fn number_of(v: Verdict) -> u32
-    ensures { λ r. ⌜ r ≡ numberOf (told v) ⌝ }
+    ensures { λ r. ⌜ r ≡ numberOf (badPlace v) ⌝ }
 {
     match v {
         Verdict::Valid => 0,
-        Verdict::Bad(_) => 9,
+        Verdict::Bad(_) => refusals::INVALID_SCHEMA,
     }
 }
 
 fn entry_of(v: Verdict) -> usize
-    ensures { λ r. ⌜ r ≡ entryOf (told v) ⌝ }
+    ensures { λ r. ⌜ r ≡ entryOf (badPlace v) ⌝ }
 {
     match v {
         Verdict::Valid => 0,
@@ -54,17 +60,17 @@ pub extern "C" fn calf_check_schema(types: u32, numbers: &[u32], answer: &mut [u
 pub extern "C" fn calf_prepare(
     types: u32,
     numbers: &[u32],
-    keys: &mut [u64; 256],
-    info: &mut [u8; 1024],
+    keys: &mut [u64; KEYS],
+    info: &mut [u8; INFO],
     answer: &mut [u64; 1],
 ) -> u32
     ensures { λ r. ⌜ (r ≡ numberOf (badSchema (schemaOf types (now (numbers .entry)))))
         × (now (answer .exit) ≡ entryOf (badSchema (schemaOf types (now (numbers .entry)))) ∷ [])
-        × (now (keys .exit) ≡ keysWith 0 (soundOf (schemaOf types (now (numbers .entry)))) (replicate 256 18446744073709551615))
-        × (now (info .exit) ≡ infoWith 0 (soundOf (schemaOf types (now (numbers .entry)))) (replicate 1024 0)) ⌝ }
+        × (now (keys .exit) ≡ keysWith 0 (soundOf (schemaOf types (now (numbers .entry)))) (replicate keyCount noKey))
+        × (now (info .exit) ≡ infoWith 0 (soundOf (schemaOf types (now (numbers .entry)))) (replicate infoLength 0)) ⌝ }
 {
-    *keys = [0xffff_ffff_ffff_ffff; 256];
-    *info = [0; 1024];
+    *keys = [NO_KEY; KEYS];
+    *info = [0; INFO];
     let v = schema::tables(types, numbers, keys, info);
     *answer = [entry_of(v) as u64];
     number_of(v)
@@ -94,8 +100,8 @@ pub extern "C" fn calf_read(
 // The same under the tables of a schema, which a caller with many messages makes once by `calf_prepare`.
 #[no_mangle]
 pub extern "C" fn calf_read_prepared(
-    keys: &[u64; 256],
-    info: &[u8; 1024],
+    keys: &[u64; KEYS],
+    info: &[u8; INFO],
     s: &[u8],
     room: &mut [u64],
     answer: &mut [u64; 2],

@@ -5,12 +5,12 @@ ghost use lib.ListN.{length};
 ghost use Rattle.spec.specs.Record.{recordsOf};
 ghost use Rattle.spec.specs.Schema.{schemaOf};
 ghost use Rattle.spec.specs.Writing.{listCheck, sizing, writing, number, size, index, output};
-ghost use Rattle.list.specs.Told.{told};
+ghost use Rattle.list.specs.Told.{asVerdict};
 ghost use Rattle.calf.specs.Told.{faultOf, indexOf};
 use list::Verdict;
 
 fn fault_of(v: Verdict) -> u32
-    ensures { λ r. ⌜ r ≡ faultOf (told v) ⌝ }
+    ensures { λ r. ⌜ r ≡ faultOf (asVerdict v) ⌝ }
 {
     match v {
         Verdict::Fine => 0,
@@ -19,7 +19,7 @@ fn fault_of(v: Verdict) -> u32
 }
 
 fn index_of(v: Verdict) -> usize
-    ensures { λ r. ⌜ r ≡ indexOf (told v) ⌝ }
+    ensures { λ r. ⌜ r ≡ indexOf (asVerdict v) ⌝ }
 {
     match v {
         Verdict::Fine => 0,

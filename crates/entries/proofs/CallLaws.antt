@@ -13,7 +13,7 @@ use Rattle.schema.specs.declared.Place.{Place}
 use Rattle.schema.proofs.ToldLaws.{place-once}
 use Rattle.read.specs.declared.Answer as read
 use Rattle.read.proofs.CallLaws as reading
-use Rattle.list.specs.Told.{told}
+use Rattle.list.specs.Told.{asVerdict}
 use Rattle.list.specs.declared.Verdict.{Verdict}
 use Rattle.list.proofs.CallLaws as checking
 use Rattle.write.specs.Answers as answers
@@ -30,10 +30,10 @@ one-copy es array a b x y h g = (h .0 ∙ sym (g .0), h .1 ∙ sym (g .1))
 pub one-reading : (q : Reading) (a b : read.Answer) (room x y : List ℕ) → reading.Answers q a room x → reading.Answers q b room y → (a ≡ b) × (x ≡ y)
 one-reading q a b room x y h g = reading.one-answer q a b room x y h g
 
-pub one-verdict : (v : spec.Verdict) (a b : Verdict) → told a ≡ v → told b ≡ v → a ≡ b
+pub one-verdict : (v : spec.Verdict) (a b : Verdict) → asVerdict a ≡ v → asVerdict b ≡ v → a ≡ b
 one-verdict v a b h g = checking.one-answer v a b h g
 
-pub one-size : (w : spec.Writing) (a b : write.Answer) → a ≡ answers.told w → b ≡ answers.told w → a ≡ b
+pub one-size : (w : spec.Writing) (a b : write.Answer) → a ≡ answers.answerOfWriting w → b ≡ answers.answerOfWriting w → a ≡ b
 one-size w a b h g = h ∙ sym g
 
 pub one-writing : (w : spec.Writing) (a b : write.Answer) (out x y : List ℕ) → writing.Answers w a out x → writing.Answers w b out y → (a ≡ b) × (x ≡ y)

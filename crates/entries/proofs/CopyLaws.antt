@@ -8,11 +8,12 @@ use mathlib.Core.List.{List, [], _∷_, _++_, append-assoc}
 use lib.ListN.{length, set, drop, length-append, length-drop, drop-of-length-le}
 use lib.Seq.{drop-nil, drop-drop}
 use borrow.Author.Tests.{lt-ltb, le-ltb}
+use Rattle.spec.specs.Names.{childColumn, entryKindColumn, entryNumberColumn, mostEntries, repeatedColumn}
 use Rattle.spec.specs.Base.{filled}
-use Rattle.spec.specs.Schema.{bit, copied}
+use Rattle.spec.specs.Schema.{bit, copied, entryStride}
 use Rattle.spec.specs.declared.Entry.{Entry}
 use Rattle.spec.proofs.VarintLaws.{lower-or-not}
-use Rattle.entries.specs.Copied.{fewOf, few, fiveAt, storedFrom, copiedTo}
+use Rattle.entries.specs.Copied.{mostNumbers, fewOf, few, storedAt, storedFrom, copiedTo}
 
 -- ---- a store behind p is a store in what follows p
 
@@ -23,57 +24,57 @@ set-off (y ∷ p) t n j v e = rw (← e, suc-add) (ap (λ (l : List ℕ). y ∷ 
 set-first : (p t : List ℕ) (n v : ℕ) → length p ≡ n → set (p ++ t) n v ≡ p ++ set t 0 v
 set-first p t n v e = ap (λ (k : ℕ). set (p ++ t) k v) (sym (add-zero n)) ∙ set-off p t n 0 v e
 
-five-behind : (p t : List ℕ) (i : ℕ) (e : Entry) → length p ≡ i * 5 → 5 ≤ length t → fiveAt (p ++ t) i e ≡ (p ++ copied (e ∷ [])) ++ drop 5 t
-unfolding fiveAt copied
-five-behind p (a ∷ b ∷ c ∷ d ∷ x ∷ t) i e l h =
+numbers-behind : (p t : List ℕ) (i : ℕ) (e : Entry) → length p ≡ i * entryStride → entryStride ≤ length t → storedAt (p ++ t) i e ≡ (p ++ copied (e ∷ [])) ++ drop entryStride t
+unfolding storedAt copied
+numbers-behind p (a ∷ b ∷ c ∷ d ∷ x ∷ t) i e l h =
     rw (
-      set-first p (a ∷ b ∷ c ∷ d ∷ x ∷ t) (i * 5) (e .owner) l,
-      set-off p (e .owner ∷ b ∷ c ∷ d ∷ x ∷ t) (i * 5) 1 (e .number) l,
-      set-off p (e .owner ∷ e .number ∷ c ∷ d ∷ x ∷ t) (i * 5) 2 (e .kind) l,
-      set-off p (e .owner ∷ e .number ∷ e .kind ∷ d ∷ x ∷ t) (i * 5) 3 (bit (e .repeated)) l,
-      set-off p (e .owner ∷ e .number ∷ e .kind ∷ bit (e .repeated) ∷ x ∷ t) (i * 5) 4 (e .child) l,
+      set-first p (a ∷ b ∷ c ∷ d ∷ x ∷ t) (i * entryStride) (e .owner) l,
+      set-off p (e .owner ∷ b ∷ c ∷ d ∷ x ∷ t) (i * entryStride) entryNumberColumn (e .number) l,
+      set-off p (e .owner ∷ e .number ∷ c ∷ d ∷ x ∷ t) (i * entryStride) entryKindColumn (e .kind) l,
+      set-off p (e .owner ∷ e .number ∷ e .kind ∷ d ∷ x ∷ t) (i * entryStride) repeatedColumn (bit (e .repeated)) l,
+      set-off p (e .owner ∷ e .number ∷ e .kind ∷ bit (e .repeated) ∷ x ∷ t) (i * entryStride) childColumn (e .child) l,
     ) (sym (append-assoc p (copied (e ∷ [])) t))
-five-behind p [] i e l h = absurd (omega arith)
-five-behind p (a ∷ []) i e l h = absurd (omega arith)
-five-behind p (a ∷ b ∷ []) i e l h = absurd (omega arith)
-five-behind p (a ∷ b ∷ c ∷ []) i e l h = absurd (omega arith)
-five-behind p (a ∷ b ∷ c ∷ d ∷ []) i e l h = absurd (omega arith)
+numbers-behind p [] i e l h = absurd (omega arith)
+numbers-behind p (a ∷ []) i e l h = absurd (omega arith)
+numbers-behind p (a ∷ b ∷ []) i e l h = absurd (omega arith)
+numbers-behind p (a ∷ b ∷ c ∷ []) i e l h = absurd (omega arith)
+numbers-behind p (a ∷ b ∷ c ∷ d ∷ []) i e l h = absurd (omega arith)
 
-all-behind : (es : List Entry) (p t : List ℕ) (i : ℕ) → length p ≡ i * 5 → length es * 5 ≤ length t → storedFrom (p ++ t) i es ≡ p ++ filled (copied es) t
+all-behind : (es : List Entry) (p t : List ℕ) (i : ℕ) → length p ≡ i * entryStride → length es * entryStride ≤ length t → storedFrom (p ++ t) i es ≡ p ++ filled (copied es) t
 unfolding storedFrom copied
 all-behind [] p t i l h = refl
 all-behind (e ∷ es) p t i l h =
-    let longer : length (p ++ copied (e ∷ [])) ≡ (i + 1) * 5 = rw (length-append p (copied (e ∷ [])), l) (omega arith) in
-    let more : 5 + length (copied es) ≡ length (copied (e ∷ es)) = omega arith in
-    ap (λ (a : List ℕ). storedFrom a (i + 1) es) (five-behind p t i e l (omega arith))
-    ∙ all-behind es (p ++ copied (e ∷ [])) (drop 5 t) (i + 1) longer (omega (arith, length-drop 5 t))
-    ∙ append-assoc p (copied (e ∷ [])) (copied es ++ drop (length (copied es)) (drop 5 t))
-    ∙ ap (λ (r : List ℕ). p ++ (copied (e ∷ es) ++ r)) (drop-drop (length (copied es)) 5 t ∙ ap (λ (n : ℕ). drop n t) more)
+    let longer : length (p ++ copied (e ∷ [])) ≡ (i + 1) * entryStride = rw (length-append p (copied (e ∷ [])), l) (omega arith) in
+    let more : entryStride + length (copied es) ≡ length (copied (e ∷ es)) = omega arith in
+    ap (λ (a : List ℕ). storedFrom a (i + 1) es) (numbers-behind p t i e l (omega arith))
+    ∙ all-behind es (p ++ copied (e ∷ [])) (drop entryStride t) (i + 1) longer (omega (arith, length-drop entryStride t))
+    ∙ append-assoc p (copied (e ∷ [])) (copied es ++ drop (length (copied es)) (drop entryStride t))
+    ∙ ap (λ (r : List ℕ). p ++ (copied (e ∷ es) ++ r)) (drop-drop (length (copied es)) entryStride t ∙ ap (λ (n : ℕ). drop n t) more)
 
--- ---- at most 256 of them
+-- ---- at most as many as a schema may have
 
-few-none : (es : List Entry) → 256 < length es → few es ≡ []
+few-none : (es : List Entry) → mostEntries < length es → few es ≡ []
 unfolding few
-few-none es h = rw (lt-ltb 256 (length es) h)
+few-none es h = rw (lt-ltb mostEntries (length es) h)
 
-pub few-all : (es : List Entry) → length es ≤ 256 → few es ≡ es
+pub few-all : (es : List Entry) → length es ≤ mostEntries → few es ≡ es
 unfolding few
-few-all es h = rw (le-ltb 256 (length es) h)
+few-all es h = rw (le-ltb mostEntries (length es) h)
 
-pub in-few : (n i : ℕ) → i < fewOf n → (i < n) × (n ≤ 256)
+pub in-few : (n i : ℕ) → i < fewOf n → (i < n) × (n ≤ mostEntries)
 unfolding fewOf
-in-few n i h = lower-or-not 256 n (λ c. let none : i < 0 = rw (lt-ltb 256 n c) at h in absurd (omega arith)) (λ c. let all : i < n = rw (le-ltb 256 n c) at h in (all, c))
+in-few n i h = lower-or-not mostEntries n (λ c. let none : i < 0 = rw (lt-ltb mostEntries n c) at h in absurd (omega arith)) (λ c. let all : i < n = rw (le-ltb mostEntries n c) at h in (all, c))
 
 pub past-few : (es : List Entry) (i : ℕ) → fewOf (length es) ≤ i → drop i (few es) ≡ []
 unfolding fewOf
 past-few es i h =
-    lower-or-not 256 (length es) (λ c. ap (λ (l : List Entry). drop i l) (few-none es c) ∙ drop-nil i)
-    (λ c. let all : length es ≤ i = rw (le-ltb 256 (length es) c) at h in ap (λ (l : List Entry). drop i l) (few-all es c) ∙ drop-of-length-le es all)
+    lower-or-not mostEntries (length es) (λ c. ap (λ (l : List Entry). drop i l) (few-none es c) ∙ drop-nil i)
+    (λ c. let all : length es ≤ i = rw (le-ltb mostEntries (length es) c) at h in ap (λ (l : List Entry). drop i l) (few-all es c) ∙ drop-of-length-le es all)
 
--- ---- where the array has room for 256 entries
+-- ---- where the array has room for so many
 
-pub copied-to : (es : List Entry) (a : List ℕ) → length a ≡ 1280 → copiedTo es a ≡ filled (copied (few es)) a
+pub copied-to : (es : List Entry) (a : List ℕ) → length a ≡ mostNumbers → copiedTo es a ≡ filled (copied (few es)) a
 unfolding copiedTo
 copied-to es a l =
-    let fits : length (few es) ≤ 256 = lower-or-not 256 (length es) (λ c. rw (few-none es c) (omega arith)) (λ c. rw (few-all es c) c) in
+    let fits : length (few es) ≤ mostEntries = lower-or-not mostEntries (length es) (λ c. rw (few-none es c) (omega arith)) (λ c. rw (few-all es c) c) in
     all-behind (few es) [] a 0 refl (omega arith)

@@ -3,18 +3,27 @@
 ghost use mathlib.Core.Path.{_≡_};
 ghost use Prim.Native.Nat.{_+_, _*_, _/_, _<_, _≤_};
 ghost use lib.ListN.{length, take};
+ghost use Rattle.spec.specs.Names.{childColumn, mostEntries};
 ghost use Rattle.spec.specs.Record.{recordsOf, stride};
 ghost use Rattle.spec.specs.Reading.{reading, number, place, listed, roomAfter};
-ghost use Rattle.spec.specs.Schema.{entriesOf, schemaOf, placeOf};
+ghost use Rattle.spec.specs.Schema.{entriesOf, schemaOf, placeOf, entryStride};
 ghost use Rattle.spec.specs.Writing.{listCheck, writing, sizing, output};
-ghost use Rattle.list.specs.Told.{told as verdict};
-ghost use Rattle.schema.specs.Told.{place as told};
-ghost use Rattle.write.specs.Answers.{told as answer};
-ghost use Rattle.entries.specs.Copied.{nextPlace, fewOf, fiveAt, copiedTo, lentOf, entryAt, countOf, typesOf, firstEntries};
+ghost use Rattle.list.specs.Told.{asVerdict as verdict};
+ghost use Rattle.schema.specs.Told.{place as entryPlace};
+ghost use Rattle.write.specs.Answers.{answerOfWriting as answer};
+ghost use Rattle.entries.specs.Copied.{mostNumbers, oneMore, nextPlace, fewOf, storedAt, copiedTo, lentOf, entryAt, countOf, typesOf, firstEntries};
 use list::Verdict;
 use read::Answer;
 use schema::Place;
 use spec::Entry;
+use spec::columns;
+use spec::limits;
+
+// The numbers of as many entries as a schema may have.
+pub const MOST_NUMBERS: usize = schema::layout::MOST_NUMBERS;
+
+// One entry more than a schema may have.
+const ONE_MORE: usize = limits::MOST_ENTRIES + 1;
 
 fn nothing() -> Place
     ensures { λ r. ⌜ r ≡ Place.Nothing ⌝ }
@@ -41,7 +50,7 @@ fn seen(found: Place, i: usize, e: Entry, owner: u32, number: u32) -> Place
 
 // The place of the first entry of this owner and number.
 pub fn lookup(entries: &[Entry], owner: u32, number: u32) -> Place
-    ensures { λ r. ⌜ told r ≡ placeOf 0 (now (entries .entry)) owner number ⌝ }
+    ensures { λ r. ⌜ entryPlace r ≡ placeOf 0 (now (entries .entry)) owner number ⌝ }
 {
     let mut found = nothing();
     let mut i: usize = 0;
@@ -55,26 +64,26 @@ pub fn lookup(entries: &[Entry], owner: u32, number: u32) -> Place
 fn counted(count: usize) -> usize
     ensures { λ r. ⌜ r ≡ fewOf count ⌝ }
 {
-    if 256 < count {
+    if limits::MOST_ENTRIES < count {
         return 0;
     }
     count
 }
 
-fn put(numbers: &mut [u32; 1280], i: usize, e: Entry) -> usize
-    requires { ⌜ i < 256 ⌝ }
-    ensures { λ r. ⌜ (r ≡ i + 1) × (now (numbers .exit) ≡ fiveAt (now (numbers .entry)) i e) ⌝ }
+fn put(numbers: &mut [u32; MOST_NUMBERS], i: usize, e: Entry) -> usize
+    requires { ⌜ i < mostEntries ⌝ }
+    ensures { λ r. ⌜ (r ≡ i + 1) × (now (numbers .exit) ≡ storedAt (now (numbers .entry)) i e) ⌝ }
 {
-    let k = i * 5;
+    let k = i * columns::ENTRY_STRIDE;
     numbers[k] = e.owner;
-    numbers[k + 1] = e.number;
-    numbers[k + 2] = e.kind;
-    numbers[k + 3] = e.repeated as u32;
-    numbers[k + 4] = e.child;
+    numbers[k + columns::ENTRY_NUMBER] = e.number;
+    numbers[k + columns::ENTRY_KIND] = e.kind;
+    numbers[k + columns::ENTRY_REPEATED] = e.repeated as u32;
+    numbers[k + columns::ENTRY_CHILD] = e.child;
     i + 1
 }
 
-pub fn copy(entries: &[Entry], numbers: &mut [u32; 1280]) -> usize
+pub fn copy(entries: &[Entry], numbers: &mut [u32; MOST_NUMBERS]) -> usize
     ensures { λ r. ⌜ (r ≡ length (now (entries .entry))) × (now (numbers .exit) ≡ copiedTo (now (entries .entry)) (now (numbers .entry))) ⌝ }
 {
     let n = counted(entries.len());
@@ -88,15 +97,15 @@ pub fn copy(entries: &[Entry], numbers: &mut [u32; 1280]) -> usize
 fn prefix(count: usize) -> usize
     ensures { λ r. ⌜ r ≡ lentOf count ⌝ }
 {
-    if 256 < count {
+    if limits::MOST_ENTRIES < count {
         return 1;
     }
-    count * 5
+    count * columns::ENTRY_STRIDE
 }
 
 // Reads under the numbers that a copy of so many entries left.
 fn read_copied(types: u32, count: usize, numbers: &[u32], s: &[u8], room: &mut [u64]) -> Answer
-    requires { ⌜ 1280 ≤ length (now numbers) ⌝ }
+    requires { ⌜ mostNumbers ≤ length (now numbers) ⌝ }
     ensures { λ r. ⌜ (r .number ≡ number (reading (schemaOf types (take (lentOf count) (now (numbers .entry)))) (length (now (room .entry)) / stride) (now (s .entry))))
         × (r .place ≡ place (reading (schemaOf types (take (lentOf count) (now (numbers .entry)))) (length (now (room .entry)) / stride) (now (s .entry))))
         × (r .count ≡ length (listed (reading (schemaOf types (take (lentOf count) (now (numbers .entry)))) (length (now (room .entry)) / stride) (now (s .entry)))))
@@ -114,14 +123,14 @@ pub fn read(types: u32, entries: &[Entry], s: &[u8], room: &mut [u64]) -> Answer
         × (now (room .exit) ≡ roomAfter (reading (record { types = types; entries = now (entries .entry) }) (length (now (room .entry)) / stride) (now (s .entry))) (now (room .entry))) ⌝ }
 {
     // ones, which are stored in a loop: zeros would be a call, and cost more than all the rest of a short message
-    let mut numbers: [u32; 1280] = [1; 1280];
+    let mut numbers: [u32; MOST_NUMBERS] = [1; MOST_NUMBERS];
     let count = copy(entries, &mut numbers);
     read_copied(types, count, &numbers, s, room)
 }
 
 // The same under the numbers that a copy of so many entries left.
 fn check_copied(types: u32, count: usize, numbers: &[u32], list: &[u64], payload: &[u8]) -> Verdict
-    requires { ⌜ 1280 ≤ length (now numbers) ⌝ }
+    requires { ⌜ mostNumbers ≤ length (now numbers) ⌝ }
     ensures { λ r. ⌜ verdict r ≡ listCheck (schemaOf types (take (lentOf count) (now (numbers .entry)))) (now (payload .entry)) (recordsOf (now (list .entry))) ⌝ }
 {
     let k = prefix(count);
@@ -132,7 +141,7 @@ fn check_copied(types: u32, count: usize, numbers: &[u32], list: &[u64], payload
 pub fn check(types: u32, entries: &[Entry], list: &[u64], payload: &[u8]) -> Verdict
     ensures { λ r. ⌜ verdict r ≡ listCheck (record { types = types; entries = now (entries .entry) }) (now (payload .entry)) (recordsOf (now (list .entry))) ⌝ }
 {
-    let mut numbers: [u32; 1280] = [1; 1280];
+    let mut numbers: [u32; MOST_NUMBERS] = [1; MOST_NUMBERS];
     let count = copy(entries, &mut numbers);
     check_copied(types, count, &numbers, list, payload)
 }
@@ -145,7 +154,7 @@ fn size_copied(
     list: &[u64],
     payload: &[u8],
 ) -> write::Answer
-    requires { ⌜ 1280 ≤ length (now numbers) ⌝ }
+    requires { ⌜ mostNumbers ≤ length (now numbers) ⌝ }
     ensures { λ r. ⌜ r ≡ answer (sizing (schemaOf types (take (lentOf count) (now (numbers .entry)))) (now (payload .entry)) (recordsOf (now (list .entry)))) ⌝ }
 {
     let k = prefix(count);
@@ -156,7 +165,7 @@ fn size_copied(
 pub fn size(types: u32, entries: &[Entry], list: &[u64], payload: &[u8]) -> write::Answer
     ensures { λ r. ⌜ r ≡ answer (sizing (record { types = types; entries = now (entries .entry) }) (now (payload .entry)) (recordsOf (now (list .entry)))) ⌝ }
 {
-    let mut numbers: [u32; 1280] = [1; 1280];
+    let mut numbers: [u32; MOST_NUMBERS] = [1; MOST_NUMBERS];
     let count = copy(entries, &mut numbers);
     size_copied(types, count, &numbers, list, payload)
 }
@@ -170,7 +179,7 @@ fn write_copied(
     payload: &[u8],
     out: &mut [u8],
 ) -> write::Answer
-    requires { ⌜ 1280 ≤ length (now numbers) ⌝ }
+    requires { ⌜ mostNumbers ≤ length (now numbers) ⌝ }
     ensures { λ r. ⌜ (r ≡ answer (writing (schemaOf types (take (lentOf count) (now (numbers .entry)))) (length (now (out .entry))) (now (payload .entry)) (recordsOf (now (list .entry)))))
         × (now (out .exit) ≡ output (writing (schemaOf types (take (lentOf count) (now (numbers .entry)))) (length (now (out .entry))) (now (payload .entry)) (recordsOf (now (list .entry)))) (now (out .entry))) ⌝ }
 {
@@ -189,7 +198,7 @@ pub fn write(
     ensures { λ r. ⌜ (r ≡ answer (writing (record { types = types; entries = now (entries .entry) }) (length (now (out .entry))) (now (payload .entry)) (recordsOf (now (list .entry)))))
         × (now (out .exit) ≡ output (writing (record { types = types; entries = now (entries .entry) }) (length (now (out .entry))) (now (payload .entry)) (recordsOf (now (list .entry)))) (now (out .entry))) ⌝ }
 {
-    let mut numbers: [u32; 1280] = [1; 1280];
+    let mut numbers: [u32; MOST_NUMBERS] = [1; MOST_NUMBERS];
     let count = copy(entries, &mut numbers);
     write_copied(types, count, &numbers, list, payload, out)
 }
@@ -197,12 +206,12 @@ pub fn write(
 // Lends the first of these entries to `check`.
 fn lend_check(
     types: u32,
-    entries: [Entry; 257],
+    entries: [Entry; ONE_MORE],
     count: usize,
     list: &[u64],
     payload: &[u8],
 ) -> Verdict
-    requires { ⌜ count ≤ 257 ⌝ }
+    requires { ⌜ count ≤ oneMore ⌝ }
     ensures { λ r. ⌜ verdict r ≡ listCheck (record { types = types; entries = take count entries }) (now (payload .entry)) (recordsOf (now (list .entry))) ⌝ }
 {
     check(types, &entries[..count], list, payload)
@@ -211,12 +220,12 @@ fn lend_check(
 // Lends the first of these entries to `size`.
 fn lend_size(
     types: u32,
-    entries: [Entry; 257],
+    entries: [Entry; ONE_MORE],
     count: usize,
     list: &[u64],
     payload: &[u8],
 ) -> write::Answer
-    requires { ⌜ count ≤ 257 ⌝ }
+    requires { ⌜ count ≤ oneMore ⌝ }
     ensures { λ r. ⌜ r ≡ answer (sizing (record { types = types; entries = take count entries }) (now (payload .entry)) (recordsOf (now (list .entry)))) ⌝ }
 {
     size(types, &entries[..count], list, payload)
@@ -225,13 +234,13 @@ fn lend_size(
 // Lends the first of these entries to `write`.
 fn lend_write(
     types: u32,
-    entries: [Entry; 257],
+    entries: [Entry; ONE_MORE],
     count: usize,
     list: &[u64],
     payload: &[u8],
     out: &mut [u8],
 ) -> write::Answer
-    requires { ⌜ count ≤ 257 ⌝ }
+    requires { ⌜ count ≤ oneMore ⌝ }
     ensures { λ r. ⌜ (r ≡ answer (writing (record { types = types; entries = take count entries }) (length (now (out .entry))) (now (payload .entry)) (recordsOf (now (list .entry)))))
         × (now (out .exit) ≡ output (writing (record { types = types; entries = take count entries }) (length (now (out .entry))) (now (payload .entry)) (recordsOf (now (list .entry)))) (now (out .entry))) ⌝ }
 {
@@ -239,8 +248,14 @@ fn lend_write(
 }
 
 // Lends the first of these entries to `read`.
-fn lend_read(types: u32, entries: [Entry; 257], count: usize, s: &[u8], room: &mut [u64]) -> Answer
-    requires { ⌜ count ≤ 257 ⌝ }
+fn lend_read(
+    types: u32,
+    entries: [Entry; ONE_MORE],
+    count: usize,
+    s: &[u8],
+    room: &mut [u64],
+) -> Answer
+    requires { ⌜ count ≤ oneMore ⌝ }
     ensures { λ r. ⌜ (r .number ≡ number (reading (record { types = types; entries = take count entries }) (length (now (room .entry)) / stride) (now (s .entry))))
         × (r .place ≡ place (reading (record { types = types; entries = take count entries }) (length (now (room .entry)) / stride) (now (s .entry))))
         × (r .count ≡ length (listed (reading (record { types = types; entries = take count entries }) (length (now (room .entry)) / stride) (now (s .entry)))))
@@ -250,9 +265,9 @@ fn lend_read(types: u32, entries: [Entry; 257], count: usize, s: &[u8], room: &m
 }
 
 // Lends the first of these entries to `lookup`.
-fn lend_lookup(entries: [Entry; 257], count: usize, owner: u32, number: u32) -> Place
-    requires { ⌜ count ≤ 257 ⌝ }
-    ensures { λ r. ⌜ told r ≡ placeOf 0 (take count entries) owner number ⌝ }
+fn lend_lookup(entries: [Entry; ONE_MORE], count: usize, owner: u32, number: u32) -> Place
+    requires { ⌜ count ≤ oneMore ⌝ }
+    ensures { λ r. ⌜ entryPlace r ≡ placeOf 0 (take count entries) owner number ⌝ }
 {
     lookup(&entries[..count], owner, number)
 }
@@ -261,10 +276,10 @@ fn lend_lookup(entries: [Entry; 257], count: usize, owner: u32, number: u32) -> 
 
 // The entry of the five numbers from place i on.
 fn entry_at(numbers: &[u32], i: usize) -> Entry
-    requires { ⌜ i + 4 < length (now numbers) ⌝ }
+    requires { ⌜ i + childColumn < length (now numbers) ⌝ }
     ensures { λ r. ⌜ r ≡ entryAt (now (numbers .entry)) i ⌝ }
 {
-    let repeated = numbers[i + 3];
+    let repeated = numbers[i + columns::ENTRY_REPEATED];
     if 1 < repeated {
         return Entry {
             owner: 0,
@@ -276,16 +291,16 @@ fn entry_at(numbers: &[u32], i: usize) -> Entry
     }
     Entry {
         owner: numbers[i],
-        number: numbers[i + 1],
-        kind: numbers[i + 2],
+        number: numbers[i + columns::ENTRY_NUMBER],
+        kind: numbers[i + columns::ENTRY_KIND],
         repeated: repeated == 1,
-        child: numbers[i + 4],
+        child: numbers[i + columns::ENTRY_CHILD],
     }
 }
 
 // The first so many entries.
-fn entries_from(numbers: &[u32], count: usize) -> [Entry; 257]
-    requires { ⌜ (count ≤ 257) × (count * 5 ≤ length (now numbers)) ⌝ }
+fn entries_from(numbers: &[u32], count: usize) -> [Entry; ONE_MORE]
+    requires { ⌜ (count ≤ oneMore) × (count * entryStride ≤ length (now numbers)) ⌝ }
     ensures { λ r. ⌜ take count r ≡ entriesOf count (now (numbers .entry)) ⌝ }
 {
     let none = Entry {
@@ -295,26 +310,26 @@ fn entries_from(numbers: &[u32], count: usize) -> [Entry; 257]
         repeated: false,
         child: 0,
     };
-    let mut entries = [none; 257];
+    let mut entries = [none; ONE_MORE];
     let mut i: usize = 0;
     while i < count {
-        let e = entry_at(numbers, i * 5);
+        let e = entry_at(numbers, i * columns::ENTRY_STRIDE);
         entries[i] = e;
         i += 1;
     }
     entries
 }
 
-// How many entries are made of so many numbers: none where a rest is behind them, and of more than 257 the first 257, which are as bad.
+// How many entries are made of so many numbers: none where they are not whole entries, and of too many one more than a schema may have, which are as bad.
 fn entry_count(length: usize) -> usize
     ensures { λ r. ⌜ r ≡ countOf length ⌝ }
 {
-    if length % 5 != 0 {
+    if length % columns::ENTRY_STRIDE != 0 {
         return 0;
     }
-    let n = length / 5;
-    if 257 < n {
-        return 257;
+    let n = length / columns::ENTRY_STRIDE;
+    if ONE_MORE < n {
+        return ONE_MORE;
     }
     n
 }
@@ -322,7 +337,7 @@ fn entry_count(length: usize) -> usize
 fn type_count(types: u32, length: usize) -> u32
     ensures { λ r. ⌜ r ≡ typesOf types length ⌝ }
 {
-    if length % 5 != 0 {
+    if length % columns::ENTRY_STRIDE != 0 {
         return 0;
     }
     types
@@ -341,9 +356,9 @@ pub fn read_numbers(types: u32, numbers: &[u32], s: &[u8], room: &mut [u64]) -> 
     lend_read(known, entries, count, s, room)
 }
 
-// The place of the first entry of this owner and number, among the first 257.
+// The place of the first entry of this owner and number, among as many as `entry_count` says.
 pub fn lookup_numbers(numbers: &[u32], owner: u32, number: u32) -> Place
-    ensures { λ r. ⌜ told r ≡ placeOf 0 (firstEntries (now (numbers .entry))) owner number ⌝ }
+    ensures { λ r. ⌜ entryPlace r ≡ placeOf 0 (firstEntries (now (numbers .entry))) owner number ⌝ }
 {
     let count = entry_count(numbers.len());
     let entries = entries_from(numbers, count);

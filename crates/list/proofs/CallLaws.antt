@@ -5,6 +5,7 @@ use mathlib.Core.Path.{_≡_, refl, sym, ap, _∙_}
 use mathlib.Core.Option.{none, some}
 use mathlib.Core.List.{List, [], _∷_}
 use lib.ListN.{length, getD, replicate, length-replicate, getD-replicate}
+use Rattle.spec.specs.Names.{fixed32Wire, invalidSchema, mostTypes}
 use Rattle.spec.specs.Schema.{Schema, badSchema}
 use Rattle.spec.specs.Record.{Record}
 use Rattle.spec.specs.Writing as spec
@@ -12,11 +13,12 @@ use Rattle.spec.specs.Writing.{Fields, listFault, schemaFirst, listCheck}
 use Rattle.spec.specs.declared.Entry.{Entry}
 use Rattle.spec.proofs.VarintLaws.{lower-or-not}
 use Rattle.spec.proofs.SchemaLaws.{Good, good-entry, at, valid-count, valid-good}
+use Rattle.schema.specs.Layout.{infoLength, keyCount, ownerUnit, noKey}
 use Rattle.schema.specs.Tables.{soundOf, keysWith, infoWith}
 use Rattle.schema.proofs.MakingLaws.{wire-below}
 use Rattle.schema.proofs.StoredLaws.{keys-at, keys-else}
 use Rattle.schema.proofs.TableLaws.{sound-valid, made-says}
-use Rattle.list.specs.Told.{told}
+use Rattle.list.specs.Told.{asVerdict}
 use Rattle.list.specs.Checking.{Made}
 use Rattle.list.proofs.FitLaws.{type-known}
 use Rattle.list.specs.declared.Verdict.{Verdict}
@@ -26,12 +28,12 @@ use Rattle.list.specs.declared.Verdict.the-variants.{Fine, Faulty}
 
 -- every key is the largest number before they are made
 abbrev cleared : List ℕ
-cleared = replicate 256 (2 ^ 64 - 1)
+cleared = replicate keyCount noKey
 
-key-of-entry : (sch : Schema) → badSchema sch ≡ none → (i type t : ℕ) → i < 256 → type < 32 → t < 2 ^ 32
-    → getD (keysWith 0 (sch .entries) cleared) i 0 ≡ type * 2 ^ 32 + t → (1 ≤ t / 8) × (t % 8 ≤ 5)
+key-of-entry : (sch : Schema) → badSchema sch ≡ none → (i type t : ℕ) → i < keyCount → type < mostTypes → t < 2 ^ 32
+    → getD (keysWith 0 (sch .entries) cleared) i 0 ≡ type * ownerUnit + t → (1 ≤ t / 8) × (t % 8 ≤ fixed32Wire)
 key-of-entry sch valid i type t l few h e =
-    let long : length cleared ≡ 256 = length-replicate {A = ℕ} 256 (2 ^ 64 - 1) in
+    let long : length cleared ≡ keyCount = length-replicate {A = ℕ} keyCount noKey in
     lower-or-not i (length (sch .entries))
     (λ m.
     let g : Good (sch .types) (at sch i) = good-entry (sch .types) (at sch i) (valid-good sch valid i m) in
@@ -41,10 +43,10 @@ key-of-entry sch valid i type t l few h e =
     (omega (arith, k, w, g .number-from, g .number-to), omega (arith, k, w, v, g .number-from, g .number-to)))
     (λ m.
     let k = keys-else (sch .entries) cleared (valid-count sch valid) (omega arith) i m l in
-    absurd (omega (arith, k, getD-replicate 256 i (2 ^ 64 - 1) 0 l)))
+    absurd (omega (arith, k, getD-replicate keyCount i noKey 0 l)))
 
 pub tables-made : (sch : Schema) → badSchema sch ≡ none → (keys info info₀ : List ℕ) → keys ≡ keysWith 0 (soundOf sch) cleared → info ≡ infoWith 0 (soundOf sch) info₀
-    → 1024 ≤ length info₀ → Made sch keys info
+    → infoLength ≤ length info₀ → Made sch keys info
 tables-made sch valid keys info info₀ k i wide =
     let es = sound-valid sch valid in
     let keys-are : keys ≡ keysWith 0 (sch .entries) cleared = k ∙ ap (λ (x : List Entry). keysWith 0 x cleared) es in
@@ -58,7 +60,7 @@ tables-made sch valid keys info info₀ k i wide =
 -- ---- the answer
 
 module _ (sch : Schema) (payload : List ℕ) (rs : List Record) where
-  pub check-bad : {i : ℕ} → badSchema sch ≡ some i → spec.Faulty 9 i ≡ listCheck sch payload rs
+  pub check-bad : {i : ℕ} → badSchema sch ≡ some i → spec.Faulty invalidSchema i ≡ listCheck sch payload rs
   unfolding listCheck schemaFirst
   check-bad e = sym (rw e refl)
 
@@ -67,8 +69,8 @@ module _ (sch : Schema) (payload : List ℕ) (rs : List Record) where
   check-valid e = sym (rw e refl)
 
 -- any two answers to a call are equal
-pub one-answer : (v : spec.Verdict) (a b : Verdict) → told a ≡ v → told b ≡ v → a ≡ b
-unfolding told
+pub one-answer : (v : spec.Verdict) (a b : Verdict) → asVerdict a ≡ v → asVerdict b ≡ v → a ≡ b
+unfolding asVerdict
 one-answer v Fine Fine p q = refl
 one-answer v Fine (Faulty k i) p q = let z : _≡_ {A = ℕ} 0 1 = cc in absurd (omega arith)
 one-answer v (Faulty k i) Fine p q = let z : _≡_ {A = ℕ} 0 1 = cc in absurd (omega arith)

@@ -8,10 +8,11 @@ use mathlib.Core.List.{List, [], _∷_}
 use lib.ListN.{length, drop, getD, length-drop, drop-of-length-le}
 use lib.Dec.{eqb}
 use borrow.Author.Tests.{eq-eqb, eqb-true}
+use Rattle.spec.specs.Names.{invalidList, kindColumn, numberColumn, valueColumn}
 use Rattle.spec.specs.Base.{if_then_else_}
 use Rattle.spec.specs.Kind.{Scalar, one, shape, fits}
 use Rattle.spec.specs.Schema.{Schema}
-use Rattle.spec.specs.Record.{Record, broken, recordsOf}
+use Rattle.spec.specs.Record.{Record, broken, recordsOf, stride}
 use Rattle.spec.specs.Writing.{Place, Elements, around, inside, expected, recordFault, listFault}
 use Rattle.spec.proofs.Laws.{by-test, both, both-true}
 use Rattle.spec.proofs.VarintLaws.{lower-or-not}
@@ -30,37 +31,37 @@ recordsFrom list at = recordsOf (drop at list)
 pub records-end : (list : List ℕ) (at : ℕ) → length list ≤ at → recordsFrom list at ≡ []
 records-end list at h = ap recordsOf (drop-of-length-le list {i = at} h) ∙ records-nil
 
-pub records-rest : (list : List ℕ) (at : ℕ) → at < length list → length list < at + 6 → recordsFrom list at ≡ broken ∷ []
+pub records-rest : (list : List ℕ) (at : ℕ) → at < length list → length list < at + stride → recordsFrom list at ≡ broken ∷ []
 records-rest list at h l = records-broken (drop at list) (omega (arith, length-drop at list)) (omega (arith, length-drop at list))
 
 -- What the elements from `from` on come to is what those from `at` on come to.
 pub record Ahead (list : List ℕ) (from depth number kind at : ℕ) : Type 0 where
   pub on : from ≤ at
   pub inside : at ≤ length list
-  pub whole : at % 6 ≡ 0
+  pub whole : at % stride ≡ 0
   pub same : (sch : Schema) (payload : List ℕ) (out : List Place) (c : Scalar) → length out ≡ depth → shape kind ≡ one c
-      → listFault sch payload (from / 6) (Elements number kind ∷ out) (recordsFrom list from)
-      ≡ listFault sch payload (at / 6) (Elements number kind ∷ out) (recordsFrom list at)
+      → listFault sch payload (from / stride) (Elements number kind ∷ out) (recordsFrom list from)
+      ≡ listFault sch payload (at / stride) (Elements number kind ∷ out) (recordsFrom list at)
 
-pub ahead : (list : List ℕ) (from depth number kind : ℕ) → from ≤ length list → from % 6 ≡ 0 → Ahead list from depth number kind from
+pub ahead : (list : List ℕ) (from depth number kind : ℕ) → from ≤ length list → from % stride ≡ 0 → Ahead list from depth number kind from
 ahead list from depth number kind h w = record { on = omega arith; inside = h; whole = w; same = λ sch payload out c d s. refl }
 
 module _ {list : List ℕ} {from depth number kind at : ℕ} (h : Ahead list from depth number kind at) where
   -- they end, at the end of the list or in a rest that is no record
-  pub elements-end : length list - at < 6 → Elapsed list from depth number kind (To at)
+  pub elements-end : length list - at < stride → Elapsed list from depth number kind (To at)
   elements-end l =
       passed (h .on) (h .inside) (h .whole)
       (λ sch payload out c d pos s. h .same sch payload out c d s
       ∙ lower-or-not at (length list)
       (λ t. let e = records-rest list at t (omega arith) in
-      ap (listFault sch payload (at / 6) (Elements number kind ∷ out)) e ∙ popped sch payload (at / 6) (Elements number kind) out broken [] (λ z. omega arith)
-      ∙ sym (ap (listFault sch payload (at / 6) out) e))
+      ap (listFault sch payload (at / stride) (Elements number kind ∷ out)) e ∙ popped sch payload (at / stride) (Elements number kind) out broken [] (λ z. omega arith)
+      ∙ sym (ap (listFault sch payload (at / stride) out) e))
       (λ t. let e = records-end list at t in
-      ap (listFault sch payload (at / 6) (Elements number kind ∷ out)) e ∙ none-left sch payload (at / 6) (Elements number kind ∷ out)
-      ∙ sym (ap (listFault sch payload (at / 6) out) e ∙ none-left sch payload (at / 6) out)))
+      ap (listFault sch payload (at / stride) (Elements number kind ∷ out)) e ∙ none-left sch payload (at / stride) (Elements number kind ∷ out)
+      ∙ sym (ap (listFault sch payload (at / stride) out) e ∙ none-left sch payload (at / stride) out)))
 
-  module _ (l : 6 ≤ length list - at) where
-    split : recordsFrom list at ≡ rowAt list at ∷ recordsFrom list (at + 6)
+  module _ (l : stride ≤ length list - at) where
+    split : recordsFrom list at ≡ rowAt list at ∷ recordsFrom list (at + stride)
     split = records-at list at (omega (arith, h .inside))
 
     -- or at a record that is none
@@ -68,9 +69,9 @@ module _ {list : List ℕ} {from depth number kind at : ℕ} (h : Ahead list fro
     elements-left n =
         passed (h .on) (h .inside) (h .whole)
         (λ sch payload out c d pos s. h .same sch payload out c d s
-        ∙ ap (listFault sch payload (at / 6) (Elements number kind ∷ out)) split
-        ∙ popped sch payload (at / 6) (Elements number kind) out (rowAt list at) (recordsFrom list (at + 6)) (λ e. n (e ∙ d))
-        ∙ sym (ap (listFault sch payload (at / 6) out) split))
+        ∙ ap (listFault sch payload (at / stride) (Elements number kind ∷ out)) split
+        ∙ popped sch payload (at / stride) (Elements number kind) out (rowAt list at) (recordsFrom list (at + stride)) (λ e. n (e ∙ d))
+        ∙ sym (ap (listFault sch payload (at / stride) out) split))
 
     module _ (is : getD list at 0 ≡ depth) where
       stands : (sch : Schema) (payload : List ℕ) (out : List Place) → length out ≡ depth
@@ -78,53 +79,53 @@ module _ {list : List ℕ} {from depth number kind at : ℕ} (h : Ahead list fro
       stands sch payload out d = around-here sch payload (Elements number kind) out (getD list at 0) (is ∙ sym d)
 
       bad : ((sch : Schema) (payload : List ℕ) (out : List Place) (c : Scalar) → shape kind ≡ one c
-          → recordFault sch payload (Elements number kind ∷ out) (rowAt list at) (recordsFrom list (at + 6)) ≡ 10)
+          → recordFault sch payload (Elements number kind ∷ out) (rowAt list at) (recordsFrom list (at + stride)) ≡ invalidList)
           → Elapsed list from depth number kind (Bad at)
       bad f =
           faulty (λ sch payload out c d pos s. h .same sch payload out c d s
-          ∙ ap (listFault sch payload (at / 6) (Elements number kind ∷ out)) split
-          ∙ first-bad sch payload (at / 6) (Elements number kind ∷ out) (Elements number kind ∷ out) (rowAt list at) (recordsFrom list (at + 6))
+          ∙ ap (listFault sch payload (at / stride) (Elements number kind ∷ out)) split
+          ∙ first-bad sch payload (at / stride) (Elements number kind ∷ out) (Elements number kind ∷ out) (rowAt list at) (recordsFrom list (at + stride))
           (stands sch payload out d) (λ e. omega arith) (f sch payload out c s))
 
-      unexpected : (sch : Schema) → (getD list (at + 1) 0 ≡ number → getD list (at + 2) 0 ≡ kind → ⊥) → expected sch (Elements number kind) (rowAt list at) ≡ false
+      unexpected : (sch : Schema) → (getD list (at + numberColumn) 0 ≡ number → getD list (at + kindColumn) 0 ≡ kind → ⊥) → expected sch (Elements number kind) (rowAt list at) ≡ false
       unfolding expected
       unexpected sch n =
           by-test (expected sch (Elements number kind) (rowAt list at))
-          (λ p. let b = both (eqb (getD list (at + 1) 0) number) (eqb (getD list (at + 2) 0) kind) p in
-          absurd (n (eqb-true (getD list (at + 1) 0) number (b .0)) (eqb-true (getD list (at + 2) 0) kind (b .1))))
+          (λ p. let b = both (eqb (getD list (at + numberColumn) 0) number) (eqb (getD list (at + kindColumn) 0) kind) p in
+          absurd (n (eqb-true (getD list (at + numberColumn) 0) number (b .0)) (eqb-true (getD list (at + kindColumn) 0) kind (b .1))))
           (λ p. p)
 
       -- of another number or kind, it has a fault
-      pub elements-other : (getD list (at + 1) 0 ≡ number → getD list (at + 2) 0 ≡ kind → ⊥) → Elapsed list from depth number kind (Bad at)
+      pub elements-other : (getD list (at + numberColumn) 0 ≡ number → getD list (at + kindColumn) 0 ≡ kind → ⊥) → Elapsed list from depth number kind (Bad at)
       elements-other n =
-          bad (λ sch payload out c s. fault-other sch payload (Elements number kind) out (rowAt list at) (recordsFrom list (at + 6)) (unexpected sch n))
+          bad (λ sch payload out c s. fault-other sch payload (Elements number kind) out (rowAt list at) (recordsFrom list (at + stride)) (unexpected sch n))
 
-      module _ (num : getD list (at + 1) 0 ≡ number) (kin : getD list (at + 2) 0 ≡ kind) {b : Bool}
-          (value : (c : Scalar) → shape kind ≡ one c → b ≡ fits c (getD list (at + 3) 0)) where
+      module _ (num : getD list (at + numberColumn) 0 ≡ number) (kin : getD list (at + kindColumn) 0 ≡ kind) {b : Bool}
+          (value : (c : Scalar) → shape kind ≡ one c → b ≡ fits c (getD list (at + valueColumn) 0)) where
         fault-is : (sch : Schema) (payload : List ℕ) (out : List Place) (c : Scalar) → shape kind ≡ one c
-            → recordFault sch payload (Elements number kind ∷ out) (rowAt list at) (recordsFrom list (at + 6)) ≡ (if b then 0 else 10)
+            → recordFault sch payload (Elements number kind ∷ out) (rowAt list at) (recordsFrom list (at + stride)) ≡ (if b then 0 else invalidList)
         unfolding expected
         fault-is sch payload out c s =
-            fault-rest sch payload (Elements number kind) out (rowAt list at) (recordsFrom list (at + 6))
-            (both-true (eq-eqb (getD list (at + 1) 0) number num) (eq-eqb (getD list (at + 2) 0) kind kin))
-            ∙ rest-number payload (rowAt list at) (recordsFrom list (at + 6)) c (ap shape kin ∙ s)
-            ∙ sym (ap (λ (x : Bool). if x then 0 else 10) (value c s))
+            fault-rest sch payload (Elements number kind) out (rowAt list at) (recordsFrom list (at + stride))
+            (both-true (eq-eqb (getD list (at + numberColumn) 0) number num) (eq-eqb (getD list (at + kindColumn) 0) kind kin))
+            ∙ rest-number payload (rowAt list at) (recordsFrom list (at + stride)) c (ap shape kin ∙ s)
+            ∙ sym (ap (λ (x : Bool). if x then 0 else invalidList) (value c s))
 
         pub elements-value : b ≡ false → Elapsed list from depth number kind (Bad at)
-        elements-value e = bad (λ sch payload out c s. fault-is sch payload out c s ∙ ap (λ (x : Bool). if x then 0 else 10) e)
+        elements-value e = bad (λ sch payload out c s. fault-is sch payload out c s ∙ ap (λ (x : Bool). if x then 0 else invalidList) e)
 
         -- and else it is passed
-        pub elements-turn : b ≡ true → Ahead list from depth number kind (at + 6)
+        pub elements-turn : b ≡ true → Ahead list from depth number kind (at + stride)
         unfolding inside
         elements-turn e = record {
           on = omega (arith, h .on);
           inside = omega (arith, h .inside);
           whole = omega (arith, h .whole);
           same = λ sch payload out c d s.
-              let next : at / 6 + 1 ≡ (at + 6) / 6 = omega arith in
+              let next : at / stride + 1 ≡ (at + stride) / stride = omega arith in
               h .same sch payload out c d s
-              ∙ ap (listFault sch payload (at / 6) (Elements number kind ∷ out)) split
-              ∙ first-good sch payload (at / 6) (Elements number kind ∷ out) (Elements number kind ∷ out) (rowAt list at) (recordsFrom list (at + 6))
-              (stands sch payload out d) (fault-is sch payload out c s ∙ ap (λ (x : Bool). if x then 0 else 10) e)
-              ∙ ap (λ (i : ℕ). listFault sch payload i (Elements number kind ∷ out) (recordsFrom list (at + 6))) next;
+              ∙ ap (listFault sch payload (at / stride) (Elements number kind ∷ out)) split
+              ∙ first-good sch payload (at / stride) (Elements number kind ∷ out) (Elements number kind ∷ out) (rowAt list at) (recordsFrom list (at + stride))
+              (stands sch payload out d) (fault-is sch payload out c s ∙ ap (λ (x : Bool). if x then 0 else invalidList) e)
+              ∙ ap (λ (i : ℕ). listFault sch payload i (Elements number kind ∷ out) (recordsFrom list (at + stride))) next;
         }

@@ -9,6 +9,7 @@ use mathlib.Core.List.{List, [], _∷_}
 use lib.ListN.{length, drop, getD, set}
 use lib.Seq.{getD-set-same, getD-set-other}
 use borrow.Author.Tests.{le-ltb}
+use Rattle.spec.specs.Names.{invalidList}
 use Rattle.spec.specs.Base.{if_then_else_}
 use Rattle.spec.specs.Schema.{Schema}
 use Rattle.spec.specs.Record.{Record}
@@ -84,7 +85,7 @@ module _ (sch : Schema) (payload : List ℕ) where
         go (suc k) n = refl
 
   -- it stands too deep
-  pub first-deep : (i : ℕ) (opened : List Place) (r : Record) (rs : List Record) → length opened ≤ r .depth → listFault sch payload i opened (r ∷ rs) ≡ Faulty 10 i
+  pub first-deep : (i : ℕ) (opened : List Place) (r : Record) (rs : List Record) → length opened ≤ r .depth → listFault sch payload i opened (r ∷ rs) ≡ Faulty invalidList i
   unfolding recordFault
   first-deep i opened r rs h = first-bad i opened [] r rs (around-deep opened (r .depth) h) (λ e. omega arith) refl
 

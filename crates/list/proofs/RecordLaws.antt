@@ -1,6 +1,6 @@
 -- Laws of one record in its place: what the tables say of its number and kind, and the fault of a record whose number and kind are as expected.
 -- Assumes nothing.
-use Prim.Native.Nat.{ℕ, _+_, _-_, _*_, _/_, _%_, _^_, _≤_, _<_}
+use Prim.Native.Nat.{ℕ, _+_, _-_, _*_, _/_, _%_, _≤_, _<_}
 use native.Mathlib.Omega.{arith}
 use mathlib.Core.Path.{_≡_, refl, sym, ap, ap₂, _∙_, subst}
 use mathlib.Core.Logic.{_≢_}
@@ -9,19 +9,21 @@ use mathlib.Core.List.{List, [], _∷_}
 use lib.ListN.{length, drop, getD, length-drop, drop-of-length-le}
 use lib.Dec.{leb, eqb}
 use borrow.Author.Tests.{le-leb, lt-leb, eq-eqb, ne-eqb, leb-true, leb-false, eqb-true}
+use Rattle.spec.specs.Names.{fixed32Wire, invalidList, largestNumber, messageKind, mostLevels, notUtf8, packedHead, stringKind, tooDeep, delimitedWire, kindColumn, mostTypes, noWire, recordKinds, startColumn, stopColumn, unknownFixed32, valueColumn}
 use Rattle.spec.specs.Base.{if_then_else_, between, part}
 use Rattle.spec.specs.Utf8.{utf8}
 use Rattle.spec.specs.Kind.{Scalar, Shape, one, other, nothing, shapes, shape, isScalar, wire, fits}
 use Rattle.spec.specs.Schema.{Schema, lookup, kindOf, Says, insideOf, saysOf, says}
-use Rattle.spec.specs.Record.{Record, recordsOf}
+use Rattle.spec.specs.Record.{Record, recordsOf, stride}
 use Rattle.spec.specs.Writing.{Place, Fields, recorded, expected, lies, fitting, nextDeeper, recordFault}
 use Rattle.spec.specs.declared.Entry.{Entry}
 use Rattle.spec.proofs.Laws.{both, both-true, by-test}
 use Rattle.spec.proofs.VarintLaws.{lower-or-not}
 use Rattle.spec.proofs.FlatLaws.{records-nil, records-broken}
-use Rattle.spec.proofs.ListLaws.{kind-11, kind-20}
+use Rattle.spec.proofs.ListLaws.{is-message-kind, is-packed-head}
 use Rattle.spec.proofs.RunLaws.{records-at}
 use Rattle.spec.proofs.SchemaLaws.{valid-types}
+use Rattle.schema.specs.Layout.{guesses, innersAt, keyCount, kindsAt, ownerUnit}
 use Rattle.schema.specs.Tables.{tableSays}
 use Rattle.schema.proofs.AskingLaws.{says-guessed}
 use Rattle.schema.proofs.TableLaws.{said-message, said-packed}
@@ -33,7 +35,7 @@ use Rattle.list.proofs.FitLaws.{type-small, type-recorded, recorded-sma
 -- what is expected of them in a message of this type
 pub record Expects (sch : Schema) (type number kind : ℕ) : Type 0 where
   pub low : 1 ≤ number
-  pub high : number ≤ 536870911
+  pub high : number ≤ largestNumber
   pub given : recorded (wire kind) ≡ true
   pub reads : kind ≡ kindOf (lookup (sch .entries) type number) (wire kind)
 
@@ -41,15 +43,15 @@ module _ (sch : Schema) (type number kind : ℕ) where
   pub expects : expected sch (Fields type) (named number kind) ≡ true → Expects sch type number kind
   unfolding expected
   expects e =
-      let a = both (between 1 536870911 number && recorded (wire kind)) _ e in
-      let b = both (between 1 536870911 number) (recorded (wire kind)) (a .0) in
-      let d = both (leb 1 number) (leb number 536870911) (b .0) in
-      record { low = leb-true 1 number (d .0); high = leb-true number 536870911 (d .1); given = b .1; reads = eqb-true kind _ (a .1) }
+      let a = both (between 1 largestNumber number && recorded (wire kind)) _ e in
+      let b = both (between 1 largestNumber number) (recorded (wire kind)) (a .0) in
+      let d = both (leb 1 number) (leb number largestNumber) (b .0) in
+      record { low = leb-true 1 number (d .0); high = leb-true number largestNumber (d .1); given = b .1; reads = eqb-true kind _ (a .1) }
 
   is-expected : Expects sch type number kind → expected sch (Fields type) (named number kind) ≡ true
   unfolding expected
   is-expected x =
-      both-true (both-true (both-true (le-leb 1 number (x .low)) (le-leb number 536870911 (x .high))) (x .given))
+      both-true (both-true (both-true (le-leb 1 number (x .low)) (le-leb number largestNumber (x .high))) (x .given))
       (eq-eqb kind (kindOf (lookup (sch .entries) type number) (wire kind)) (x .reads))
 
   unexpected : (Expects sch type number kind → ⊥) → expected sch (Fields type) (named number kind) ≡ false
@@ -58,22 +60,22 @@ module _ (sch : Schema) (type number kind : ℕ) where
   pub no-number : number ≡ 0 → expected sch (Fields type) (named number kind) ≡ false
   no-number e = unexpected (λ x. omega (arith, x .low))
 
-  pub large-number : 536870911 < number → expected sch (Fields type) (named number kind) ≡ false
+  pub large-number : largestNumber < number → expected sch (Fields type) (named number kind) ≡ false
   large-number l = unexpected (λ x. omega (arith, x .high))
 
-  pub no-type : 5 < wire kind → expected sch (Fields type) (named number kind) ≡ false
+  pub no-type : fixed32Wire < wire kind → expected sch (Fields type) (named number kind) ≡ false
   no-type l = unexpected (λ x. omega (arith, recorded-small (wire kind) (x .given)))
 
-  pub unknown-kind : 24 < kind → expected sch (Fields type) (named number kind) ≡ false
+  pub unknown-kind : unknownFixed32 < kind → expected sch (Fields type) (named number kind) ≡ false
   unknown-kind l = unexpected (λ x. no-record kind l (x .given))
 
 -- the tag of a number and kind
 abbrev tagOf : (number kind : ℕ) → ℕ
 tagOf number kind = number * 8 + wire kind
 
-module _ {sch : Schema} {keys info : List ℕ} (m : Made sch keys info) {type number kind : ℕ} (few : type < 32) where
+module _ {sch : Schema} {keys info : List ℕ} (m : Made sch keys info) {type number kind : ℕ} (few : type < mostTypes) where
   -- what the tables say of it
-  module _ (low : 1 ≤ number) (high : number ≤ 536870911) (small : kind < 25) (typed : wire kind ≤ 5) where
+  module _ (low : 1 ≤ number) (high : number ≤ largestNumber) (small : kind < recordKinds) (typed : wire kind ≤ fixed32Wire) where
     entry : Entry
     entry = lookup (sch .entries) type number
 
@@ -92,8 +94,8 @@ module _ {sch : Schema} {keys info : List ℕ} (m : Made sch keys info) {type nu
     said-other n = unexpected sch type number kind (λ x. n (ap (λ (s : Says). s .kind) (table-says ∙ same-says) ∙ sym (x .reads)))
 
     pub said-so : {inner : ℕ} → tableSays keys info type (tagOf number kind) .kind ≡ kind
-        → (kind ≡ 11 → inner ≡ tableSays keys info type (tagOf number kind) .inner)
-        → (kind ≡ 20 → inner ≡ tableSays keys info type (tagOf number kind) .inner)
+        → (kind ≡ messageKind → inner ≡ tableSays keys info type (tagOf number kind) .inner)
+        → (kind ≡ packedHead → inner ≡ tableSays keys info type (tagOf number kind) .inner)
         → Suits sch type number kind inner
     unfolding saysOf entry
     said-so {inner} is a b =
@@ -106,7 +108,7 @@ module _ {sch : Schema} {keys info : List ℕ} (m : Made sch keys info) {type nu
           is = is-expected sch type number kind (record { low = low; high = high; given = type-recorded kind small typed; reads = kinds });
           fields = λ e. (
             a e ∙ inners ∙ ap (λ (k : ℕ). insideOf k entry) e,
-            subst (λ (x : ℕ). x < 32) (same-inner ∙ sym (a e))
+            subst (λ (x : ℕ). x < mostTypes) (same-inner ∙ sym (a e))
                 (omega (arith, said-message sch (m .valid) type (tagOf number kind) (omega arith) (own ∙ e), valid-types sch (m .valid) .1)),
           );
           elements = λ e. (
@@ -128,45 +130,45 @@ module _ {sch : Schema} {keys info : List ℕ} (m : Made sch keys info) {type nu
           said-so (sym (ap (λ (x : Says). x .kind) answer) ∙ e) (λ k. ap (λ (x : Says). x .inner) answer) (λ k. ap (λ (x : Says). x .inner) answer)
 
   -- the guess at its entry, where the keys say that it is right
-  module _ {i w : ℕ} (at : i ≡ getD info (type % 32 * 16 + number) 0) (one-of : i < 256) (low : number < 16) (small : kind < 25) (is : w ≡ wire kind)
-      (key : getD keys i 0 ≡ type * 2 ^ 32 + number * 8 + w) where
-    keyed : (1 ≤ number) × (wire kind ≤ 5)
+  module _ {i w : ℕ} (at : i ≡ getD info (type % mostTypes * guesses + number) 0) (one-of : i < keyCount) (low : number < guesses) (small : kind < recordKinds) (is : w ≡ wire kind)
+      (key : getD keys i 0 ≡ type * ownerUnit + number * 8 + w) where
+    keyed : (1 ≤ number) × (wire kind ≤ fixed32Wire)
     keyed =
-        let most : wire kind ≤ 7 = type-small kind small in
+        let most : wire kind ≤ noWire = type-small kind small in
         let k = m .keyed i type (tagOf number kind) one-of few (omega arith) (omega arith) in
         (omega (arith, k .0), omega (arith, k .1))
 
-    guess-says : tableSays keys info type (tagOf number kind) ≡ record { kind = getD info (512 + i) 0; inner = if eqb (getD info (512 + i) 0) 11 then getD info (768 + i) 0 else 0 }
+    guess-says : tableSays keys info type (tagOf number kind) ≡ record { kind = getD info (kindsAt + i) 0; inner = if eqb (getD info (kindsAt + i) 0) messageKind then getD info (innersAt + i) 0 else 0 }
     guess-says =
-        let most : wire kind ≤ 7 = type-small kind small in
-        let place : type * 16 + tagOf number kind / 8 ≡ type % 32 * 16 + number = omega arith in
-        let there : getD info (type * 16 + tagOf number kind / 8) 0 ≡ i = ap (λ (j : ℕ). getD info j 0) place ∙ sym at in
-        let right : getD keys (getD info (type * 16 + tagOf number kind / 8) 0) 0 ≡ type * 2 ^ 32 + tagOf number kind = ap (λ (j : ℕ). getD keys j 0) there ∙ key ∙ omega arith in
-        subst (λ (j : ℕ). tableSays keys info type (tagOf number kind) ≡ record { kind = getD info (512 + j) 0; inner = if eqb (getD info (512 + j) 0) 11 then getD info (768 + j) 0 else 0 })
+        let most : wire kind ≤ noWire = type-small kind small in
+        let place : type * guesses + tagOf number kind / 8 ≡ type % mostTypes * guesses + number = omega arith in
+        let there : getD info (type * guesses + tagOf number kind / 8) 0 ≡ i = ap (λ (j : ℕ). getD info j 0) place ∙ sym at in
+        let right : getD keys (getD info (type * guesses + tagOf number kind / 8) 0) 0 ≡ type * ownerUnit + tagOf number kind = ap (λ (j : ℕ). getD keys j 0) there ∙ key ∙ omega arith in
+        subst (λ (j : ℕ). tableSays keys info type (tagOf number kind) ≡ record { kind = getD info (kindsAt + j) 0; inner = if eqb (getD info (kindsAt + j) 0) messageKind then getD info (innersAt + j) 0 else 0 })
         there (says-guessed keys info type (tagOf number kind) (omega arith, few, right) (omega arith))
 
-    guess-kind : tableSays keys info type (tagOf number kind) .kind ≡ getD info (512 + i) 0
+    guess-kind : tableSays keys info type (tagOf number kind) .kind ≡ getD info (kindsAt + i) 0
     guess-kind = ap (λ (s : Says). s .kind) guess-says
 
-    guess-inner : tableSays keys info type (tagOf number kind) .inner ≡ (if eqb (getD info (512 + i) 0) 11 then getD info (768 + i) 0 else 0)
+    guess-inner : tableSays keys info type (tagOf number kind) .inner ≡ (if eqb (getD info (kindsAt + i) 0) messageKind then getD info (innersAt + i) 0 else 0)
     guess-inner = ap (λ (s : Says). s .inner) guess-says
 
-    pub guess-other : getD info (512 + i) 0 ≢ kind → expected sch (Fields type) (named number kind) ≡ false
+    pub guess-other : getD info (kindsAt + i) 0 ≢ kind → expected sch (Fields type) (named number kind) ≡ false
     guess-other n = said-other (keyed .0) (omega arith) small (keyed .1) (λ e. n (sym guess-kind ∙ e))
 
     -- no entry has the kind of a packed head
-    no-packed : kind ≡ 20 → getD info (512 + i) 0 ≡ kind → ⊥
+    no-packed : kind ≡ packedHead → getD info (kindsAt + i) 0 ≡ kind → ⊥
     unfolding shape shapes
     no-packed e k =
         let found = table-says (keyed .0) (omega arith) small (keyed .1) in
         let none-in : says sch type (tagOf number kind) .inner ≡ 0 =
         sym (ap (λ (s : Says). s .inner) found) ∙ guess-inner ∙ rw (k ∙ e) refl in
-        let kinds : says sch type (tagOf number kind) .kind ≡ 20 = sym (ap (λ (s : Says). s .kind) found) ∙ guess-kind ∙ k ∙ e in
+        let kinds : says sch type (tagOf number kind) .kind ≡ packedHead = sym (ap (λ (s : Says). s .kind) found) ∙ guess-kind ∙ k ∙ e in
         let p = said-packed sch (m .valid) type (tagOf number kind) (omega (arith, keyed .1)) kinds in
         let bad : _≡_ {A = Shape} (other nothing) (one (p .0)) = sym (ap shape none-in) ∙ p .1 in
         let z : _≡_ {A = ℕ} 0 1 = cc in omega arith
 
-    pub guess-so : getD info (512 + i) 0 ≡ kind → Suits sch type number kind (getD info (768 + i) 0)
+    pub guess-so : getD info (kindsAt + i) 0 ≡ kind → Suits sch type number kind (getD info (innersAt + i) 0)
     guess-so k =
         said-so (keyed .0) (omega arith) small (keyed .1) (guess-kind ∙ k)
         (λ e. sym (guess-inner ∙ rw (k ∙ e) refl))
@@ -175,7 +177,7 @@ module _ {sch : Schema} {keys info : List ℕ} (m : Made sch keys info) {type nu
 -- ---- the fault of a record whose number and kind are as expected
 
 module _ (sch : Schema) (payload : List ℕ) (here : Place) (out : List Place) (r : Record) (rs : List Record) where
-  pub fault-other : expected sch here r ≡ false → recordFault sch payload (here ∷ out) r rs ≡ 10
+  pub fault-other : expected sch here r ≡ false → recordFault sch payload (here ∷ out) r rs ≡ invalidList
   unfolding recordFault
   fault-other e = rw e refl
 
@@ -190,63 +192,63 @@ module _ (payload : List ℕ) (r : Record) (rs : List Record) where
     unfolding isScalar
     no-special k n = ne-eqb (r .kind) k (λ e. false≢true (sym n ∙ ap isScalar (sym (ap shape e) ∙ is)))
 
-    pub rest-number : restFault payload r rs ≡ (if fits c (r .value) then 0 else 10)
+    pub rest-number : restFault payload r rs ≡ (if fits c (r .value) then 0 else invalidList)
     unfolding restFault fitting shape shapes isScalar
-    rest-number = rw (no-special 20 refl, no-special 11 refl, no-special 9 refl) (ap (λ (x : Shape). if not (fitting x payload r) then 10 else 0) is ∙ go (fits c (r .value)))
+    rest-number = rw (no-special packedHead refl, no-special messageKind refl, no-special stringKind refl) (ap (λ (x : Shape). if not (fitting x payload r) then invalidList else 0) is ∙ go (fits c (r .value)))
       where
-        go : (b : Bool) → _≡_ {A = ℕ} (if not b then 10 else 0) (if b then 0 else 10)
+        go : (b : Bool) → _≡_ {A = ℕ} (if not b then invalidList else 0) (if b then 0 else invalidList)
         go true = refl
         go false = refl
 
   -- of wire type 2: the value is 0
-  rest-value : wire (r .kind) ≡ 2 → r .value ≢ 0 → 10 ≡ restFault payload r rs
+  rest-value : wire (r .kind) ≡ delimitedWire → r .value ≢ 0 → invalidList ≡ restFault payload r rs
   unfolding restFault fitting
   rest-value w n = go (delimited (r .kind) w) refl
     where
       no-zero : eqb (r .value) 0 ≡ false
       no-zero = ne-eqb (r .value) 0 n
 
-      fails : {x : Shape} → shape (r .kind) ≡ x → fitting x payload r ≡ false → 10 ≡ restFault payload r rs
+      fails : {x : Shape} → shape (r .kind) ≡ x → fitting x payload r ≡ false → invalidList ≡ restFault payload r rs
       fails e f = sym (rw (ap (λ (y : Shape). fitting y payload r) e ∙ f) refl)
 
-      go : {x : Shape} → Delimited x → shape (r .kind) ≡ x → 10 ≡ restFault payload r rs
+      go : {x : Shape} → Delimited x → shape (r .kind) ≡ x → invalidList ≡ restFault payload r rs
       go a-string e = fails e (rw no-zero refl)
       go a-content e = fails e (rw no-zero refl)
       go a-message e = fails e no-zero
       go a-packed e = fails e no-zero
 
-  -- a message without fault stands below depth 100
-  pub rest-low : r .kind ≡ 11 → restFault payload r rs ≡ 0 → r .depth < 100
+  -- a message without fault stands below depth `mostLevels`
+  pub rest-low : r .kind ≡ messageKind → restFault payload r rs ≡ 0 → r .depth < mostLevels
   unfolding restFault fitting shape shapes
   rest-low k e =
       by-test (eqb (r .value) 0)
-      (λ v. by-test (leb 100 (r .depth)) (λ d. let z : _≡_ {A = ℕ} 7 0 = rw (k, v, d) at e in absurd (omega arith)) (λ d. leb-false 100 (r .depth) d))
-      (λ v. let z : _≡_ {A = ℕ} 10 0 = rw (k, v) at e in absurd (omega arith))
+      (λ v. by-test (leb mostLevels (r .depth)) (λ d. let z : _≡_ {A = ℕ} tooDeep 0 = rw (k, v, d) at e in absurd (omega arith)) (λ d. leb-false mostLevels (r .depth) d))
+      (λ v. let z : _≡_ {A = ℕ} invalidList 0 = rw (k, v) at e in absurd (omega arith))
 
   module _ (none-there : r .value ≡ 0) where
-    rest-message : r .kind ≡ 11 → restFault payload r rs ≡ (if leb 100 (r .depth) then 7 else 0)
+    rest-message : r .kind ≡ messageKind → restFault payload r rs ≡ (if leb mostLevels (r .depth) then tooDeep else 0)
     unfolding restFault fitting shape shapes
     rest-message e = rw (e, none-there) refl
 
-    rest-deep : r .kind ≡ 11 → 100 ≤ r .depth → 7 ≡ restFault payload r rs
-    rest-deep e l = sym (rest-message e ∙ rw (le-leb 100 (r .depth) l) refl)
+    rest-deep : r .kind ≡ messageKind → mostLevels ≤ r .depth → tooDeep ≡ restFault payload r rs
+    rest-deep e l = sym (rest-message e ∙ rw (le-leb mostLevels (r .depth) l) refl)
 
-    rest-shallow : r .kind ≡ 11 → r .depth < 100 → 0 ≡ restFault payload r rs
-    rest-shallow e l = sym (rest-message e ∙ rw (lt-leb 100 (r .depth) l) refl)
+    rest-shallow : r .kind ≡ messageKind → r .depth < mostLevels → 0 ≡ restFault payload r rs
+    rest-shallow e l = sym (rest-message e ∙ rw (lt-leb mostLevels (r .depth) l) refl)
 
-    rest-packed : r .kind ≡ 20 → (if nextDeeper r rs then 0 else 10) ≡ restFault payload r rs
+    rest-packed : r .kind ≡ packedHead → (if nextDeeper r rs then 0 else invalidList) ≡ restFault payload r rs
     unfolding restFault fitting shape shapes
     rest-packed e = go rs
       where
-        turned : (b : Bool) → _≡_ {A = ℕ} (if not b then 10 else 0) (if b then 0 else 10)
+        turned : (b : Bool) → _≡_ {A = ℕ} (if not b then invalidList else 0) (if b then 0 else invalidList)
         turned true = refl
         turned false = refl
 
-        go : (qs : List Record) → (if nextDeeper r qs then 0 else 10) ≡ restFault payload r qs
+        go : (qs : List Record) → (if nextDeeper r qs then 0 else invalidList) ≡ restFault payload r qs
         go [] = sym (rw (e, none-there) refl)
         go (q ∷ qs) = sym (rw (e, none-there) (turned (eqb (q .depth) (r .depth + 1))))
 
-    rest-range : wire (r .kind) ≡ 2 → r .kind ≢ 11 → r .kind ≢ 20 → rangeFault payload (r .kind) (r .start) (r .stop) ≡ restFault payload r rs
+    rest-range : wire (r .kind) ≡ delimitedWire → r .kind ≢ messageKind → r .kind ≢ packedHead → rangeFault payload (r .kind) (r .start) (r .stop) ≡ restFault payload r rs
     unfolding restFault rangeFault fitting
     rest-range w m p = go (delimited (r .kind) w) refl
       where
@@ -255,83 +257,83 @@ module _ (payload : List ℕ) (r : Record) (rs : List Record) where
 
         alike : {x : Shape} → shape (r .kind) ≡ x → fitting x payload r ≡ lies payload r → rangeFault payload (r .kind) (r .start) (r .stop) ≡ restFault payload r rs
         alike e f =
-            sym (rw (ap (λ (y : Shape). fitting y payload r) e ∙ f, ne-eqb (r .kind) 20 p, ne-eqb (r .kind) 11 m) refl)
+            sym (rw (ap (λ (y : Shape). fitting y payload r) e ∙ f, ne-eqb (r .kind) packedHead p, ne-eqb (r .kind) messageKind m) refl)
 
         go : {x : Shape} → Delimited x → shape (r .kind) ≡ x → rangeFault payload (r .kind) (r .start) (r .stop) ≡ restFault payload r rs
         go a-string e = alike e (rw value-is refl)
         go a-content e = alike e (rw value-is refl)
-        go a-message e = absurd (m (kind-11 (r .kind) e))
-        go a-packed e = absurd (p (kind-20 (r .kind) e))
+        go a-message e = absurd (m (is-message-kind (r .kind) e))
+        go a-packed e = absurd (p (is-packed-head (r .kind) e))
 
 -- ---- the fault of a content
 
 module _ (payload : List ℕ) (kind start stop : ℕ) where
-  pub range-reversed : stop < start → 10 ≡ rangeFault payload kind start stop
+  pub range-reversed : stop < start → invalidList ≡ rangeFault payload kind start stop
   unfolding rangeFault
   range-reversed l = sym (rw (lt-leb start stop l) refl)
 
   module _ (a : start ≤ stop) where
-    pub range-behind : length payload < stop → 10 ≡ rangeFault payload kind start stop
+    pub range-behind : length payload < stop → invalidList ≡ rangeFault payload kind start stop
     unfolding rangeFault
     range-behind l = sym (rw (le-leb start stop a, lt-leb stop (length payload) l) refl)
 
     module _ (b : stop ≤ length payload) where
-      pub range-other : kind ≢ 9 → 0 ≡ rangeFault payload kind start stop
+      pub range-other : kind ≢ stringKind → 0 ≡ rangeFault payload kind start stop
       unfolding rangeFault
-      range-other n = sym (rw (le-leb start stop a, le-leb stop (length payload) b, ne-eqb kind 9 n) refl)
+      range-other n = sym (rw (le-leb start stop a, le-leb stop (length payload) b, ne-eqb kind stringKind n) refl)
 
-      pub range-text : kind ≡ 9 → (if utf8 (part start stop payload) then 0 else 6) ≡ rangeFault payload kind start stop
+      pub range-text : kind ≡ stringKind → (if utf8 (part start stop payload) then 0 else notUtf8) ≡ rangeFault payload kind start stop
       unfolding rangeFault
       range-text e = sym (rw (le-leb start stop a, le-leb stop (length payload) b, e) (go (utf8 (part start stop payload))))
         where
-          go : (b : Bool) → _≡_ {A = ℕ} (if not b then 6 else 0) (if b then 0 else 6)
+          go : (b : Bool) → _≡_ {A = ℕ} (if not b then notUtf8 else 0) (if b then 0 else notUtf8)
           go true = refl
           go false = refl
 
--- ---- the record behind a packed head
+-- ---- the record after a packed head
 
 module _ (list : List ℕ) (at : ℕ) (r : Record) where
-  next-none : at + 6 ≤ length list → length list < at + 12 → nextDeeper r (recordsOf (drop (at + 6) list)) ≡ false
+  next-none : at + stride ≤ length list → length list < at + 2 * stride → nextDeeper r (recordsOf (drop (at + stride) list)) ≡ false
   next-none h l =
-      let long : length (drop (at + 6) list) ≡ length list - (at + 6) = length-drop (at + 6) list in
-      lower-or-not 0 (length (drop (at + 6) list))
-      (λ p. ap (nextDeeper r) (records-broken (drop (at + 6) list) p (omega arith)) ∙ ne-eqb 0 (r .depth + 1) (λ e. omega arith))
-      (λ p. ap (nextDeeper r) (ap recordsOf (drop-of-length-le list {i = at + 6} (omega arith)) ∙ records-nil))
+      let long : length (drop (at + stride) list) ≡ length list - (at + stride) = length-drop (at + stride) list in
+      lower-or-not 0 (length (drop (at + stride) list))
+      (λ p. ap (nextDeeper r) (records-broken (drop (at + stride) list) p (omega arith)) ∙ ne-eqb 0 (r .depth + 1) (λ e. omega arith))
+      (λ p. ap (nextDeeper r) (ap recordsOf (drop-of-length-le list {i = at + stride} (omega arith)) ∙ records-nil))
 
-  next-at : at + 12 ≤ length list → nextDeeper r (recordsOf (drop (at + 6) list)) ≡ eqb (getD list (at + 6) 0) (r .depth + 1)
-  next-at h = ap (nextDeeper r) (records-at list (at + 6) (omega arith))
+  next-at : at + 2 * stride ≤ length list → nextDeeper r (recordsOf (drop (at + stride) list)) ≡ eqb (getD list (at + stride) 0) (r .depth + 1)
+  next-at h = ap (nextDeeper r) (records-at list (at + stride) (omega arith))
 
 -- ---- the same of the record at a place
 
 abbrev restAt : (payload list : List ℕ) → ℕ → ℕ
-restAt payload list at = restFault payload (rowAt list at) (recordsOf (drop (at + 6) list))
+restAt payload list at = restFault payload (rowAt list at) (recordsOf (drop (at + stride) list))
 
-module _ (payload list : List ℕ) (at : ℕ) {kind depth : ℕ} (whole : at + 6 ≤ length list) (kind-is : kind ≡ getD list (at + 2) 0) (depth-is : depth ≡ getD list at 0) where
-  pub value-at : wire kind ≡ 2 → getD list (at + 3) 0 ≢ 0 → 10 ≡ restAt payload list at
-  value-at w n = rest-value payload (rowAt list at) (recordsOf (drop (at + 6) list)) (sym (ap wire kind-is) ∙ w) n
+module _ (payload list : List ℕ) (at : ℕ) {kind depth : ℕ} (whole : at + stride ≤ length list) (kind-is : kind ≡ getD list (at + kindColumn) 0) (depth-is : depth ≡ getD list at 0) where
+  pub value-at : wire kind ≡ delimitedWire → getD list (at + valueColumn) 0 ≢ 0 → invalidList ≡ restAt payload list at
+  value-at w n = rest-value payload (rowAt list at) (recordsOf (drop (at + stride) list)) (sym (ap wire kind-is) ∙ w) n
 
-  module _ (none-there : getD list (at + 3) 0 ≡ 0) where
-    pub deep-at : kind ≡ 11 → 99 < depth → 7 ≡ restAt payload list at
-    deep-at e l = rest-deep payload (rowAt list at) (recordsOf (drop (at + 6) list)) none-there (sym kind-is ∙ e) (omega arith)
+  module _ (none-there : getD list (at + valueColumn) 0 ≡ 0) where
+    pub deep-at : kind ≡ messageKind → mostLevels ≤ depth → tooDeep ≡ restAt payload list at
+    deep-at e l = rest-deep payload (rowAt list at) (recordsOf (drop (at + stride) list)) none-there (sym kind-is ∙ e) (omega arith)
 
-    pub shallow-at : kind ≡ 11 → depth ≤ 99 → 0 ≡ restAt payload list at
-    shallow-at e l = rest-shallow payload (rowAt list at) (recordsOf (drop (at + 6) list)) none-there (sym kind-is ∙ e) (omega arith)
+    pub shallow-at : kind ≡ messageKind → depth < mostLevels → 0 ≡ restAt payload list at
+    shallow-at e l = rest-shallow payload (rowAt list at) (recordsOf (drop (at + stride) list)) none-there (sym kind-is ∙ e) (omega arith)
 
-    packed-at : {b : Bool} → kind ≡ 20 → nextDeeper (rowAt list at) (recordsOf (drop (at + 6) list)) ≡ b → (if b then 0 else 10) ≡ restAt payload list at
+    packed-at : {b : Bool} → kind ≡ packedHead → nextDeeper (rowAt list at) (recordsOf (drop (at + stride) list)) ≡ b → (if b then 0 else invalidList) ≡ restAt payload list at
     packed-at e n =
-        ap (λ (b : Bool). if b then 0 else 10) (sym n) ∙ rest-packed payload (rowAt list at) (recordsOf (drop (at + 6) list)) none-there (sym kind-is ∙ e)
+        ap (λ (b : Bool). if b then 0 else invalidList) (sym n) ∙ rest-packed payload (rowAt list at) (recordsOf (drop (at + stride) list)) none-there (sym kind-is ∙ e)
 
-    pub last-at : kind ≡ 20 → length list - at < 12 → 10 ≡ restAt payload list at
+    pub last-at : kind ≡ packedHead → length list - at < 2 * stride → invalidList ≡ restAt payload list at
     last-at e l = packed-at e (next-none list at (rowAt list at) whole (omega arith))
 
-    module _ (e : kind ≡ 20) (l : 12 ≤ length list - at) where
-      pub jump-at : getD list (at + 6) 0 ≢ depth + 1 → 10 ≡ restAt payload list at
-      jump-at n = packed-at e (next-at list at (rowAt list at) (omega arith) ∙ ne-eqb (getD list (at + 6) 0) (getD list at 0 + 1) (λ z. n (omega arith)))
+    module _ (e : kind ≡ packedHead) (l : 2 * stride ≤ length list - at) where
+      pub jump-at : getD list (at + stride) 0 ≢ depth + 1 → invalidList ≡ restAt payload list at
+      jump-at n = packed-at e (next-at list at (rowAt list at) (omega arith) ∙ ne-eqb (getD list (at + stride) 0) (getD list at 0 + 1) (λ z. n (omega arith)))
 
-      pub run-at : getD list (at + 6) 0 ≡ depth + 1 → 0 ≡ restAt payload list at
-      run-at n = packed-at e (next-at list at (rowAt list at) (omega arith) ∙ eq-eqb (getD list (at + 6) 0) (getD list at 0 + 1) (omega arith))
+      pub run-at : getD list (at + stride) 0 ≡ depth + 1 → 0 ≡ restAt payload list at
+      run-at n = packed-at e (next-at list at (rowAt list at) (omega arith) ∙ eq-eqb (getD list (at + stride) 0) (getD list at 0 + 1) (omega arith))
 
-    pub content-at : wire kind ≡ 2 → kind ≢ 11 → kind ≢ 20 → rangeFault payload kind (getD list (at + 4) 0) (getD list (at + 5) 0) ≡ restAt payload list at
+    pub content-at : wire kind ≡ delimitedWire → kind ≢ messageKind → kind ≢ packedHead → rangeFault payload kind (getD list (at + startColumn) 0) (getD list (at + stopColumn) 0) ≡ restAt payload list at
     content-at w m p =
-        ap (λ (k : ℕ). rangeFault payload k (getD list (at + 4) 0) (getD list (at + 5) 0)) kind-is
-        ∙ rest-range payload (rowAt list at) (recordsOf (drop (at + 6) list)) none-there (sym (ap wire kind-is) ∙ w) (λ e. m (kind-is ∙ e)) (λ e. p (kind-is ∙ e))
+        ap (λ (k : ℕ). rangeFault payload k (getD list (at + startColumn) 0) (getD list (at + stopColumn) 0)) kind-is
+        ∙ rest-range payload (rowAt list at) (recordsOf (drop (at + stride) list)) none-there (sym (ap wire kind-is) ∙ w) (λ e. m (kind-is ∙ e)) (λ e. p (kind-is ∙ e))

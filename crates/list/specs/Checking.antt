@@ -1,5 +1,5 @@
 -- What the parts of the list check ask and answer. The check goes over the records with the tables of a schema; a place in the list counts
--- numbers, six to a record. Assumes nothing: these are definitions.
+-- numbers, `stride` to a record. Assumes nothing: these are definitions.
 use Prim.Native.Nat.{ℕ, zero, suc, _+_, _*_, _/_, _%_, _^_, _≤_, _<_}
 use mathlib.Core.Path.{_≡_}
 use mathlib.Core.Bool.{Bool, true, false, not, _&&_, _||_}
@@ -7,12 +7,14 @@ use mathlib.Core.Option.{none}
 use mathlib.Core.List.{List, [], _∷_}
 use lib.ListN.{length, drop, getD}
 use lib.Dec.{leb, eqb}
+use Rattle.spec.specs.Names.{enumKind, fixed32Kind, fixed32Wire, floatKind, int32Kind, invalidList, messageKind, mostLevels, notUtf8, packedHead, sfixed32Kind, sint32Kind, stringKind, tooDeep, uint32Kind, unknownFixed32, kindColumn, mostTypes, numberColumn, startColumn, stopColumn, valueColumn}
 use Rattle.spec.specs.Base.{if_then_else_, part}
 use Rattle.spec.specs.Utf8.{utf8}
 use Rattle.spec.specs.Kind.{Scalar, one, shape, wire}
 use Rattle.spec.specs.Schema.{Schema, badSchema, lookup, says}
-use Rattle.spec.specs.Record.{Record, row, recordsOf}
+use Rattle.spec.specs.Record.{Record, row, recordsOf, stride}
 use Rattle.spec.specs.Writing.{Place, Fields, Elements, Faulty, expected, fitting, nextDeeper, listFault}
+use Rattle.schema.specs.Layout.{guesses, keyCount, ownerUnit}
 use Rattle.schema.specs.Tables.{tableSays}
 use Rattle.list.specs.declared.record.Asked.{Asked}
 use Rattle.list.specs.declared.record.Asked.the-variants.{Expected, Other}
@@ -24,34 +26,34 @@ use Rattle.list.specs.declared.run.Behind.the-variants.{To, Bad}
 -- Tables of a valid schema: they say what it says, and a key that a tag can have is one of an entry.
 pub record Made (sch : Schema) (keys info : List ℕ) : Type 0 where
   pub valid : badSchema sch ≡ none
-  pub same : (type t : ℕ) → type < 32 → 1 ≤ t / 8 → t < 2 ^ 32 → t % 8 ≤ 5 → tableSays keys info type t ≡ says sch type t
-  pub keyed : (i type t : ℕ) → i < 256 → type < 32 → t < 2 ^ 32 → getD keys i 0 ≡ type * 2 ^ 32 + t → (1 ≤ t / 8) × (t % 8 ≤ 5)
+  pub same : (type t : ℕ) → type < mostTypes → 1 ≤ t / 8 → t < 2 ^ 32 → t % 8 ≤ fixed32Wire → tableSays keys info type t ≡ says sch type t
+  pub keyed : (i type t : ℕ) → i < keyCount → type < mostTypes → t < 2 ^ 32 → getD keys i 0 ≡ type * ownerUnit + t → (1 ≤ t / 8) × (t % 8 ≤ fixed32Wire)
 
 -- ---- one record
 
 -- the record at a place
 abbrev pub rowAt : List ℕ → ℕ → Record
-rowAt list at = row (getD list at 0) (getD list (at + 1) 0) (getD list (at + 2) 0) (getD list (at + 3) 0) (getD list (at + 4) 0) (getD list (at + 5) 0) 0
+rowAt list at = row (getD list at 0) (getD list (at + numberColumn) 0) (getD list (at + kindColumn) 0) (getD list (at + valueColumn) 0) (getD list (at + startColumn) 0) (getD list (at + stopColumn) 0) 0
 
 -- the fault of a content of this kind, and that of a record whose number and kind are as expected; 0 for none
 unfoldable pub rangeFault : List ℕ → (kind start stop : ℕ) → ℕ
 rangeFault payload kind start stop =
-    if not (leb start stop && leb stop (length payload)) then 10 else
-    if eqb kind 9 && not (utf8 (part start stop payload)) then 6 else 0
+    if not (leb start stop && leb stop (length payload)) then invalidList else
+    if eqb kind stringKind && not (utf8 (part start stop payload)) then notUtf8 else 0
 
 unfoldable pub restFault : List ℕ → Record → List Record → ℕ
 restFault payload r rs =
-    if not (fitting (shape (r .kind)) payload r) then 10 else
-    if eqb (r .kind) 20 && not (nextDeeper r rs) then 10 else
-    if eqb (r .kind) 11 && leb 100 (r .depth) then 7 else
-    if eqb (r .kind) 9 && not (utf8 (part (r .start) (r .stop) payload)) then 6 else 0
+    if not (fitting (shape (r .kind)) payload r) then invalidList else
+    if eqb (r .kind) packedHead && not (nextDeeper r rs) then invalidList else
+    if eqb (r .kind) messageKind && leb mostLevels (r .depth) then tooDeep else
+    if eqb (r .kind) stringKind && not (utf8 (part (r .start) (r .stop) payload)) then notUtf8 else 0
 
 -- the kinds whose values have 32 signed bits, and those whose values have 32 bits
-abbrev pub signedKind : ℕ → Bool
-signedKind k = eqb k 5 || eqb k 14 || eqb k 15 || eqb k 17
+abbrev pub signed32Kind : ℕ → Bool
+signed32Kind k = eqb k int32Kind || eqb k enumKind || eqb k sfixed32Kind || eqb k sint32Kind
 
-abbrev pub narrowKind : ℕ → Bool
-narrowKind k = eqb k 2 || eqb k 7 || eqb k 13 || eqb k 24
+abbrev pub unsigned32Kind : ℕ → Bool
+unsigned32Kind k = eqb k floatKind || eqb k fixed32Kind || eqb k uint32Kind || eqb k unknownFixed32
 
 -- a record of which only number and kind are looked at
 abbrev pub named : (number kind : ℕ) → Record
@@ -60,31 +62,31 @@ named number kind = row 0 number kind 0 0 0 0
 -- The number and kind are as expected in a message of this type; `inner` is what a head opens.
 pub record Suits (sch : Schema) (type number kind inner : ℕ) : Type 0 where
   pub is : expected sch (Fields type) (named number kind) ≡ true
-  pub fields : kind ≡ 11 → (inner ≡ lookup (sch .entries) type number .child) × (inner < 32)
-  pub elements : kind ≡ 20 → (inner ≡ lookup (sch .entries) type number .kind) × ((c : Scalar) × (shape inner ≡ one c))
+  pub fields : kind ≡ messageKind → (inner ≡ lookup (sch .entries) type number .child) × (inner < mostTypes)
+  pub elements : kind ≡ packedHead → (inner ≡ lookup (sch .entries) type number .kind) × ((c : Scalar) × (shape inner ≡ one c))
 
--- a type, the number at which the keys of its entries start, and the place of its guesses
-pub record Typed (type owner guesses : ℕ) : Type 0 where
-  pub keys-from : owner ≡ type * 2 ^ 32
-  pub guesses-from : guesses ≡ type % 32 * 16
+-- a type, the number at which the keys of its entries start, and the place of its first guess
+pub record Typed (type owner first : ℕ) : Type 0 where
+  pub keys-from : owner ≡ type * ownerUnit
+  pub guesses-from : first ≡ type % mostTypes * guesses
 
 pub data Answers (keys info : List ℕ) (type number kind : ℕ) : Asked → Type 0 where
-  suits : {w inner : ℕ} → w ≡ wire kind → ((sch : Schema) → Made sch keys info → type < 32 → Suits sch type number kind inner)
+  suits : {w inner : ℕ} → w ≡ wire kind → ((sch : Schema) → Made sch keys info → type < mostTypes → Suits sch type number kind inner)
       → Answers keys info type number kind (Expected w inner)
-  differs : ((sch : Schema) → Made sch keys info → type < 32 → expected sch (Fields type) (named number kind) ≡ false)
+  differs : ((sch : Schema) → Made sch keys info → type < mostTypes → expected sch (Fields type) (named number kind) ≡ false)
       → Answers keys info type number kind Other
 
 -- ---- the elements of a packed field
 
 -- They end at a place, from which on only the places around them matter; or one of them has a fault.
 pub data Elapsed (list : List ℕ) (from depth number kind : ℕ) : Behind → Type 0 where
-  passed : {e : ℕ} → from ≤ e → e ≤ length list → e % 6 ≡ 0
+  passed : {e : ℕ} → from ≤ e → e ≤ length list → e % stride ≡ 0
       → ((sch : Schema) (payload : List ℕ) (out : List Place) (c : Scalar) → length out ≡ depth → 0 < depth → shape kind ≡ one c
-      → listFault sch payload (from / 6) (Elements number kind ∷ out) (recordsOf (drop from list)) ≡ listFault sch payload (e / 6) out (recordsOf (drop e list)))
+      → listFault sch payload (from / stride) (Elements number kind ∷ out) (recordsOf (drop from list)) ≡ listFault sch payload (e / stride) out (recordsOf (drop e list)))
       → Elapsed list from depth number kind (To e)
   faulty : {e : ℕ}
       → ((sch : Schema) (payload : List ℕ) (out : List Place) (c : Scalar) → length out ≡ depth → 0 < depth → shape kind ≡ one c
-      → listFault sch payload (from / 6) (Elements number kind ∷ out) (recordsOf (drop from list)) ≡ Faulty 10 (e / 6))
+      → listFault sch payload (from / stride) (Elements number kind ∷ out) (recordsOf (drop from list)) ≡ Faulty invalidList (e / stride))
       → Elapsed list from depth number kind (Bad e)
 
 -- ---- the places that are open, by their types

@@ -4,6 +4,6 @@ use Rattle.list.specs.declared.Verdict.{Verdict}
 use Rattle.list.specs.declared.Verdict.the-variants.{Fine, Faulty}
 
 -- fine, or a refusal's number and an index
-unfoldable pub told : Verdict → spec.Verdict
-told Fine = spec.Fine
-told (Faulty number index) = spec.Faulty number index
+unfoldable pub asVerdict : Verdict → spec.Verdict
+asVerdict Fine = spec.Fine
+asVerdict (Faulty number index) = spec.Faulty number index

@@ -1,12 +1,47 @@
 // One record in its place: its number and kind, its value, and what only records of wire type 2 have.
 ghost use mathlib.Core.Path.{_≡_};
-ghost use Prim.Native.Nat.{_+_, _*_, _%_, _^_, _≤_, _<_};
+ghost use Prim.Native.Nat.{_+_, _*_, _%_, _≤_, _<_};
 ghost use lib.ListN.{length, drop, take, getD};
+ghost use Rattle.spec.specs.Names.{delimitedWire, kindColumn, mostLevels, mostTypes, recordKinds};
 ghost use Rattle.spec.specs.Kind.{Scalar, one, shape, fits, wires, wire};
-ghost use Rattle.spec.specs.Record.{recordsOf};
-ghost use Rattle.list.specs.Checking.{rowAt, rangeFault, restFault, signedKind, narrowKind, Typed, Answers};
+ghost use Rattle.spec.specs.Record.{recordsOf, stride};
+ghost use Rattle.schema.specs.Layout.{guesses, ownerUnit};
+ghost use Rattle.list.specs.Checking.{rowAt, rangeFault, restFault, signed32Kind, unsigned32Kind, Typed, Answers};
+use schema::layout::GUESSES;
+use schema::layout::INFO;
+use schema::layout::INNERS_AT;
+use schema::layout::KEYS;
+use schema::layout::KINDS_AT;
+use schema::layout::OWNER_UNIT;
 use schema::says;
+use spec::columns::END;
+use spec::columns::START;
+use spec::columns::STRIDE;
+use spec::columns::VALUE;
+use spec::kinds;
+use spec::kinds::RECORD_KINDS;
+use spec::limits;
+use spec::refusals::INVALID_LIST;
+use spec::refusals::NOT_UTF8;
+use spec::refusals::TOO_DEEP;
+use spec::wire_types;
 use utf8::is_utf8;
+
+// Limits as numbers of a list: the largest field number, the depth of the deepest message heads, the last kind of a record.
+const LARGEST_NUMBER: u64 = limits::LARGEST_NUMBER as u64;
+
+const DEEPEST_HEAD: u64 = limits::MOST_LEVELS as u64 - 1;
+
+const LAST_KIND: u64 = kinds::UNKNOWN_FIXED32;
+
+// The field numbers below this one have guesses.
+const GUESSED_NUMBERS: u64 = GUESSES as u64;
+
+// How many types there may be, as a byte.
+const TYPES: u8 = limits::MOST_TYPES as u8;
+
+// How many numbers two records have.
+const TWO_RECORDS: usize = 2 * STRIDE;
 
 // Whether a record's number and kind are what reading would give, and then its kind's wire type, and the type of a message's fields or the kind
 // of a packed field's elements.
@@ -28,31 +63,31 @@ pub(crate) fn wide(byte: u8) -> u64
     byte as u64
 }
 
-// The keys of a type's entries start at this number, and its guesses at this place. There are no more than 32 types.
+// The keys of a type's entries start at this number, and its guesses at this place. There are no more types than TYPES.
 pub(crate) fn owner_of(ty: u8) -> u64
-    ensures { λ r. ⌜ r ≡ ty * 2 ^ 32 ⌝ }
+    ensures { λ r. ⌜ r ≡ ty * ownerUnit ⌝ }
 {
-    ty as u64 * 0x1_0000_0000
+    ty as u64 * OWNER_UNIT
 }
 
 pub(crate) fn guesses_of(ty: u8) -> usize
-    ensures { λ r. ⌜ r ≡ ty % 32 * 16 ⌝ }
+    ensures { λ r. ⌜ r ≡ ty % mostTypes * guesses ⌝ }
 {
-    (ty % 32) as usize * 16
+    (ty % TYPES) as usize * GUESSES
 }
 
 // Of any number: by a search, where there is such a tag.
-fn search(keys: &[u64; 256], info: &[u8; 1024], ty: u8, number: u64, kind: u64, w: u8) -> Asked
-    requires { ⌜ (w ≡ wire kind) × (kind < 25) ⌝ }
+fn search(keys: &[u64; KEYS], info: &[u8; INFO], ty: u8, number: u64, kind: u64, w: u8) -> Asked
+    requires { ⌜ (w ≡ wire kind) × (kind < recordKinds) ⌝ }
     ensures { λ r. ⌜ Answers (now (keys .entry)) (now (info .entry)) ty number kind r ⌝ }
 {
     if number == 0 {
         return Asked::Other;
     }
-    if 536870911 < number {
+    if LARGEST_NUMBER < number {
         return Asked::Other;
     }
-    if 5 < w {
+    if wire_types::FIXED32 < w {
         return Asked::Other;
     }
     let said = says(keys, info, ty as u32, number as u32 * 8 + w as u32);
@@ -66,34 +101,34 @@ fn search(keys: &[u64; 256], info: &[u8; 1024], ty: u8, number: u64, kind: u64, 
 }
 
 // Of a record in a message of this type: by a guess at its entry, which the keys say to be right or not. The keys of its type, and the place of
-// its guesses, are handed in, as they stay the same from record to record.
+// its first guess, are handed in, as they stay the same from record to record.
 pub(crate) fn ask(
-    table: &[u8; 25],
-    keys: &[u64; 256],
-    info: &[u8; 1024],
+    table: &[u8; RECORD_KINDS],
+    keys: &[u64; KEYS],
+    info: &[u8; INFO],
     ty: u8,
     owner: u64,
-    guesses: usize,
+    first: usize,
     number: u64,
     kind: u64,
 ) -> Asked
-    requires { ⌜ (now table ≡ take 25 wires) × Typed ty owner guesses ⌝ }
+    requires { ⌜ (now table ≡ take recordKinds wires) × Typed ty owner first ⌝ }
     ensures { λ r. ⌜ Answers (now (keys .entry)) (now (info .entry)) ty number kind r ⌝ }
 {
-    if 24 < kind {
+    if LAST_KIND < kind {
         return Asked::Other;
     }
     let k = kind as usize;
     let w = table[k];
-    if number < 16 {
-        let i = index(info[guesses + number as usize]);
+    if number < GUESSED_NUMBERS {
+        let i = index(info[first + number as usize]);
         if keys[i] == owner + number * 8 + wide(w) {
-            if wide(info[512 + i]) != kind {
+            if wide(info[KINDS_AT + i]) != kind {
                 return Asked::Other;
             }
             return Asked::Expected {
                 w,
-                inner: info[768 + i],
+                inner: info[INNERS_AT + i],
             };
         }
     }
@@ -101,34 +136,34 @@ pub(crate) fn ask(
 }
 
 // The kinds whose values have 32 signed bits, and those whose values have 32 bits.
-fn is_signed(kind: u64) -> bool
-    ensures { λ r. ⌜ r ≡ signedKind kind ⌝ }
+fn is_signed32(kind: u64) -> bool
+    ensures { λ r. ⌜ r ≡ signed32Kind kind ⌝ }
 {
-    if kind == 5 {
+    if kind == kinds::INT32 {
         return true;
     }
-    if kind == 14 {
+    if kind == kinds::ENUM {
         return true;
     }
-    if kind == 15 {
+    if kind == kinds::SFIXED32 {
         return true;
     }
-    kind == 17
+    kind == kinds::SINT32
 }
 
-fn is_narrow(kind: u64) -> bool
-    ensures { λ r. ⌜ r ≡ narrowKind kind ⌝ }
+fn is_unsigned32(kind: u64) -> bool
+    ensures { λ r. ⌜ r ≡ unsigned32Kind kind ⌝ }
 {
-    if kind == 2 {
+    if kind == kinds::FLOAT {
         return true;
     }
-    if kind == 7 {
+    if kind == kinds::FIXED32 {
         return true;
     }
-    if kind == 13 {
+    if kind == kinds::UINT32 {
         return true;
     }
-    kind == 24
+    kind == kinds::UNKNOWN_FIXED32
 }
 
 // Whether a value fits its kind, which is one number. The first test is for the most frequent values.
@@ -138,17 +173,17 @@ pub(crate) fn value_fits(kind: u64, v: u64) -> bool
     if v < 2 {
         return true;
     }
-    if kind == 8 {
+    if kind == kinds::BOOL {
         return false;
     }
-    if v < 0x8000_0000 {
+    if v < limits::BEYOND_INT32 {
         return true;
     }
-    if is_signed(kind) {
-        return 0xffff_ffff_8000_0000 <= v;
+    if is_signed32(kind) {
+        return limits::LEAST_INT32 <= v;
     }
-    if is_narrow(kind) {
-        return v < 0x1_0000_0000;
+    if is_unsigned32(kind) {
+        return v < limits::BEYOND_UINT32;
     }
     true
 }
@@ -158,16 +193,16 @@ fn range_fault(payload: &[u8], kind: u64, start: u64, end: u64) -> u32
     ensures { λ r. ⌜ r ≡ rangeFault (now (payload .entry)) kind start end ⌝ }
 {
     if end < start {
-        return 10;
+        return INVALID_LIST;
     }
     if (payload.len() as u64) < end {
-        return 10;
+        return INVALID_LIST;
     }
-    if kind == 9 {
+    if kind == kinds::STRING {
         let a = start as usize;
         let e = end as usize;
         if !is_utf8(&payload[a..e]) {
-            return 6;
+            return NOT_UTF8;
         }
     }
     0
@@ -175,26 +210,26 @@ fn range_fault(payload: &[u8], kind: u64, start: u64, end: u64) -> u32
 
 // The fault of the record at a place, of wire type 2, whose number and kind are as expected; 0 for none.
 pub(crate) fn delimited_fault(list: &[u64], payload: &[u8], at: usize, kind: u64, depth: u64) -> u32
-    requires { ⌜ (at + 6 ≤ length (now list)) × (kind ≡ getD (now list) (at + 2) 0) × (depth ≡ getD (now list) at 0) × (depth ≤ 100) × (wire kind ≡ 2) ⌝ }
-    ensures { λ r. ⌜ r ≡ restFault (now (payload .entry)) (rowAt (now (list .entry)) at) (recordsOf (drop (at + 6) (now (list .entry)))) ⌝ }
+    requires { ⌜ (at + stride ≤ length (now list)) × (kind ≡ getD (now list) (at + kindColumn) 0) × (depth ≡ getD (now list) at 0) × (depth ≤ mostLevels) × (wire kind ≡ delimitedWire) ⌝ }
+    ensures { λ r. ⌜ r ≡ restFault (now (payload .entry)) (rowAt (now (list .entry)) at) (recordsOf (drop (at + stride) (now (list .entry)))) ⌝ }
 {
-    if list[at + 3] != 0 {
-        return 10;
+    if list[at + VALUE] != 0 {
+        return INVALID_LIST;
     }
-    if kind == 11 {
-        if 99 < depth {
-            return 7;
+    if kind == kinds::MESSAGE {
+        if DEEPEST_HEAD < depth {
+            return TOO_DEEP;
         }
         return 0;
     }
-    if kind == 20 {
-        if list.len() - at < 12 {
-            return 10;
+    if kind == kinds::PACKED_HEAD {
+        if list.len() - at < TWO_RECORDS {
+            return INVALID_LIST;
         }
-        if list[at + 6] != depth + 1 {
-            return 10;
+        if list[at + STRIDE] != depth + 1 {
+            return INVALID_LIST;
         }
         return 0;
     }
-    range_fault(payload, kind, list[at + 4], list[at + 5])
+    range_fault(payload, kind, list[at + START], list[at + END])
 }

@@ -6,6 +6,7 @@ use mathlib.Core.Bool.{Bool, true, false, false≢true}
 use mathlib.Core.List.{List, []}
 use lib.ListN.{length}
 use lib.Dec.{ltb}
+use Rattle.spec.specs.Names.{outputShort, tooLarge}
 use Rattle.spec.specs.Base.{if_then_else_, limit}
 use Rattle.spec.specs.Schema.{Schema}
 use Rattle.spec.specs.Record.{Record}
@@ -39,7 +40,7 @@ unfolding judged wroteIt
 judged-fine Fine w s e = (refl, e)
 judged-fine (Faulty k i) w s e = absurd (false≢true (ap wroteIt e))
 
-sized-is : (a b : Bool) (x s : List ℕ) → (if a then Failed 11 0 0 else if b then Failed 12 (length x) 0 else Wrote x) ≡ Wrote s → x ≡ s
+sized-is : (a b : Bool) (x s : List ℕ) → (if a then Failed tooLarge 0 0 else if b then Failed outputShort (length x) 0 else Wrote x) ≡ Wrote s → x ≡ s
 unfolding wroteIt bytesGiven
 sized-is true b x s e = absurd (false≢true (ap wroteIt e))
 sized-is false true x s e = absurd (false≢true (ap wroteIt e))

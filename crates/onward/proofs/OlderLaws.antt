@@ -9,6 +9,7 @@ use mathlib.Core.Option.{none, some}
 use lib.ListN.{length}
 use lib.Dec.{ltb, eqb}
 use borrow.Author.Tests.{ltb-true, leb-true, le-leb, eq-eqb, lt-ltb}
+use Rattle.spec.specs.Names.{delimitedWire}
 use Rattle.spec.specs.Base.{if_then_else_, between}
 use Rattle.spec.specs.Varint.{zigzag, little}
 use Rattle.spec.specs.Kind.{Scalar, int32, uint32, uint64, bool, sint32, sint64, fixed32, sfixed32, fixed64, one, other, bytes, wires, wire, shapes, shape, encoded, fits}
@@ -164,10 +165,10 @@ raw-encoded sfixed32 v = four-bytes v
 raw-encoded fixed64 v = refl
 
 -- a field of wire type 2 with no entry
-pub shape-unknown : (w : ℕ) → w ≡ 2 → shape (unknownKind w) ≡ other bytes
+pub shape-unknown : (w : ℕ) → w ≡ delimitedWire → shape (unknownKind w) ≡ other bytes
 unfolding shape shapes unknownKind
 shape-unknown w e = ap (λ (x : ℕ). shape (unknownKind x)) e
 
-pub wire-unknown : (w : ℕ) → w ≡ 2 → wire (unknownKind w) ≡ w
+pub wire-unknown : (w : ℕ) → w ≡ delimitedWire → wire (unknownKind w) ≡ w
 unfolding wire wires unknownKind
 wire-unknown w e = ap (λ (x : ℕ). wire (unknownKind x)) e ∙ sym e

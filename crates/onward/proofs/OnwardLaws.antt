@@ -10,6 +10,7 @@ use lib.ListN.{length, take, drop, length-append, length-take, length-drop, leng
 use lib.Seq.{take-append-seam, drop-append-seam}
 use lib.Dec.{eqb}
 use borrow.Author.Tests.{le-leb, le-ltb, eqb-true, eqb-false, eq-eqb}
+use Rattle.spec.specs.Names.{messageKind, mostLevels, outputShort, packedHead, tooLarge, unknownBytes, unknownFixed32, unknownFixed64, unknownVarint, fixed32Wire, delimitedWire}
 use Rattle.spec.specs.Base.{if_then_else_, part, limit}
 use Rattle.spec.specs.Varint.{encode}
 use Rattle.spec.specs.Utf8.{utf8}
@@ -23,8 +24,8 @@ use Rattle.spec.proofs.Laws.{either-way, both-true, by-test}
 use Rattle.spec.proofs.RecordLaws.{after-listed, within-after}
 use Rattle.spec.proofs.KindLaws.{wireOf, wire-shape}
 use Rattle.spec.proofs.WritingLaws.{from, to, deeper-le, bytesIn}
-use Rattle.spec.proofs.RoundTrip.{hasContent, Same, Alike, nothing-left, and-so-on, alike-length, Stands, stands-right, stands-part, stands-lies, stands-self, inner-stands, rest-stands, Expected, again, tagBytes, Values, no-value, value, Tree, no-field, number, text, blob, inner, row-of, shape-11, shape-20, back}
-use Rattle.spec.proofs.ListLaws.{Over, over-nil, Low, deeper-run, tree-low, kind-9, valid-tree, round-trip}
+use Rattle.spec.proofs.RoundTrip.{hasContent, Same, Alike, nothing-left, and-so-on, alike-length, Stands, stands-right, stands-part, stands-lies, stands-self, inner-stands, rest-stands, Expected, again, tagBytes, Values, no-value, value, Tree, no-field, number, text, blob, inner, row-of, shape-message, shape-packed, back}
+use Rattle.spec.proofs.ListLaws.{Over, over-nil, Low, deeper-run, tree-low, is-string-kind, valid-tree, round-trip}
 use Rattle.spec.proofs.SchemaLaws.{schema-kinds}
 use Rattle.spec.proofs.FieldLaws.{kind-lacking}
 use Rattle.spec.proofs.TreeLaws.{plain-scalar, plain-bytes, values-over, tree-over, values-bytes, tree-bytes, tree-valid, tree-written}
@@ -88,7 +89,7 @@ one-count : (lacking : Bool) (payload : List ℕ) (r : Record) (under : List Rec
 unfolding onwardOne
 one-count true payload r under nested rest h = omega arith
 one-count false payload r under nested rest h =
-    either-way (λ (x : List Seen). suc (length (x ++ rest)) ≤ suc (length under + length rest)) (eqb (r .kind) 11)
+    either-way (λ (x : List Seen). suc (length (x ++ rest)) ≤ suc (length under + length rest)) (eqb (r .kind) messageKind)
     (omega (arith, length-append nested rest))
     (omega (arith, length-append (map (seen payload) under) rest, length-map under (seen payload)))
 
@@ -130,14 +131,14 @@ module _ (old : Schema) (payload : List ℕ) where
     onward-lacking p = onward-run ∙ ap (λ (a : Bool). onwardOne a payload r xs (onwardIn child xs) (onwardIn t ys)) p
 
     -- a message that is kept comes as written, and then what is read of the records under it
-    pub onward-message : lacks old t r ≡ false → r .kind ≡ 11 → onwardIn t (r ∷ (xs ++ ys)) ≡ seen payload r ∷ (onwardIn child xs ++ onwardIn t ys)
+    pub onward-message : lacks old t r ≡ false → r .kind ≡ messageKind → onwardIn t (r ∷ (xs ++ ys)) ≡ seen payload r ∷ (onwardIn child xs ++ onwardIn t ys)
     unfolding onwardOne
     onward-message p q =
         onward-run ∙ ap (λ (a : Bool). onwardOne a payload r xs (onwardIn child xs) (onwardIn t ys)) p
-        ∙ ap (λ (b : Bool). seen payload r ∷ ((if b then onwardIn child xs else map (seen payload) xs) ++ onwardIn t ys)) (eq-eqb (r .kind) 11 q)
+        ∙ ap (λ (b : Bool). seen payload r ∷ ((if b then onwardIn child xs else map (seen payload) xs) ++ onwardIn t ys)) (eq-eqb (r .kind) messageKind q)
 
     -- any other that is kept comes as written, and so do the records under it
-    pub onward-plain : lacks old t r ≡ false → eqb (r .kind) 11 ≡ false → onwardIn t (r ∷ (xs ++ ys)) ≡ seen payload r ∷ (map (seen payload) xs ++ onwardIn t ys)
+    pub onward-plain : lacks old t r ≡ false → eqb (r .kind) messageKind ≡ false → onwardIn t (r ∷ (xs ++ ys)) ≡ seen payload r ∷ (map (seen payload) xs ++ onwardIn t ys)
     unfolding onwardOne
     onward-plain p q =
         onward-run ∙ ap (λ (a : Bool). onwardOne a payload r xs (onwardIn child xs) (onwardIn t ys)) p
@@ -170,7 +171,7 @@ module _ (old new : Schema) (payload s : List ℕ) (has : (t m : ℕ) → Has (l
   lacking t r d v a e g z x w = record {
     low = x .low;
     high = x .high;
-    wired = subst (λ (n : ℕ). n ≤ 5) (sym w) (x .wired);
+    wired = subst (λ (n : ℕ). n ≤ fixed32Wire) (sym w) (x .wired);
     reads = ap (kindOf (oldEntry t (r .number))) w ∙ kind-lacking (oldEntry t (r .number)) (wire (r .kind)) z (x .wired);
   }
 
@@ -198,7 +199,7 @@ module _ (old new : Schema) (payload s : List ℕ) (has : (t m : ℕ) → Has (l
         (le-leb hi (length s) (omega (arith, stands-lies i in-s, length-append (encode (length i)) i)))
 
     -- one record of kind 23, with i for its content
-    lacking-content : Expected new t r → oldEntry t (r .number) .kind ≡ 0 → wire (r .kind) ≡ 2 → (qs : List Record) → Tree old s t d qs b
+    lacking-content : Expected new t r → oldEntry t (r .number) .kind ≡ 0 → wire (r .kind) ≡ delimitedWire → (qs : List Record) → Tree old s t d qs b
         → Tree old s t d (row d (r .number) (unknownKind (wire (r .kind))) 0 lo hi 0 ∷ qs) (tagBytes r ++ prefixed i ++ b)
     lacking-content x z w qs tr =
         let k : ℕ = unknownKind (wire (r .kind)) in
@@ -208,7 +209,7 @@ module _ (old new : Schema) (payload s : List ℕ) (has : (t m : ℕ) → Has (l
         (subst (λ (y : List ℕ). Tree old s t d (q ∷ qs) (tagBytes q ++ prefixed y ++ b)) is-content
         (blob refl (lacking t r d 0 lo hi 0 z x w′) (shape-unknown (wire (r .kind)) w) refl (does-lie k) tr))
 
-    lacking-seen : (xs : List Record) → r .depth ≡ d → wire (r .kind) ≡ 2 → raw (shape (r .kind)) (r .value) ≡ 0
+    lacking-seen : (xs : List Record) → r .depth ≡ d → wire (r .kind) ≡ delimitedWire → raw (shape (r .kind)) (r .value) ≡ 0
         → held (shape (r .kind)) payload r (bytesUnder payload r xs) ≡ i → seen s (row d (r .number) (unknownKind (wire (r .kind))) 0 lo hi 0) ≡ unknown payload r xs
     unfolding seen unknown held
     lacking-seen xs dep w v h =
@@ -220,7 +221,7 @@ module _ (old new : Schema) (payload s : List ℕ) (has : (t m : ℕ) → Has (l
 
     -- a field with a content, or a head with the records xs in it, that the older schema lacks
     lacked : (xs ys : List Record) → r .depth ≡ d → Expected new t r → lacks old t r ≡ true → oldEntry t (r .number) .kind ≡ 0
-        → wire (r .kind) ≡ 2 → raw (shape (r .kind)) (r .value) ≡ 0
+        → wire (r .kind) ≡ delimitedWire → raw (shape (r .kind)) (r .value) ≡ 0
         → held (shape (r .kind)) payload r (bytesUnder payload r xs) ≡ i → Over (d + 1) xs → Low (d + 1) ys
         → Projected t d ys b → Projected t d (r ∷ (xs ++ ys)) (tagBytes r ++ prefixed i ++ b)
     lacked xs ys dep x p z w v h o l (qs, tr, e) = (
@@ -238,7 +239,7 @@ module _ (old new : Schema) (payload s : List ℕ) (has : (t m : ℕ) → Has (l
 
   -- a content that is kept: the same record, with its place in s
   kept-content : (t d at : ℕ) (r : Record) (ys : List Record) (x : Shape) (b : List ℕ) → r .depth ≡ d → r .value ≡ 0 → shape (r .kind) ≡ x
-      → ((z : List ℕ) (q : Record) → held x z q [] ≡ part (q .start) (q .stop) z) → eqb (r .kind) 11 ≡ false → lacks old t r ≡ false → Low (d + 1) ys
+      → ((z : List ℕ) (q : Record) → held x z q [] ≡ part (q .start) (q .stop) z) → eqb (r .kind) messageKind ≡ false → lacks old t r ≡ false → Low (d + 1) ys
       → Stands s at (tagBytes r ++ prefixed (part (r .start) (r .stop) payload) ++ b)
       → ((a e : ℕ) → lies s (row d (r .number) (r .kind) 0 a e 0) ≡ true → part a e s ≡ part (r .start) (r .stop) payload
       → (qs : List Record) → Tree old s t d qs b → Tree old s t d (row d (r .number) (r .kind) 0 a e 0 ∷ qs) (tagBytes r ++ prefixed (part a e s) ++ b))
@@ -296,7 +297,7 @@ module _ (old new : Schema) (payload s : List ℕ) (has : (t m : ℕ) → Has (l
 
   -- ---- heads that are kept
 
-  message-kept : (t d : ℕ) (r : Record) (xs ys : List Record) (i b : List ℕ) → r .depth ≡ d → Expected new t r → r .kind ≡ 11 → r .value ≡ 0 → d < 100
+  message-kept : (t d : ℕ) (r : Record) (xs ys : List Record) (i b : List ℕ) → r .depth ≡ d → Expected new t r → r .kind ≡ messageKind → r .value ≡ 0 → d < mostLevels
       → lacks old t r ≡ false → oldEntry t (r .number) ≡ lookup (new .entries) t (r .number) → Over (d + 1) xs → Low (d + 1) ys
       → Projected (lookup (new .entries) t (r .number) .child) (d + 1) xs i → Projected t d ys b → Projected t d (r ∷ (xs ++ ys)) (tagBytes r ++ prefixed i ++ b)
   unfolding held
@@ -305,11 +306,11 @@ module _ (old new : Schema) (payload s : List ℕ) (has : (t m : ℕ) → Has (l
       let (ps, tr′, e′) : Projected c (d + 1) xs i = subst (λ (y : Entry). Projected (y .child) (d + 1) xs i) (sym z) in-it in (
         r ∷ (ps ++ qs),
         inner dep (kept t r z x) kin val deep tr′ tr,
-        ap₂ (_∷_) (seen-cong s payload r (other message) (ap shape kin ∙ shape-11) refl) (map-append (seen s) ps qs ∙ ap₂ (λ (u v : List Seen). u ++ v) e′ e)
+        ap₂ (_∷_) (seen-cong s payload r (other message) (ap shape kin ∙ shape-message) refl) (map-append (seen s) ps qs ∙ ap₂ (λ (u v : List Seen). u ++ v) e′ e)
             ∙ sym (onward-message old payload t d r xs ys dep o l p kin),
       )
 
-  packed-kept : (c : Scalar) (t d : ℕ) (r : Record) (xs ys : List Record) (i b : List ℕ) → r .depth ≡ d → Expected new t r → r .kind ≡ 20 → r .value ≡ 0
+  packed-kept : (c : Scalar) (t d : ℕ) (r : Record) (xs ys : List Record) (i b : List ℕ) → r .depth ≡ d → Expected new t r → r .kind ≡ packedHead → r .value ≡ 0
       → shape (lookup (new .entries) t (r .number) .kind) ≡ one c → Values c (r .number) (lookup (new .entries) t (r .number) .kind) (d + 1) xs i → 1 ≤ length xs
       → lacks old t r ≡ false → oldEntry t (r .number) ≡ lookup (new .entries) t (r .number) → Low (d + 1) ys
       → Projected t d ys b → Projected t d (r ∷ (xs ++ ys)) (tagBytes r ++ prefixed i ++ b)
@@ -318,9 +319,9 @@ module _ (old new : Schema) (payload s : List ℕ) (has : (t m : ℕ) → Has (l
     r ∷ (xs ++ qs),
     row-of c dep (kept t r z x) kin val (ap (λ (y : Entry). shape (y .kind)) z ∙ sh)
         (subst (λ (y : Entry). Values c (r .number) (y .kind) (d + 1) xs i) (sym z) in-it) long tr,
-    ap₂ (_∷_) (seen-cong s payload r (other packed) (ap shape kin ∙ shape-20) refl)
+    ap₂ (_∷_) (seen-cong s payload r (other packed) (ap shape kin ∙ shape-packed) refl)
         (map-append (seen s) xs qs ∙ ap₂ (λ (u v : List Seen). u ++ v) (values-seen sh in-it) e)
-        ∙ sym (onward-plain old payload t d r xs ys dep (values-over in-it) l p (ap (λ (k : ℕ). eqb k 11) kin)),
+        ∙ sym (onward-plain old payload t d r xs ys dep (values-over in-it) l p (ap (λ (k : ℕ). eqb k messageKind) kin)),
   )
 
   -- ---- the whole
@@ -344,7 +345,7 @@ module _ (old new : Schema) (payload s : List ℕ) (has : (t m : ℕ) → Has (l
       cases t (r .number)
       (λ p z. lacked t d at r i b h [] rs dep ex p z (wire-two (r .kind) (other string) sh refl) (ap (λ (y : Shape). raw y (r .value)) sh)
       (ap (λ (y : Shape). held y payload r (bytesUnder payload r [])) sh) over-nil l more)
-      (λ p z. kept-content t d at r rs (other string) b dep val sh (λ z q. refl) (ap (λ (k : ℕ). eqb k 11) (kind-9 (r .kind) sh)) p l h
+      (λ p z. kept-content t d at r rs (other string) b dep val sh (λ z q. refl) (ap (λ (k : ℕ). eqb k messageKind) (is-string-kind (r .kind) sh)) p l h
       (λ a e lie found qs tr. text refl (again (kept t r z ex)) sh refl lie (ap utf8 found ∙ u) tr) more)
   project {t} {d} (blob {r = r} {rs = rs} {b = b} dep ex sh val li rest) at h =
       let i : List ℕ = part (r .start) (r .stop) payload in
@@ -357,7 +358,7 @@ module _ (old new : Schema) (payload s : List ℕ) (has : (t m : ℕ) → Has (l
       (λ p z. kept-content t d at r rs (other bytes) b dep val sh (λ z q. refl) (plain-bytes (r .kind) sh .no-message) p l h
       (λ a e lie found qs tr. blob refl (again (kept t r z ex)) sh refl lie tr) more)
   project {t} {d} (inner {r = r} {rs = rs} {qs = qs} {b = b} {i = i} dep ex kin val deep in-it rest) at h =
-      let sh : shape (r .kind) ≡ other message = ap shape kin ∙ shape-11 in
+      let sh : shape (r .kind) ≡ other message = ap shape kin ∙ shape-message in
       let l : Low (d + 1) rs = tree-low new payload rest in
       let o : Over (d + 1) qs = tree-over new payload in-it in
       let more : Projected t d rs b = project rest (at + (length (tagBytes r) + to i)) (rest-stands old payload s t d at r i b h) in
@@ -365,16 +366,16 @@ module _ (old new : Schema) (payload s : List ℕ) (has : (t m : ℕ) → Has (l
       cases t (r .number)
       (λ p z. lacked t d at r i b h qs rs dep ex p z (wire-two (r .kind) (other message) sh refl) (ap (λ (y : Shape). raw y (r .value)) sh)
       (ap (λ (y : Shape). held y payload r (bytesUnder payload r qs)) sh
-      ∙ ap (λ (k : ℕ). bytesIn (not (eqb k 20)) payload qs) kin ∙ tree-bytes new payload in-it) o l more)
+      ∙ ap (λ (k : ℕ). bytesIn (not (eqb k packedHead)) payload qs) kin ∙ tree-bytes new payload in-it) o l more)
       (λ p z. message-kept t d r qs rs i b dep ex kin val deep p z o l within more)
   project {t} {d} (row-of {r = r} {rs = rs} {qs = qs} {b = b} {i = i} c dep ex kin val sh in-it long rest) at h =
-      let sh′ : shape (r .kind) ≡ other packed = ap shape kin ∙ shape-20 in
+      let sh′ : shape (r .kind) ≡ other packed = ap shape kin ∙ shape-packed in
       let l : Low (d + 1) rs = tree-low new payload rest in
       let more : Projected t d rs b = project rest (at + (length (tagBytes r) + to i)) (rest-stands old payload s t d at r i b h) in
       cases t (r .number)
       (λ p z. lacked t d at r i b h qs rs dep ex p z (wire-two (r .kind) (other packed) sh′ refl) (ap (λ (y : Shape). raw y (r .value)) sh′)
       (ap (λ (y : Shape). held y payload r (bytesUnder payload r qs)) sh′
-      ∙ ap (λ (k : ℕ). bytesIn (not (eqb k 20)) payload qs) kin ∙ values-bytes new payload sh in-it) (values-over in-it) l more)
+      ∙ ap (λ (k : ℕ). bytesIn (not (eqb k packedHead)) payload qs) kin ∙ values-bytes new payload sh in-it) (values-over in-it) l more)
       (λ p z. packed-kept c t d r qs rs i b dep ex kin val sh in-it long p z l more)
 
 -- ---- the calls
@@ -385,13 +386,13 @@ unfolding writing listCheck schemaFirst judged sized
 writes sch space payload s rs v f w small room =
     ap₂ (λ (x : Option ℕ) (y : Verdict). judged (schemaFirst x y) (sized space (written payload rs))) v f
     ∙ ap (sized space) w
-    ∙ ap₂ (λ (a b : Bool). if a then Failed 11 0 0 else if b then Failed 12 (length s) 0 else Wrote s) (le-ltb limit (length s) small) (le-ltb space (length s) room)
+    ∙ ap₂ (λ (a b : Bool). if a then Failed tooLarge 0 0 else if b then Failed outputShort (length s) 0 else Wrote s) (le-ltb limit (length s) small) (le-ltb space (length s) room)
 
 reads : (sch : Schema) (room : ℕ) (s : List ℕ) (qs : List Record) → badSchema sch ≡ none → length s ≤ limit → read (says sch) 0 0 0 s ≡ after qs Done → length qs ≤ room
     → reading sch room s ≡ after qs Done
 unfolding reading refusedOr within
 reads sch room s qs v small e h =
-    ap₂ (λ (a : Bool) (x : Option ℕ). if a then Refused 11 0 else refusedOr x (within room (read (says sch) 0 0 0 s))) (le-ltb limit (length s) small) v
+    ap₂ (λ (a : Bool) (x : Option ℕ). if a then Refused tooLarge 0 else refusedOr x (within room (read (says sch) 0 0 0 s))) (le-ltb limit (length s) small) v
     ∙ ap (within room) e ∙ within-after room qs Done h
 
 -- ---- demand 3
@@ -458,11 +459,11 @@ nothing-lost new payload rs room space v fine small some-room some-space =
     (g .0 .list, g .0 .reads, g .0 .shows ∙ g .1)
 
 -- a record that is unknown to the newer schema already comes as written
-pub unknown-already : (payload : List ℕ) (under : List Record) (r : Record) (k : ℕ) → r .kind ≡ k → (eqb k 21 || eqb k 22 || eqb k 23 && eqb (r .value) 0 || eqb k 24) ≡ true
+pub unknown-already : (payload : List ℕ) (under : List Record) (r : Record) (k : ℕ) → r .kind ≡ k → (eqb k unknownVarint || eqb k unknownFixed64 || eqb k unknownBytes && eqb (r .value) 0 || eqb k unknownFixed32) ≡ true
     → unknown payload r under ≡ seen payload r
 unfolding unknown seen unknownKind wire wires shape shapes raw rawOf held
 unknown-already payload under r k kin h =
-    ap a kin ∙ go (eqb k 21) (eqb k 22) (eqb k 23) (eqb (r .value) 0) (eqb k 24) refl refl refl refl refl h ∙ sym (ap b kin)
+    ap a kin ∙ go (eqb k unknownVarint) (eqb k unknownFixed64) (eqb k unknownBytes) (eqb (r .value) 0) (eqb k unknownFixed32) refl refl refl refl refl h ∙ sym (ap b kin)
   where
     a : ℕ → Seen
     a k = record { depth = r .depth; number = r .number; kind = unknownKind (wire k); value = raw (shape k) (r .value); content = held (shape k) payload r (bytesUnder payload r under) }
@@ -473,13 +474,13 @@ unknown-already payload under r k kin h =
     at : (n : ℕ) → k ≡ n → a n ≡ b n → a k ≡ b k
     at n e p = ap a e ∙ p ∙ sym (ap b e)
 
-    go : (p q x y z : Bool) → eqb k 21 ≡ p → eqb k 22 ≡ q → eqb k 23 ≡ x → eqb (r .value) 0 ≡ y → eqb k 24 ≡ z → (p || q || x && y || z) ≡ true → a k ≡ b k
-    go true q x y z e f g i j h = at 21 (eqb-true k 21 e) refl
-    go false true x y z e f g i j h = at 22 (eqb-true k 22 f) refl
+    go : (p q x y z : Bool) → eqb k unknownVarint ≡ p → eqb k unknownFixed64 ≡ q → eqb k unknownBytes ≡ x → eqb (r .value) 0 ≡ y → eqb k unknownFixed32 ≡ z → (p || q || x && y || z) ≡ true → a k ≡ b k
+    go true q x y z e f g i j h = at unknownVarint (eqb-true k unknownVarint e) refl
+    go false true x y z e f g i j h = at unknownFixed64 (eqb-true k unknownFixed64 f) refl
     go false false true true z e f g i j h =
-        at 23 (eqb-true k 23 g)
-        (ap (λ (v : ℕ). record { depth = r .depth; number = r .number; kind = 23; value = v; content = part (r .start) (r .stop) payload }) (sym (eqb-true (r .value) 0 i)))
-    go false false true false true e f g i j h = at 24 (eqb-true k 24 j) refl
-    go false false false y true e f g i j h = at 24 (eqb-true k 24 j) refl
+        at unknownBytes (eqb-true k unknownBytes g)
+        (ap (λ (v : ℕ). record { depth = r .depth; number = r .number; kind = unknownBytes; value = v; content = part (r .start) (r .stop) payload }) (sym (eqb-true (r .value) 0 i)))
+    go false false true false true e f g i j h = at unknownFixed32 (eqb-true k unknownFixed32 j) refl
+    go false false false y true e f g i j h = at unknownFixed32 (eqb-true k unknownFixed32 j) refl
     go false false true false false e f g i j h = absurd (false≢true h)
     go false false false y false e f g i j h = absurd (false≢true h)

@@ -10,7 +10,8 @@ use lib.ListN.{length, take, drop, length-append, length-map}
 use lib.Seq.{take-append-seam, drop-append-seam}
 use lib.Dec.{eqb}
 use borrow.Author.Tests.{eq-eqb}
-use Rattle.spec.specs.Base.{if_then_else_, part}
+use Rattle.spec.specs.Names.{messageKind, packedHead}
+use Rattle.spec.specs.Base.{if_then_else_, part, limit}
 use Rattle.spec.specs.Varint.{encode}
 use Rattle.spec.specs.Kind.{Scalar, Shape, one, shape, encoded}
 use Rattle.spec.specs.Schema.{Schema, lookup, insideOf, says}
@@ -21,8 +22,8 @@ use Rattle.onward.specs.Onward.{held, unknown}
 use Rattle.onward.specs.Under.{isHead, Among, first, later, nested, lifted, Opens, OpensAlone}
 use Rattle.spec.proofs.SchemaLaws.{schema-kinds}
 use Rattle.spec.proofs.WritingLaws.{bytesIn}
-use Rattle.spec.proofs.RoundTrip.{stands-self, again, tagBytes, Values, no-value, value, Tree, no-field, number, text, blob, inner, row-of, shape-11, shape-20, values-back, back}
-use Rattle.spec.proofs.ListLaws.{Over, over-nil, Low, deeper-run, tree-low, kind-9, valid-tree}
+use Rattle.spec.proofs.RoundTrip.{stands-self, again, tagBytes, Values, no-value, value, Tree, no-field, number, text, blob, inner, row-of, shape-message, shape-packed, values-back, back}
+use Rattle.spec.proofs.ListLaws.{Over, over-nil, Low, deeper-run, tree-low, is-string-kind, valid-tree}
 use Rattle.spec.proofs.TreeLaws.{plain-scalar, plain-bytes, values-over, tree-over, values-bytes, tree-bytes}
 use Rattle.onward.proofs.OnwardLaws.{alike-seen}
 
@@ -32,8 +33,8 @@ module _ (sch : Schema) (payload : List ℕ) where
   module _ (r : Record) (under : List Record) (inside : ℕ) (head : isHead r ≡ true) where
     -- it is a tree, or the values of a packed field
     data Piece (i : List ℕ) : Type 0 where
-      a-tree : r .kind ≡ 11 → Tree sch payload inside (r .depth + 1) under i → Piece i
-      a-row : (c : Scalar) → r .kind ≡ 20 → shape inside ≡ one c → Values c (r .number) inside (r .depth + 1) under i → Piece i
+      a-tree : r .kind ≡ messageKind → Tree sch payload inside (r .depth + 1) under i → Piece i
+      a-row : (c : Scalar) → r .kind ≡ packedHead → shape inside ≡ one c → Values c (r .number) inside (r .depth + 1) under i → Piece i
 
     -- with the bytes i, which are some of those of the tree that it was cut from
     record Cut (b : List ℕ) : Type 0 where
@@ -45,7 +46,7 @@ module _ (sch : Schema) (payload : List ℕ) where
     stands : {A : Type 0} {t : ℕ} {q : Record} {zs : List Record} (xs ys : List Record) → Among sch r under inside t (q ∷ zs)
         → take (deeper (q .depth) zs) zs ≡ xs → drop (deeper (q .depth) zs) zs ≡ ys
         → (r ≡ q → under ≡ xs → inside ≡ insideOf (q .kind) (lookup (sch .entries) t (q .number)) → A) → (Among sch r under inside t ys → A)
-        → (q .kind ≡ 11 → Among sch r under inside (lookup (sch .entries) t (q .number) .child) xs → A) → A
+        → (q .kind ≡ messageKind → Among sch r under inside (lookup (sch .entries) t (q .number) .child) xs → A) → A
     stands xs ys (first e c) p s f g h = f refl (e ∙ p) c
     stands {t = t} xs ys (later a) p s f g h = g (subst (Among sch r under inside t) s a)
     stands {t = t} {q = q} xs ys (nested k a) p s f g h = h k (subst (Among sch r under inside (lookup (sch .entries) t (q .number) .child)) p a)
@@ -56,16 +57,16 @@ module _ (sch : Schema) (payload : List ℕ) where
 
       stands-run : {A : Type 0} → Among sch r under inside t (q ∷ (xs ++ ys))
           → (r ≡ q → under ≡ xs → inside ≡ insideOf (q .kind) (lookup (sch .entries) t (q .number)) → A) → (Among sch r under inside t ys → A)
-          → (q .kind ≡ 11 → Among sch r under inside (lookup (sch .entries) t (q .number) .child) xs → A) → A
+          → (q .kind ≡ messageKind → Among sch r under inside (lookup (sch .entries) t (q .number) .child) xs → A) → A
       stands-run a =
           stands xs ys a (ap (λ (k : ℕ). take k (xs ++ ys)) run ∙ take-append-seam xs ys) (ap (λ (k : ℕ). drop k (xs ++ ys)) run ∙ drop-append-seam xs ys)
 
       -- where q is no head
-      stands-later : {A : Type 0} → eqb (q .kind) 11 ≡ false → eqb (q .kind) 20 ≡ false → Among sch r under inside t (q ∷ (xs ++ ys)) → (Among sch r under inside t ys → A) → A
+      stands-later : {A : Type 0} → eqb (q .kind) messageKind ≡ false → eqb (q .kind) packedHead ≡ false → Among sch r under inside t (q ∷ (xs ++ ys)) → (Among sch r under inside t ys → A) → A
       stands-later no11 no20 a g =
           stands-run a
           (λ e u c. absurd (false≢true (sym (ap₂ (_||_) no11 no20) ∙ ap isHead (sym e) ∙ head))) g
-          (λ k b. absurd (false≢true (sym no11 ∙ eq-eqb (q .kind) 11 k)))
+          (λ k b. absurd (false≢true (sym no11 ∙ eq-eqb (q .kind) messageKind k)))
 
     -- the same in more bytes
     wider : {b : List ℕ} (x : List ℕ) → Cut b → Cut (x ++ b)
@@ -79,7 +80,7 @@ module _ (sch : Schema) (payload : List ℕ) where
       one-down : r ≡ q → d + 1 ≡ r .depth + 1
       one-down e = ap (λ (n : ℕ). n + 1) (sym (ap (λ (x : Record). x .depth) e ∙ dep))
 
-      here-tree : q .kind ≡ 11 → Tree sch payload (lookup (sch .entries) t (q .number) .child) (d + 1) qs i
+      here-tree : q .kind ≡ messageKind → Tree sch payload (lookup (sch .entries) t (q .number) .child) (d + 1) qs i
           → r ≡ q → under ≡ qs → inside ≡ insideOf (q .kind) (lookup (sch .entries) t (q .number)) → Cut (tagBytes q ++ prefixed i ++ b)
       here-tree kin tr e u c =
           let type : inside ≡ lookup (sch .entries) t (q .number) .child = c ∙ ap (λ (k : ℕ). insideOf k (lookup (sch .entries) t (q .number))) kin in
@@ -91,7 +92,7 @@ module _ (sch : Schema) (payload : List ℕ) where
             shorter = in-bytes q i b;
           }
 
-      here-row : (c : Scalar) → q .kind ≡ 20 → shape (lookup (sch .entries) t (q .number) .kind) ≡ one c
+      here-row : (c : Scalar) → q .kind ≡ packedHead → shape (lookup (sch .entries) t (q .number) .kind) ≡ one c
           → Values c (q .number) (lookup (sch .entries) t (q .number) .kind) (d + 1) qs i
           → r ≡ q → under ≡ qs → inside ≡ insideOf (q .kind) (lookup (sch .entries) t (q .number)) → Cut (tagBytes q ++ prefixed i ++ b)
       here-row c kin sh vs e u o =
@@ -111,9 +112,9 @@ module _ (sch : Schema) (payload : List ℕ) where
         wider (tagBytes q ++ encoded c (q .value))
         (stands-later t d q [] rs dep over-nil (tree-low sch payload rest) (p .no-message) (p .no-packed) a (λ a. cut rest a))
     cut {t} {d} (text {r = q} {rs = rs} {b = b} dep ex sh val li u rest) a =
-        let k = kind-9 (q .kind) sh in
+        let k = is-string-kind (q .kind) sh in
         wider (tagBytes q ++ prefixed (part (q .start) (q .stop) payload))
-        (stands-later t d q [] rs dep over-nil (tree-low sch payload rest) (ap (λ (k : ℕ). eqb k 11) k) (ap (λ (k : ℕ). eqb k 20) k) a (λ a. cut rest a))
+        (stands-later t d q [] rs dep over-nil (tree-low sch payload rest) (ap (λ (k : ℕ). eqb k messageKind) k) (ap (λ (k : ℕ). eqb k packedHead) k) a (λ a. cut rest a))
     cut {t} {d} (blob {r = q} {rs = rs} {b = b} dep ex sh val li rest) a =
         let p = plain-bytes (q .kind) sh in
         wider (tagBytes q ++ prefixed (part (q .start) (q .stop) payload))
@@ -165,28 +166,28 @@ module _ (sch : Schema) (payload : List ℕ) (r : Record) (under : List Record) 
   content = unknown payload r under .content
 
   -- what is under r, with the bytes i, opens
-  opens : (i : List ℕ) → length i ≤ 2147483647 → Piece sch payload r under inside head i → Opens sch payload r under inside content
+  opens : (i : List ℕ) → length i ≤ limit → Piece sch payload r under inside head i → Opens sch payload r under inside content
   unfolding unknown held contents
   opens i small (a-tree kin tr) =
       let is : content ≡ i =
-      ap (λ (k : ℕ). held (shape k) payload r (bytesIn (not (eqb k 20)) payload under)) kin
-      ∙ ap (λ (x : Shape). held x payload r (bytesIn true payload under)) shape-11 ∙ tree-bytes sch payload tr in
+      ap (λ (k : ℕ). held (shape k) payload r (bytesIn (not (eqb k packedHead)) payload under)) kin
+      ∙ ap (λ (x : Shape). held x payload r (bytesIn true payload under)) shape-message ∙ tree-bytes sch payload tr in
       let out : r .depth + 1 ≡ r .depth + 1 + 0 = omega arith in
       let q = back sch payload i (lift sch payload tr (r .depth + 1) 0 out) 0 (stands-self sch payload i i) small in
       subst (Opens sch payload r under inside) (sym is) (record {
         list = q .0;
-        reads = ap (λ (k : ℕ). if eqb k 20 then contents (shape inside) 0 (r .number) inside 0 0 i else read (says sch) 0 inside 0 i) kin ∙ q .1;
+        reads = ap (λ (k : ℕ). if eqb k packedHead then contents (shape inside) 0 (r .number) inside 0 0 i else read (says sch) 0 inside 0 i) kin ∙ q .1;
         shows = alike-seen (q .2);
       })
   opens i small (a-row c kin sh vs) =
       let is : content ≡ i =
-      ap (λ (k : ℕ). held (shape k) payload r (bytesIn (not (eqb k 20)) payload under)) kin
-      ∙ ap (λ (x : Shape). held x payload r (bytesIn false payload under)) shape-20 ∙ values-bytes sch payload sh vs in
+      ap (λ (k : ℕ). held (shape k) payload r (bytesIn (not (eqb k packedHead)) payload under)) kin
+      ∙ ap (λ (x : Shape). held x payload r (bytesIn false payload under)) shape-packed ∙ values-bytes sch payload sh vs in
       let out : r .depth + 1 ≡ r .depth + 1 + 0 = omega arith in
       let q = values-back sch payload i sh (lift-values sch payload vs (r .depth + 1) 0 out) 0 0 in
       subst (Opens sch payload r under inside) (sym is) (record {
         list = q .0;
-        reads = ap (λ (k : ℕ). if eqb k 20 then contents (shape inside) 0 (r .number) inside 0 0 i else read (says sch) 0 inside 0 i) kin
+        reads = ap (λ (k : ℕ). if eqb k packedHead then contents (shape inside) 0 (r .number) inside 0 0 i else read (says sch) 0 inside 0 i) kin
             ∙ ap (λ (x : Shape). contents x 0 (r .number) inside 0 0 i) sh ∙ q .1;
         shows = alike-seen (q .2);
       })

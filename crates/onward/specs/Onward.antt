@@ -7,6 +7,7 @@ use mathlib.Core.List.{List, [], _∷_, _++_, map}
 use mathlib.Core.Option.{none}
 use lib.ListN.{length, take, drop}
 use lib.Dec.{eqb}
+use Rattle.spec.specs.Names.{messageKind, packedHead}
 use Rattle.spec.specs.Base.{if_then_else_, part, limit}
 use Rattle.spec.specs.Varint.{zigzag}
 use Rattle.spec.specs.Kind.{Scalar, int32, uint32, uint64, bool, sint32, sint64, fixed32, sfixed32, fixed64, Shape, one, other, string, bytes, message, packed, startGroup, endGroup, nothing, shape, wire}
@@ -80,7 +81,7 @@ raw (other x) v = 0
 
 -- the bytes of the records under r: with their tags or, under a packed head (kind 20), without
 abbrev pub bytesUnder : (payload : List ℕ) → Record → (under : List Record) → List ℕ
-bytesUnder payload r under = bytesOf (length under) (not (eqb (r .kind) 20)) payload under
+bytesUnder payload r under = bytesOf (length under) (not (eqb (r .kind) packedHead)) payload under
 
 -- One record, of the unknown kind of the field's wire type (21 to 24): a raw value, or a content that holds all that is under it.
 unfoldable pub unknown : (payload : List ℕ) → Record → (under : List Record) → Seen
@@ -103,7 +104,7 @@ lacks old type r = eqb (lookup (old .entries) type (r .number) .kind) 0
 unfoldable pub onwardOne : (lacking : Bool) → (payload : List ℕ) → Record → (under : List Record) → (nested rest : List Seen) → List Seen
 onwardOne true payload r under nested rest = unknown payload r under ∷ rest
 onwardOne false payload r under nested rest =
-    let inside = if eqb (r .kind) 11 then nested else map (seen payload) under in
+    let inside = if eqb (r .kind) messageKind then nested else map (seen payload) under in
     seen payload r ∷ (inside ++ rest)
 
 -- The records rs of a message of this type, in order. The records under one are those behind it that stand deeper; under a message they are

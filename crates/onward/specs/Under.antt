@@ -7,6 +7,7 @@ use mathlib.Core.List.{List, _∷_, map}
 use mathlib.Core.Option.{none}
 use lib.ListN.{length, take, drop}
 use lib.Dec.{eqb}
+use Rattle.spec.specs.Names.{messageKind, packedHead}
 use Rattle.spec.specs.Base.{if_then_else_, limit}
 use Rattle.spec.specs.Kind.{shape}
 use Rattle.spec.specs.Schema.{Schema, badSchema, lookup, insideOf, says}
@@ -19,7 +20,7 @@ use Rattle.onward.specs.Onward.{seen, unknown}
 
 -- of a message, or of a packed field
 abbrev pub isHead : Record → Bool
-isHead r = eqb (r .kind) 11 || eqb (r .kind) 20
+isHead r = eqb (r .kind) messageKind || eqb (r .kind) packedHead
 
 -- The record r stands among the records of a message of this type, or in a message among them, at any depth. `under` are the records under it, and `inner` is what the
 -- schema says is in it: the type of a message's fields, or the kind of a packed field's elements.
@@ -27,14 +28,14 @@ pub data Among (sch : Schema) (r : Record) (under : List Record) (inner : ℕ) :
   first : {type : ℕ} {rs : List Record} → under ≡ take (deeper (r .depth) rs) rs → inner ≡ insideOf (r .kind) (lookup (sch .entries) type (r .number))
       → Among sch r under inner type (r ∷ rs)
   later : {type : ℕ} {q : Record} {rs : List Record} → Among sch r under inner type (drop (deeper (q .depth) rs) rs) → Among sch r under inner type (q ∷ rs)
-  nested : {type : ℕ} {q : Record} {rs : List Record} → q .kind ≡ 11
+  nested : {type : ℕ} {q : Record} {rs : List Record} → q .kind ≡ messageKind
       → Among sch r under inner (lookup (sch .entries) type (q .number) .child) (take (deeper (q .depth) rs) rs) → Among sch r under inner type (q ∷ rs)
 
 -- ---- its content alone
 
 -- The bytes s of its content, read alone, from depth 0 on: the elements of a packed field, or the fields of a message.
 abbrev pub alone : Schema → Record → (inner : ℕ) → List ℕ → Reading
-alone sch r inner s = if eqb (r .kind) 20 then contents (shape inner) 0 (r .number) inner 0 0 s else read (says sch) 0 inner 0 s
+alone sch r inner s = if eqb (r .kind) packedHead then contents (shape inner) 0 (r .number) inner 0 0 s else read (says sch) 0 inner 0 s
 
 -- the same record, n levels further out
 abbrev pub lifted : ℕ → Record → Record

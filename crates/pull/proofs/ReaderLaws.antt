@@ -7,6 +7,7 @@ use mathlib.Core.Bool.{Bool, true, false}
 use lib.ListN.{length}
 use lib.Dec.{ltb}
 use denote.Ref.{RefT, now}
+use Rattle.spec.specs.Names.{tooLarge}
 use Rattle.spec.specs.Base.{if_then_else_, part, limit}
 use Rattle.spec.specs.Pull as spec
 use Rattle.spec.specs.Pull.{says, reader, opened, stepped, entered, stepAt, enterAt}
@@ -19,7 +20,7 @@ use Rattle.pull.specs.declared.reader.Opened.{Opened}
 use Rattle.pull.specs.declared.reader.Stepped.{Stepped}
 use Rattle.pull.specs.declared.reader.Entered.{Entered}
 use Rattle.pull.specs.declared.reader.Once.{Once}
-use Rattle.pull.specs.Told.{saidTold, told, asked, Gated}
+use Rattle.pull.specs.Told.{saidTold, asMoved, asked, Gated}
 use Rattle.pull.specs.Reader.{readerTold, openedTold, steppedTold, enteredTold, Entering, onceTold, openNumber, firstPart}
 use Rattle.pull.proofs.StepLaws.{one-said}
 
@@ -36,7 +37,7 @@ open-says s n p e f =
     openedAs : ℕ → List ℕ → spec.Opened
     openedAs k b = record { number = k; reader = reader b 0 0 }
 
-    go : (b : Bool) → openedAs (if b then 11 else 0) (if b then [] else s) ≡ (if b then openedAs 11 [] else openedAs 0 s)
+    go : (b : Bool) → openedAs (if b then tooLarge else 0) (if b then [] else s) ≡ (if b then openedAs tooLarge [] else openedAs 0 s)
     go true = refl
     go false = refl
 
@@ -46,7 +47,7 @@ abbrev pub stepping : Reader → Moved → Stepped
 stepping d m = record { said = m .said; reader = record { s = d .s; at = m .at; level = d .level } }
 
 module _ (d : Reader) (ask : Ask) where
-  pub step-says : (m : Moved) → told m ≡ stepAt (now (d .s)) (d .at) (d .level) (asked ask) → steppedTold (stepping d m) ≡ stepped (readerTold d) (asked ask)
+  pub step-says : (m : Moved) → asMoved m ≡ stepAt (now (d .s)) (d .at) (d .level) (asked ask) → steppedTold (stepping d m) ≡ stepped (readerTold d) (asked ask)
   unfolding stepped
   step-says m e = ap (λ (x : spec.Moved). record { said = x .said; reader = reader (now (d .s)) (x .at) (d .level) }) e
 

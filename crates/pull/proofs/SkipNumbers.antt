@@ -5,6 +5,7 @@ use mathlib.Core.Path.{_≡_, ap}
 use mathlib.Core.List.{List, [], _∷_}
 use lib.ListN.{length, drop}
 use lib.Dec.{leb, ltb, eqb}
+use Rattle.spec.specs.Names.{badTag, badVarint, delimitedWire, endGroupWire, endsEarly, fixed32Wire, fixed64Wire, mostLevels, noGroupOpen, startGroupWire, tooDeep, tooLarge, varintWire}
 use Rattle.spec.specs.Base.{limit, Read, Took, No, refusal, taken, digit, require, longer, _>>=_}
 use Rattle.spec.specs.Varint.{varint, fixed, tag, goodTag}
 use Rattle.spec.specs.Skip.{content, plain, skipField, skipGroup, innerGroup, skipFieldForTag}
@@ -36,53 +37,53 @@ real-next (bad h) f = bad h
 
 real-varint : (k last : ℕ) (s : List ℕ) → Real (varint k last s)
 unfolding varint
-real-varint k last [] = refused 1 (omega arith)
-real-varint zero last (b ∷ s) = either-way Real (leb b last) well (refused 2 (omega arith))
+real-varint k last [] = refused endsEarly (omega arith)
+real-varint zero last (b ∷ s) = either-way Real (leb b last) well (refused badVarint (omega arith))
 real-varint (suc k) last (b ∷ s) = either-way Real (ltb b 128) well (real-digit 128 (b % 128) (real-varint k last s))
 
 real-fixed : (n : ℕ) (s : List ℕ) → Real (fixed n s)
 unfolding fixed
 real-fixed zero s = well
-real-fixed (suc n) [] = refused 1 (omega arith)
+real-fixed (suc n) [] = refused endsEarly (omega arith)
 real-fixed (suc n) (b ∷ s) = real-digit 256 b (real-fixed n s)
 
 real-tag : (s : List ℕ) → Real (tag s)
 unfolding tag require
 real-tag s = go (varint 4 15 s) (real-varint 4 15 s)
   where
-    go : (r : Read) → Real r → Real (require 3 goodTag r)
-    go (Took v n) h = either-way Real (goodTag v) well (refused 3 (omega arith))
+    go : (r : Read) → Real r → Real (require badTag goodTag r)
+    go (Took v n) h = either-way Real (goodTag v) well (refused badTag (omega arith))
     go (No k) h = h
 
 real-content : (len : List ℕ → Read) (s : List ℕ) → Real (len s) → Real (content len s)
 unfolding content
-real-content len s h = real-next h λ m n. either-way Real (leb (n + m) (length s)) well (refused 1 (omega arith))
+real-content len s h = real-next h λ m n. either-way Real (leb (n + m) (length s)) well (refused endsEarly (omega arith))
 
 real-plain : (w : ℕ) (s : List ℕ) → Real (plain w s)
 unfolding plain
 real-plain w s =
-    either-way Real (eqb w 0) (real-varint 9 1 s)
-    (either-way Real (eqb w 1) (real-fixed 8 s)
-    (either-way Real (eqb w 2) (real-content _ s (real-varint 4 15 s))
-    (either-way Real (eqb w 5) (real-fixed 4 s) (refused 4 (omega arith)))))
+    either-way Real (eqb w varintWire) (real-varint 9 1 s)
+    (either-way Real (eqb w fixed64Wire) (real-fixed 8 s)
+    (either-way Real (eqb w delimitedWire) (real-content _ s (real-varint 4 15 s))
+    (either-way Real (eqb w fixed32Wire) (real-fixed 4 s) (refused noGroupOpen (omega arith)))))
 
 real-field : (group : ℕ → List ℕ → Read) (level w : ℕ) (s : List ℕ) → Real (group (level + 1) s) → Real (skipField group level w s)
 unfolding skipField
-real-field group level w s h = either-way Real (eqb w 3) (either-way Real (leb 100 level) (refused 7 (omega arith)) h) (real-plain w s)
+real-field group level w s h = either-way Real (eqb w startGroupWire) (either-way Real (leb mostLevels level) (refused tooDeep (omega arith)) h) (real-plain w s)
 
 real-group : (k : ℕ) {atEnd : Read} → Real atEnd → (level : ℕ) (s : List ℕ) → Real (skipGroup k atEnd level s)
 unfolding skipGroup
 real-group zero e level s = e
 real-group (suc k) e level [] = e
 real-group (suc k) e level (b ∷ s) =
-    real-next (real-tag (b ∷ s)) λ t n. either-way Real (eqb (t % 8) 4) well
+    real-next (real-tag (b ∷ s)) λ t n. either-way Real (eqb (t % 8) endGroupWire) well
     (real-next (real-field _ level (t % 8) (drop n (b ∷ s)) (real-group k well (level + 1) (drop n (b ∷ s)))) λ v m. real-group k e level (drop (n + m) (b ∷ s)))
 
 real-skip : (t level : ℕ) (s : List ℕ) → Real (skipFieldForTag t level s)
 unfolding skipFieldForTag
 real-skip t level s =
-    either-way Real (ltb limit (length s)) (refused 11 (omega arith))
-    (either-way Real (goodTag t) (real-field innerGroup level (t % 8) s (real-group (length s) well (level + 1) s)) (refused 3 (omega arith)))
+    either-way Real (ltb limit (length s)) (refused tooLarge (omega arith))
+    (either-way Real (goodTag t) (real-field innerGroup level (t % 8) s (real-group (length s) well (level + 1) s)) (refused badTag (omega arith)))
 
 -- ---- a skip's number and the bytes used, as a step
 

@@ -9,6 +9,7 @@ use lib.ListN.{length, take, drop, getD, length-drop}
 use native.Mathlib.Numerals.{add-one}
 use lib.Seq.{drop-cons, drop-drop}
 use borrow.Author.Tests.{le-leb}
+use Rattle.spec.specs.Names.{mostLevels, notUtf8, endsEarly, tooDeep}
 use Rattle.spec.specs.Base.{if_then_else_, part, Read, Took, No, digit, longer, _>>=_}
 use Rattle.spec.specs.Varint.{varint, varint64}
 use Rattle.spec.specs.Utf8.{utf8}
@@ -28,7 +29,7 @@ use Rattle.pull.specs.declared.value.Span.the-variants as span
 use Rattle.pull.specs.declared.step.Said.{Said}
 use Rattle.pull.specs.declared.step.Said.the-variants as said
 use Rattle.pull.specs.declared.step.Moved.{Moved}
-use Rattle.pull.specs.Told.{saidTold, told, numberOf, spanAt, contentOf, shutAt, Gated}
+use Rattle.pull.specs.Told.{saidTold, asMoved, numberOf, spanAt, contentOf, shutAt, Gated}
 
 -- ---- varints of few bytes, which are the same at both widths
 
@@ -38,16 +39,16 @@ later-byte : (k last at : ℕ) (s : List ℕ) {v n : ℕ} → at < length s → 
 unfolding digit
 later-byte k last at s h l e = rw (drop-cons s at 0, varint-goes-on k last (getD s at 0) (drop (suc at) s) l, ← add-one at, e)
 
-at-width : (narrow : Bool) (at v n : ℕ) (s : List ℕ) → ((k last : ℕ) → varint (suc (suc (suc k))) last (drop at s) ≡ Took v n) → wire.told at (found.Value v (at + n)) ≡ varintOf narrow (drop at s)
+at-width : (narrow : Bool) (at v n : ℕ) (s : List ℕ) → ((k last : ℕ) → varint (suc (suc (suc k))) last (drop at s) ≡ Took v n) → wire.asRead at (found.Value v (at + n)) ≡ varintOf narrow (drop at s)
 at-width true at v n s h = ap (Took v) (omega arith) ∙ sym (h 1 15)
 at-width false at v n s h = ap (Took v) (omega arith) ∙ sym (h 6 1)
 
 module _ (narrow : Bool) (at : ℕ) (s : List ℕ) (inside : at < length s) where
-  pub one-told : getD s at 0 < 128 → wire.told at (found.Value (getD s at 0) (at + 1)) ≡ varintOf narrow (drop at s)
+  pub one-told : getD s at 0 < 128 → wire.asRead at (found.Value (getD s at 0) (at + 1)) ≡ varintOf narrow (drop at s)
   one-told h = at-width narrow at (getD s at 0) 1 s (λ k last. one-byte (suc (suc k)) last at s inside h)
 
   pub two-told : 128 ≤ getD s at 0 → at + 1 < length s → getD s (at + 1) 0 < 128 → {v : ℕ} → v ≡ getD s at 0 % 128 + getD s (at + 1) 0 * 128
-      → wire.told at (found.Value v (at + 2)) ≡ varintOf narrow (drop at s)
+      → wire.asRead at (found.Value v (at + 2)) ≡ varintOf narrow (drop at s)
   two-told b i h {v} e =
       at-width narrow at v 2 s (λ k last. later-byte (suc (suc k)) last at s inside b (one-byte (suc k) last (at + 1) s i h) ∙ ap (λ (x : ℕ). Took x 2) (omega arith))
 
@@ -56,14 +57,14 @@ module _ (narrow : Bool) (at : ℕ) (s : List ℕ) (inside : at < length s) wher
 least : {l most v n : ℕ} → Takes l most (Took v n) → l ≤ n
 least (took h j) = h
 
-pub number-told : (at : ℕ) {most : ℕ} (f : Found) {r : Read} → Takes 1 most r → wire.told at f ≡ r → told (numberOf at f) ≡ numbered at r
+pub number-told : (at : ℕ) {most : ℕ} (f : Found) {r : Read} → Takes 1 most r → wire.asRead at f ≡ r → asMoved (numberOf at f) ≡ numbered at r
 unfolding moved
 number-told at (found.Value v n) t e = rw (← e) (ap (λ (x : ℕ). says (spec.Number v) x) (omega (arith, least (rw (← e) at t))))
 number-told at (found.Refused k) t e = rw (← e) refl
 
 -- ---- contents
 
-pub width-placed : (narrow : Bool) (s : List ℕ) (at : ℕ) {v next : ℕ} → wire.told at (found.Value v next) ≡ varintOf narrow (drop at s) → (at < next) × (next ≤ length s)
+pub width-placed : (narrow : Bool) (s : List ℕ) (at : ℕ) {v next : ℕ} → wire.asRead at (found.Value v next) ≡ varintOf narrow (drop at s) → (at < next) × (next ≤ length s)
 width-placed true s at e = let p = varint-placed 4 15 s at e refl in (p .past, p .inside)
 width-placed false s at e = let p = varint-placed 9 1 s at e refl in (p .past, p .inside)
 
@@ -77,7 +78,7 @@ module _ (len : List ℕ → Read) (at : ℕ) (s : List ℕ) where
   span-refused e = rw (content-refused len (drop at s) e)
 
   module _ {m n : ℕ} (e : len (drop at s) ≡ Took m n) where
-    pub span-short : at ≤ length s → length s < at + n + m → span.Bad 1 ≡ spanAt at (content len (drop at s))
+    pub span-short : at ≤ length s → length s < at + n + m → span.Bad endsEarly ≡ spanAt at (content len (drop at s))
     unfolding spanAt
     span-short l h = rw (content-short len (drop at s) e (omega (arith, length-drop at s)))
 
@@ -102,7 +103,7 @@ span-in narrow at s {a} {e} h =
         (omega arith, omega arith, omega (arith, length-drop at s))
     go (No k) Holds.none q = let z : _≡_ {A = ℕ} 0 1 = cc in absurd (omega arith)
 
-pub content-told : (at : ℕ) (r : Read) → told (contentOf at (spanAt at r)) ≡ bounded at r
+pub content-told : (at : ℕ) (r : Read) → asMoved (contentOf at (spanAt at r)) ≡ bounded at r
 unfolding spanAt moved
 content-told at (Took a z) = refl
 content-told at (No k) = refl
@@ -110,7 +111,7 @@ content-told at (No k) = refl
 -- a string, by what the check said of it
 module _ (at : ℕ) (s : List ℕ) where
   pub text-told : (r : Read) {a e : ℕ} → span.Of a e ≡ spanAt at r → (b : Bool) → b ≡ utf8 (take (e - a) (drop a s))
-      → (if b then says (spec.Content a e) e else says (spec.Refused 6 at) at) ≡ spelled at (drop at s) r
+      → (if b then says (spec.Content a e) e else says (spec.Refused notUtf8 at) at) ≡ spelled at (drop at s) r
   unfolding spanAt spelled moved
   text-told (Took m n) {a} {e} q b u =
       let x : a ≡ at + m = cc in
@@ -132,10 +133,10 @@ module _ (s : List ℕ) (at level : ℕ) where
   unfolding innerOf
   shut-gated k e = record { moves = sym e; inner = rw e refl; ordered = omega arith; inside = omega arith }
 
-  pub deep-gated : 100 ≤ level → Gated s at level (shutAt 7 at level)
-  deep-gated h = shut-gated 7 (enter-too-deep s at level h)
+  pub deep-gated : mostLevels ≤ level → Gated s at level (shutAt tooDeep at level)
+  deep-gated h = shut-gated tooDeep (enter-too-deep s at level h)
 
-  module _ (h : level < 100) where
+  module _ (h : level < mostLevels) where
     entered-as : (r : Read) → r ≡ content varint64 (drop at s) → enterAt s at level ≡ bounded at r
     entered-as r e = enter-content s at level h ∙ ap (bounded at) (sym e)
 
@@ -182,7 +183,7 @@ one-said {x} {y} e = sym (back x) ∙ ap untold e ∙ back y
     back (said.Refused k p) = refl
 
 -- every call that ends in a `Moved`: each of these promises names what its answer tells
-pub one-move : {x y : Moved} {m : spec.Moved} → told x ≡ m → told y ≡ m → x ≡ y
+pub one-move : {x y : Moved} {m : spec.Moved} → asMoved x ≡ m → asMoved y ≡ m → x ≡ y
 one-move {x} {y} e f =
-    let h : told x ≡ told y = e ∙ sym f in
+    let h : asMoved x ≡ asMoved y = e ∙ sym f in
     ap₂ (λ (a : Said) (b : ℕ). record { said = a; at = b }) (one-said (ap (λ (m : spec.Moved). m .said) h)) (ap (λ (m : spec.Moved). m .at) h)

@@ -4,6 +4,7 @@ use mathlib.Core.List.{List, []}
 use lib.ListN.{length}
 use lib.Dec.{ltb}
 use denote.Ref.{now}
+use Rattle.spec.specs.Names.{tooLarge}
 use Rattle.spec.specs.Base.{if_then_else_, limit}
 use Rattle.spec.specs.Pull as spec
 use Rattle.pull.specs.Told.{saidTold}
@@ -27,7 +28,7 @@ enteredTold n = record { said = saidTold (n .said); inner = readerTold (n .inner
 
 -- opening, in its two parts
 abbrev pub openNumber : List ℕ → ℕ
-openNumber s = if ltb limit (length s) then 11 else 0
+openNumber s = if ltb limit (length s) then tooLarge else 0
 
 abbrev pub firstPart : List ℕ → List ℕ
 firstPart s = if ltb limit (length s) then [] else s

@@ -45,8 +45,8 @@ saidTold (said.Content a z) = spec.Content a z
 saidTold said.End = spec.End
 saidTold (said.Refused k p) = spec.Refused k p
 
-abbrev pub told : Moved → spec.Moved
-told m = spec.says (saidTold (m .said)) (m .at)
+abbrev pub asMoved : Moved → spec.Moved
+asMoved m = spec.says (saidTold (m .said)) (m .at)
 
 -- ---- the parts of an answer, from what was found at a position
 

@@ -4,13 +4,14 @@ ghost use mathlib.Core.Path.{_≡_};
 ghost use Prim.Native.Nat.{_+_, _*_, _^_, _<_, _≤_};
 ghost use lib.ListN.{length, drop};
 ghost use Rattle.spec.specs.Varint.{varint};
-ghost use Rattle.wire.specs.Answers.{told};
+ghost use Rattle.wire.specs.Answers.{asRead};
+use spec::refusals;
 use wire::found::Found;
 
 // At most `more` bytes behind which another stands, and one of at most `last`: a byte a turn, up to the end of the slice.
 pub(crate) fn by_bytes(s: &[u8], at: usize, more: usize, last: u64) -> Found
     requires { ⌜ (128 ^ more < 2 ^ 64) × ((last + 1) * 128 ^ more ≤ 2 ^ 64) × (at < length (now s)) ⌝ }
-    ensures { λ r. ⌜ told at r ≡ varint more last (drop at (now (s .entry))) ⌝ }
+    ensures { λ r. ⌜ asRead at r ≡ varint more last (drop at (now (s .entry))) ⌝ }
 {
     let size = s.len() - at;
     let mut n = 0;
@@ -18,7 +19,7 @@ pub(crate) fn by_bytes(s: &[u8], at: usize, more: usize, last: u64) -> Found
     let mut scale: u64 = 1;
     while n < more {
         if size <= n {
-            return Found::Refused(1);
+            return Found::Refused(refusals::ENDS_EARLY);
         }
         let b = s[at + n] as u64;
         value += b % 128 * scale;
@@ -30,11 +31,11 @@ pub(crate) fn by_bytes(s: &[u8], at: usize, more: usize, last: u64) -> Found
         scale *= 128;
     }
     if size <= n {
-        return Found::Refused(1);
+        return Found::Refused(refusals::ENDS_EARLY);
     }
     let b = s[at + n] as u64;
     if last < b {
-        return Found::Refused(2);
+        return Found::Refused(refusals::BAD_VARINT);
     }
     let high = b * scale;
     let whole = value + high;

@@ -6,13 +6,15 @@ ghost use Prim.Native.Nat.{_≤_};
 ghost use lib.ListN.{length};
 ghost use Rattle.spec.specs.Base.{part};
 ghost use Rattle.spec.specs.Pull.{opened, stepped, entered, stepAt, reader};
-ghost use Rattle.pull.specs.Told.{told, asked};
+ghost use Rattle.pull.specs.Told.{asMoved, asked};
 ghost use Rattle.pull.specs.Reader.{readerTold, openedTold, steppedTold, enteredTold, onceTold, entering, firstPart, openNumber};
 use crate::step::Ask;
 use crate::step::Moved;
 use crate::step::Said;
 use crate::step::gate_at;
 use crate::step::step_at;
+use spec::limits;
+use spec::refusals;
 
 pub struct Reader<'a> {
     pub s: &'a [u8],
@@ -20,7 +22,7 @@ pub struct Reader<'a> {
     pub level: u32,
 }
 
-// A reader, or refusal 11 and a reader over no bytes.
+// A reader, or the refusal of too many bytes and a reader over no bytes.
 pub struct Opened<'a> {
     pub number: u32,
     pub reader: Reader<'a>,
@@ -41,12 +43,12 @@ pub struct Entered<'a> {
 
 // ---- what the walks call
 
-// 11 for more bytes than may be read, else 0.
+// The refusal of more bytes than may be read, else 0.
 fn open_number(s: &[u8]) -> u32
     ensures { λ r. ⌜ r ≡ openNumber (now (s .entry)) ⌝ }
 {
-    if 0x7fff_ffff < s.len() {
-        return 11;
+    if limits::MOST_BYTES < s.len() {
+        return refusals::TOO_LARGE;
     }
     0
 }
@@ -55,7 +57,7 @@ fn open_number(s: &[u8]) -> u32
 fn first_part<'a>(s: &'a [u8]) -> &'a [u8]
     ensures { λ r. ⌜ now r ≡ firstPart (now (s .entry)) ⌝ }
 {
-    if 0x7fff_ffff < s.len() {
+    if limits::MOST_BYTES < s.len() {
         return &s[0..0];
     }
     s
@@ -124,7 +126,7 @@ pub fn enter<'a>(r: Reader<'a>) -> Entered<'a>
 
 // A step of a reader at a position and a level.
 pub fn step_once(s: &[u8], at: usize, level: u32, ask: Ask) -> Moved
-    ensures { λ r. ⌜ told r ≡ stepAt (now (s .entry)) at level (asked ask) ⌝ }
+    ensures { λ r. ⌜ asMoved r ≡ stepAt (now (s .entry)) at level (asked ask) ⌝ }
 {
     let n = step(Reader { s, at, level }, ask);
     Moved {

@@ -4,7 +4,7 @@ ghost use Prim.Native.Nat.{_≤_};
 ghost use lib.ListN.{length, drop};
 ghost use Rattle.spec.specs.Kind as kind;
 ghost use Rattle.spec.specs.Pull.{rawTag, value, bytes, string, skip, stepAt, enterAt};
-ghost use Rattle.pull.specs.Told.{told, asked, numberOf, contentOf, refusedAt, shutAt, Gated};
+ghost use Rattle.pull.specs.Told.{asMoved, asked, numberOf, contentOf, refusedAt, shutAt, Gated};
 use crate::value::Span;
 use crate::value::bool_found;
 use crate::value::int32_found;
@@ -14,6 +14,8 @@ use crate::value::sint_found;
 use crate::value::span_at;
 use crate::wide::wide_found;
 use skip::unknown_or_group::skip_field_for_tag;
+use spec::limits;
+use spec::refusals;
 use utf8::is_utf8;
 use wire::fixed::decode_fixed32;
 use wire::fixed::decode_fixed64;
@@ -96,7 +98,7 @@ fn content_of(f: Span, at: usize) -> Moved
 
 // The tag as it stands, which is not judged, or the end.
 pub fn tag_at(s: &[u8], at: usize) -> Moved
-    ensures { λ r. ⌜ told r ≡ stepAt (now (s .entry)) at 0 rawTag ⌝ }
+    ensures { λ r. ⌜ asMoved r ≡ stepAt (now (s .entry)) at 0 rawTag ⌝ }
 {
     if s.len() <= at {
         return Moved {
@@ -108,74 +110,74 @@ pub fn tag_at(s: &[u8], at: usize) -> Moved
 }
 
 pub fn int32_at(s: &[u8], at: usize) -> Moved
-    ensures { λ r. ⌜ told r ≡ stepAt (now (s .entry)) at 0 (value kind.int32) ⌝ }
+    ensures { λ r. ⌜ asMoved r ≡ stepAt (now (s .entry)) at 0 (value kind.int32) ⌝ }
 {
     number_of(int32_found(s, at), at)
 }
 
 pub fn uint32_at(s: &[u8], at: usize) -> Moved
-    ensures { λ r. ⌜ told r ≡ stepAt (now (s .entry)) at 0 (value kind.uint32) ⌝ }
+    ensures { λ r. ⌜ asMoved r ≡ stepAt (now (s .entry)) at 0 (value kind.uint32) ⌝ }
 {
     number_of(narrow_found(s, at), at)
 }
 
 // An int64 too: a value is its pattern.
 pub fn uint64_at(s: &[u8], at: usize) -> Moved
-    ensures { λ r. ⌜ told r ≡ stepAt (now (s .entry)) at 0 (value kind.uint64) ⌝ }
+    ensures { λ r. ⌜ asMoved r ≡ stepAt (now (s .entry)) at 0 (value kind.uint64) ⌝ }
 {
     number_of(wide_found(s, at), at)
 }
 
 pub fn bool_at(s: &[u8], at: usize) -> Moved
-    ensures { λ r. ⌜ told r ≡ stepAt (now (s .entry)) at 0 (value kind.bool) ⌝ }
+    ensures { λ r. ⌜ asMoved r ≡ stepAt (now (s .entry)) at 0 (value kind.bool) ⌝ }
 {
     number_of(bool_found(s, at), at)
 }
 
 pub fn sint32_at(s: &[u8], at: usize) -> Moved
-    ensures { λ r. ⌜ told r ≡ stepAt (now (s .entry)) at 0 (value kind.sint32) ⌝ }
+    ensures { λ r. ⌜ asMoved r ≡ stepAt (now (s .entry)) at 0 (value kind.sint32) ⌝ }
 {
     number_of(sint_found(s, at, true), at)
 }
 
 pub fn sint64_at(s: &[u8], at: usize) -> Moved
-    ensures { λ r. ⌜ told r ≡ stepAt (now (s .entry)) at 0 (value kind.sint64) ⌝ }
+    ensures { λ r. ⌜ asMoved r ≡ stepAt (now (s .entry)) at 0 (value kind.sint64) ⌝ }
 {
     number_of(sint_found(s, at, false), at)
 }
 
 pub fn fixed32_at(s: &[u8], at: usize) -> Moved
-    ensures { λ r. ⌜ told r ≡ stepAt (now (s .entry)) at 0 (value kind.fixed32) ⌝ }
+    ensures { λ r. ⌜ asMoved r ≡ stepAt (now (s .entry)) at 0 (value kind.fixed32) ⌝ }
 {
     number_of(decode_fixed32(s, at), at)
 }
 
 pub fn sfixed32_at(s: &[u8], at: usize) -> Moved
-    ensures { λ r. ⌜ told r ≡ stepAt (now (s .entry)) at 0 (value kind.sfixed32) ⌝ }
+    ensures { λ r. ⌜ asMoved r ≡ stepAt (now (s .entry)) at 0 (value kind.sfixed32) ⌝ }
 {
     number_of(sfixed32_found(s, at), at)
 }
 
 pub fn fixed64_at(s: &[u8], at: usize) -> Moved
-    ensures { λ r. ⌜ told r ≡ stepAt (now (s .entry)) at 0 (value kind.fixed64) ⌝ }
+    ensures { λ r. ⌜ asMoved r ≡ stepAt (now (s .entry)) at 0 (value kind.fixed64) ⌝ }
 {
     number_of(decode_fixed64(s, at), at)
 }
 
 pub fn bytes_at(s: &[u8], at: usize) -> Moved
-    ensures { λ r. ⌜ told r ≡ stepAt (now (s .entry)) at 0 bytes ⌝ }
+    ensures { λ r. ⌜ asMoved r ≡ stepAt (now (s .entry)) at 0 bytes ⌝ }
 {
     content_of(span_at(s, at, true), at)
 }
 
 // A content that is no UTF-8 is refused.
 pub fn string_at(s: &[u8], at: usize) -> Moved
-    ensures { λ r. ⌜ told r ≡ stepAt (now (s .entry)) at 0 string ⌝ }
+    ensures { λ r. ⌜ asMoved r ≡ stepAt (now (s .entry)) at 0 string ⌝ }
 {
     match span_at(s, at, true) {
         Span::Of { start, end } => {
             if !is_utf8(&s[start..end]) {
-                return refused(6, at);
+                return refused(refusals::NOT_UTF8, at);
             }
             Moved {
                 said: Said::Content { start, end },
@@ -198,7 +200,7 @@ fn inside(s: &[u8], at: usize) -> usize
 
 // The field behind a tag, skipped: it says how many bytes.
 pub fn skip_at(s: &[u8], at: usize, level: u32, tag: u32) -> Moved
-    ensures { λ r. ⌜ told r ≡ stepAt (now (s .entry)) at level (skip tag) ⌝ }
+    ensures { λ r. ⌜ asMoved r ≡ stepAt (now (s .entry)) at level (skip tag) ⌝ }
 {
     let from = inside(s, at);
     let k = skip_field_for_tag(tag, &s[from..], level);
@@ -217,7 +219,7 @@ pub fn skip_at(s: &[u8], at: usize, level: u32, tag: u32) -> Moved
 // ---- any of them, and entering
 
 pub fn step_at(s: &[u8], at: usize, level: u32, ask: Ask) -> Moved
-    ensures { λ r. ⌜ told r ≡ stepAt (now (s .entry)) at level (asked ask) ⌝ }
+    ensures { λ r. ⌜ asMoved r ≡ stepAt (now (s .entry)) at level (asked ask) ⌝ }
 {
     match ask {
         Ask::RawTag => tag_at(s, at),
@@ -265,8 +267,8 @@ fn shut(number: u32, at: usize, level: u32) -> Gate
 pub(crate) fn gate_at(s: &[u8], at: usize, level: u32) -> Gate
     ensures { λ r. ⌜ Gated (now (s .entry)) at level r ⌝ }
 {
-    if 100 <= level {
-        return shut(7, at, level);
+    if limits::MOST_LEVELS <= level {
+        return shut(refusals::TOO_DEEP, at, level);
     }
     match span_at(s, at, false) {
         Span::Of { start, end } => Gate {
@@ -282,7 +284,7 @@ pub(crate) fn gate_at(s: &[u8], at: usize, level: u32) -> Gate
 
 // The content of a message at a position and a level.
 pub fn enter_at(s: &[u8], at: usize, level: u32) -> Moved
-    ensures { λ r. ⌜ told r ≡ enterAt (now (s .entry)) at level ⌝ }
+    ensures { λ r. ⌜ asMoved r ≡ enterAt (now (s .entry)) at level ⌝ }
 {
     let g = gate_at(s, at, level);
     let said = g.said;

@@ -6,24 +6,28 @@ ghost use Rattle.spec.specs.Varint as spec;
 ghost use Rattle.spec.specs.Varint.{varint32};
 ghost use Rattle.spec.specs.Kind.{scalar, int32, bool, sfixed32};
 ghost use Rattle.spec.specs.Skip.{content};
-ghost use Rattle.wire.specs.Answers.{told};
+ghost use Rattle.wire.specs.Answers.{asRead};
 ghost use Rattle.wire.specs.Reached.{varintOf};
 ghost use Rattle.pull.specs.Told.{spanAt};
 use crate::bytes::by_bytes;
 use crate::wide::wide_found;
+use spec::limits;
+use spec::refusals;
 use wire::fixed::decode_fixed32;
 use wire::fixed::extend32;
 use wire::found::Found;
+use wire::varint::LAST_OF_32;
+use wire::varint::MORE_OF_32;
 use wire::zigzag::unzigzag;
 
 // ---- numbers
 
 // A varint32, as a tag is. Those of one or two bytes are read in place, as most are, and the others a byte at a time.
 pub(crate) fn narrow_found(s: &[u8], at: usize) -> Found
-    ensures { λ r. ⌜ told at r ≡ varint32 (drop at (now (s .entry))) ⌝ }
+    ensures { λ r. ⌜ asRead at r ≡ varint32 (drop at (now (s .entry))) ⌝ }
 {
     if s.len() <= at {
-        return Found::Refused(1);
+        return Found::Refused(refusals::ENDS_EARLY);
     }
     let c = s[at] as u64;
     if c < 128 {
@@ -38,12 +42,12 @@ pub(crate) fn narrow_found(s: &[u8], at: usize) -> Found
             return Found::Value { value: v, next };
         }
     }
-    by_bytes(s, at, 4, 15)
+    by_bytes(s, at, MORE_OF_32, LAST_OF_32)
 }
 
 // A varint of either width, for what is read at both.
 fn varint_found(s: &[u8], at: usize, narrow: bool) -> Found
-    ensures { λ r. ⌜ told at r ≡ varintOf narrow (drop at (now (s .entry))) ⌝ }
+    ensures { λ r. ⌜ asRead at r ≡ varintOf narrow (drop at (now (s .entry))) ⌝ }
 {
     if narrow {
         return narrow_found(s, at);
@@ -53,24 +57,24 @@ fn varint_found(s: &[u8], at: usize, narrow: bool) -> Found
 
 // An int32: a varint64 whose signed number has 32 bits.
 pub(crate) fn int32_found(s: &[u8], at: usize) -> Found
-    ensures { λ r. ⌜ told at r ≡ scalar int32 (drop at (now (s .entry))) ⌝ }
+    ensures { λ r. ⌜ asRead at r ≡ scalar int32 (drop at (now (s .entry))) ⌝ }
 {
     match wide_found(s, at) {
         Found::Value { value, next } => {
-            if value < 0x8000_0000 {
+            if value < limits::BEYOND_INT32 {
                 return Found::Value { value, next };
             }
-            if 0xffff_ffff_8000_0000 <= value {
+            if limits::LEAST_INT32 <= value {
                 return Found::Value { value, next };
             }
-            Found::Refused(5)
+            Found::Refused(refusals::OUT_OF_RANGE)
         }
         Found::Refused(k) => Found::Refused(k),
     }
 }
 
 pub(crate) fn bool_found(s: &[u8], at: usize) -> Found
-    ensures { λ r. ⌜ told at r ≡ scalar bool (drop at (now (s .entry))) ⌝ }
+    ensures { λ r. ⌜ asRead at r ≡ scalar bool (drop at (now (s .entry))) ⌝ }
 {
     match wide_found(s, at) {
         Found::Value { value, next } => {
@@ -85,7 +89,7 @@ pub(crate) fn bool_found(s: &[u8], at: usize) -> Found
 
 // A zigzag value of either width.
 pub(crate) fn sint_found(s: &[u8], at: usize, narrow: bool) -> Found
-    ensures { λ r. ⌜ told at r ≡ meaning spec.unzigzag (varintOf narrow (drop at (now (s .entry)))) ⌝ }
+    ensures { λ r. ⌜ asRead at r ≡ meaning spec.unzigzag (varintOf narrow (drop at (now (s .entry)))) ⌝ }
 {
     match varint_found(s, at, narrow) {
         Found::Value { value, next } => {
@@ -97,7 +101,7 @@ pub(crate) fn sint_found(s: &[u8], at: usize, narrow: bool) -> Found
 }
 
 pub(crate) fn sfixed32_found(s: &[u8], at: usize) -> Found
-    ensures { λ r. ⌜ told at r ≡ scalar sfixed32 (drop at (now (s .entry))) ⌝ }
+    ensures { λ r. ⌜ asRead at r ≡ scalar sfixed32 (drop at (now (s .entry))) ⌝ }
 {
     match decode_fixed32(s, at) {
         Found::Value { value, next } => {
@@ -123,7 +127,7 @@ pub(crate) fn span_at(s: &[u8], at: usize, narrow: bool) -> Span
     match varint_found(s, at, narrow) {
         Found::Value { value, next } => {
             if ((s.len() - next) as u64) < value {
-                return Span::Bad(1);
+                return Span::Bad(refusals::ENDS_EARLY);
             }
             let end = next + value as usize;
             Span::Of { start: next, end }

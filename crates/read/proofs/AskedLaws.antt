@@ -8,6 +8,7 @@ use lib.ListN.{length, drop, length-drop}
 use lib.Seq.{drop-drop}
 use lib.Dec.{leb, eqb}
 use borrow.Author.Tests.{ne-eqb, leb-false}
+use Rattle.spec.specs.Names.{messageKind, mostLevels, notUtf8, packedHead, tooDeep}
 use Rattle.spec.specs.Base.{if_then_else_, part, Read, Took, No}
 use Rattle.spec.specs.Varint.{varint32, varint64, tag}
 use Rattle.spec.specs.Utf8.{utf8}
@@ -32,14 +33,14 @@ module _ (m kind inner v a e : ℕ) where
   as-value : 0 ≡ headTest kind → asField m kind inner v a e ≡ spec.Value m kind v a e
   as-value h =
       rw (
-        ne-eqb kind 11 (λ q. let z : 0 ≡ 11 = h ∙ ap headTest q in omega arith),
-        ne-eqb kind 20 (λ q. let z : 0 ≡ 20 = h ∙ ap headTest q in omega arith),
+        ne-eqb kind messageKind (λ q. let z : 0 ≡ messageKind = h ∙ ap headTest q in omega arith),
+        ne-eqb kind packedHead (λ q. let z : 0 ≡ packedHead = h ∙ ap headTest q in omega arith),
       )
 
-  as-message : kind ≡ 11 → asField m kind inner v a e ≡ spec.Message m inner a e
+  as-message : kind ≡ messageKind → asField m kind inner v a e ≡ spec.Message m inner a e
   as-message h = rw h
 
-  as-packed : kind ≡ 20 → asField m kind inner v a e ≡ spec.Packed m inner a e
+  as-packed : kind ≡ packedHead → asField m kind inner v a e ≡ spec.Packed m inner a e
   as-packed h = rw h
 
 module _ (depth at n m kind inner : ℕ) (s : List ℕ) where
@@ -68,9 +69,9 @@ module _ (depth at n m kind inner : ℕ) (s : List ℕ) where
   there-either false x y e f = f
 
   there-texted : 0 ≡ headTest kind → (r : Read)
-      → there (texted (at + n) behind r) ≡ spec.given r (λ a z. if utf8 (part a z behind) then spec.Value m kind 0 (n + a) (n + z) else spec.Fault 6 0)
+      → there (texted (at + n) behind r) ≡ spec.given r (λ a z. if utf8 (part a z behind) then spec.Value m kind 0 (n + a) (n + z) else spec.Fault notUtf8 0)
   unfolding resolved fromBody texted spec.given
-  there-texted h (Took a z) = there-either (utf8 (part a z behind)) (body.Is 0 (at + n + a) (at + n + z)) (body.Bad 6) (there-is 0 a z ∙ as-value m kind inner 0 (n + a) (n + z) h) refl
+  there-texted h (Took a z) = there-either (utf8 (part a z behind)) (body.Is 0 (at + n + a) (at + n + z)) (body.Bad notUtf8) (there-is 0 a z ∙ as-value m kind inner 0 (n + a) (n + z) h) refl
   there-texted h (No k) = refl
 
   there-bodied : (x : Shape) → headOf x ≡ headTest kind → there (bodied x depth (at + n) behind) ≡ spec.shaped x depth inner m kind n behind
@@ -79,8 +80,8 @@ module _ (depth at n m kind inner : ℕ) (s : List ℕ) where
   there-bodied (other string) h = there-texted h (content varint32 behind)
   there-bodied (other bytes) h = there-ranged _ (λ a e. as-value m kind inner 0 (n + a) (n + e) h) (content varint32 behind)
   there-bodied (other message) h =
-      there-either (leb 100 depth) (body.Bad 7) (ranged (at + n) (content varint64 behind)) refl (there-ranged _ (λ a e. as-message m kind inner 0 (n + a) (n + e) (head-one kind 10 h)) (content varint64 behind))
-  there-bodied (other packed) h = there-ranged _ (λ a e. as-packed m kind inner 0 (n + a) (n + e) (head-one kind 19 h)) (content varint64 behind)
+      there-either (leb mostLevels depth) (body.Bad tooDeep) (ranged (at + n) (content varint64 behind)) refl (there-ranged _ (λ a e. as-message m kind inner 0 (n + a) (n + e) (head-one kind messageKind (omega arith) h)) (content varint64 behind))
+  there-bodied (other packed) h = there-ranged _ (λ a e. as-packed m kind inner 0 (n + a) (n + e) (head-one kind packedHead (omega arith) h)) (content varint64 behind)
   there-bodied (other startGroup) h = ap (λ (k : ℕ). spec.given (outerGroup depth behind) λ v l. spec.Dropped m (k + l)) (omega arith)
   there-bodied (other endGroup) h = refl
   there-bodied (other nothing) h = refl
@@ -119,7 +120,7 @@ module _ (look : spec.Look) (depth type at : ℕ) (s : List ℕ) where
 
 -- a head has no value, and a message's stands above the greatest depth
 data Kept (depth : ℕ) : Field → Type 0 where
-  of-row : {r : Row} → (r .kind ≡ 11 → depth < 100) → (r .kind ≡ 11 → r .value ≡ 0) → (r .kind ≡ 20 → r .value ≡ 0) → Kept depth (field.Of r)
+  of-row : {r : Row} → (r .kind ≡ messageKind → depth < mostLevels) → (r .kind ≡ messageKind → r .value ≡ 0) → (r .kind ≡ packedHead → r .value ≡ 0) → Kept depth (field.Of r)
   of-group : {m n : ℕ} → Kept depth (field.Group m n)
   of-bad : {k p : ℕ} → Kept depth (field.Bad k p)
 
@@ -133,16 +134,16 @@ module _ (depth m kind inner next at : ℕ) where
   kept-valued : 0 ≡ headTest kind → (r : Read) → Kept depth (from (valued at r))
   unfolding fromBody valued
   kept-valued h (Took v n) =
-      of-row (λ e. absurd (not-head kind 0 h 11 refl (λ z. omega arith) e)) (λ e. absurd (not-head kind 0 h 11 refl (λ z. omega arith) e))
-      (λ e. absurd (not-head kind 0 h 20 refl (λ z. omega arith) e))
+      of-row (λ e. absurd (not-head kind 0 h messageKind refl (λ z. omega arith) e)) (λ e. absurd (not-head kind 0 h messageKind refl (λ z. omega arith) e))
+      (λ e. absurd (not-head kind 0 h packedHead refl (λ z. omega arith) e))
   kept-valued h (No k) = of-bad
 
-  kept-ranged : (kind ≡ 11 → depth < 100) → (r : Read) → Kept depth (from (ranged at r))
+  kept-ranged : (kind ≡ messageKind → depth < mostLevels) → (r : Read) → Kept depth (from (ranged at r))
   unfolding fromBody ranged
   kept-ranged d (Took a z) = of-row d (λ e. refl) (λ e. refl)
   kept-ranged d (No k) = of-bad
 
-  kept-texted : (kind ≡ 11 → depth < 100) → (s : List ℕ) (r : Read) → Kept depth (from (texted at s r))
+  kept-texted : (kind ≡ messageKind → depth < mostLevels) → (s : List ℕ) (r : Read) → Kept depth (from (texted at s r))
   unfolding fromBody texted
   kept-texted d s (Took a z) = either-way (λ b. Kept depth (from b)) (utf8 (part a z s)) (of-row d (λ e. refl) (λ e. refl)) of-bad
   kept-texted d s (No k) = of-bad
@@ -150,11 +151,11 @@ module _ (depth m kind inner next at : ℕ) where
   kept-bodied : (s : List ℕ) (x : Shape) → headOf x ≡ headTest kind → Kept depth (from (bodied x depth at s))
   unfolding fromBody bodied headOf
   kept-bodied s (one c) h = kept-valued h (scalar c s)
-  kept-bodied s (other string) h = kept-texted (λ e. absurd (not-head kind 0 h 11 refl (λ z. omega arith) e)) s (content varint32 s)
-  kept-bodied s (other bytes) h = kept-ranged (λ e. absurd (not-head kind 0 h 11 refl (λ z. omega arith) e)) (content varint32 s)
+  kept-bodied s (other string) h = kept-texted (λ e. absurd (not-head kind 0 h messageKind refl (λ z. omega arith) e)) s (content varint32 s)
+  kept-bodied s (other bytes) h = kept-ranged (λ e. absurd (not-head kind 0 h messageKind refl (λ z. omega arith) e)) (content varint32 s)
   kept-bodied s (other message) h =
-      chosen (λ b. Kept depth (from b)) (leb 100 depth) (λ e. of-bad) (λ e. kept-ranged (λ _. leb-false 100 depth e) (content varint64 s))
-  kept-bodied s (other packed) h = kept-ranged (λ e. absurd (not-head kind 20 h 11 refl (λ z. omega arith) e)) (content varint64 s)
+      chosen (λ b. Kept depth (from b)) (leb mostLevels depth) (λ e. of-bad) (λ e. kept-ranged (λ _. leb-false mostLevels depth e) (content varint64 s))
+  kept-bodied s (other packed) h = kept-ranged (λ e. absurd (not-head kind packedHead h messageKind refl (λ z. omega arith) e)) (content varint64 s)
   kept-bodied s (other startGroup) h = of-group
   kept-bodied s (other endGroup) h = of-bad
   kept-bodied s (other nothing) h = of-bad
@@ -179,7 +180,7 @@ module _ (look : spec.Look) (depth type at : ℕ) (s : List ℕ) where
   unfolding resolved
   asked-in r e =
       let same : spec.field look depth type (drop at s) ≡ rowField at r = sym (asked-resolved look depth type at s) ∙ ap (resolved depth at s) e in
-      row-in (eqb (r .kind) 11) (eqb (r .kind) 20) (r .number) (r .kind) (r .inner) (r .value) (r .start - at) (r .end - at) (rw same at (field-sound look depth type (drop at s)))
+      row-in (eqb (r .kind) messageKind) (eqb (r .kind) packedHead) (r .number) (r .kind) (r .inner) (r .value) (r .start - at) (r .end - at) (rw same at (field-sound look depth type (drop at s)))
 
   pub asked-held : (r : Row) → asked look depth type at s ≡ field.Of r → Held depth at (length s) r
   asked-held r e = go (rw e at asked-kept)

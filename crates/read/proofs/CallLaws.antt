@@ -8,12 +8,14 @@ use mathlib.Core.List.{List}
 use lib.ListN.{length, replicate}
 use lib.Dec.{leb}
 use borrow.Author.Tests.{lt-ltb, le-ltb, leb-true}
+use Rattle.spec.specs.Names.{invalidSchema, tooLarge, mostEntries, mostTypes}
 use Rattle.spec.specs.Base.{between, limit}
 use Rattle.spec.specs.Record.{stride, stored}
 use Rattle.spec.specs.Reading.{Look, Reading, Refused, within, number, place, listed, roomAfter, read, reading, refusedOr}
 use Rattle.spec.specs.Schema.{Schema, badSchema, says}
 use Rattle.spec.specs.declared.Entry.{Entry}
 use Rattle.spec.proofs.Laws.{by-test, both}
+use Rattle.schema.specs.Layout.{infoLength, keyCount}
 use Rattle.schema.specs.Tables.{soundOf, keysWith, infoWith, tableSays}
 use Rattle.schema.proofs.TableLaws.{sound-valid, made-says, said-message}
 use Rattle.read.specs.Answers.{readingBy, answered}
@@ -58,7 +60,7 @@ answers-read q room {a} e =
     (h .0, h .1, h .2, left-room all)
 
 module _ (look : Look) (n : ℕ) (s : List ℕ) where
-  pub too-long : limit < length s → readingBy look n s ≡ Refused 11 0
+  pub too-long : limit < length s → readingBy look n s ≡ Refused tooLarge 0
   unfolding readingBy
   too-long h = rw (lt-ltb limit (length s) h)
 
@@ -74,12 +76,12 @@ answers-prepared look s room h e is = rw (is, not-too-long look (length room / s
 -- ---- under a schema
 
 module _ (sch : Schema) (n : ℕ) (s : List ℕ) where
-  pub reading-long : limit < length s → reading sch n s ≡ Refused 11 0
+  pub reading-long : limit < length s → reading sch n s ≡ Refused tooLarge 0
   unfolding reading
   reading-long h = rw (lt-ltb limit (length s) h)
 
   module _ (h : length s ≤ limit) where
-    pub reading-bad : {i : ℕ} → badSchema sch ≡ some i → reading sch n s ≡ Refused 9 i
+    pub reading-bad : {i : ℕ} → badSchema sch ≡ some i → reading sch n s ≡ Refused invalidSchema i
     unfolding reading refusedOr
     reading-bad e = rw (le-ltb limit (length s) h, e)
 
@@ -87,27 +89,27 @@ module _ (sch : Schema) (n : ℕ) (s : List ℕ) where
     unfolding reading refusedOr
     reading-valid e = rw (le-ltb limit (length s) h, e)
 
--- a valid schema has a type at least, and 32 at most
-valid-types : (sch : Schema) → badSchema sch ≡ none → (1 ≤ sch .types) × (sch .types ≤ 32)
+-- a valid schema has a type at least, and `mostTypes` at most
+valid-types : (sch : Schema) → badSchema sch ≡ none → (1 ≤ sch .types) × (sch .types ≤ mostTypes)
 unfolding badSchema
 valid-types sch e =
-    by-test (between 1 32 (sch .types) && leb (length (sch .entries)) 256)
+    by-test (between 1 mostTypes (sch .types) && leb (length (sch .entries)) mostEntries)
     (λ p.
-    let q = both (leb 1 (sch .types)) (leb (sch .types) 32) (both (between 1 32 (sch .types)) (leb (length (sch .entries)) 256) p .0) in
-    (leb-true 1 (sch .types) (q .0), leb-true (sch .types) 32 (q .1)))
+    let q = both (leb 1 (sch .types)) (leb (sch .types) mostTypes) (both (between 1 mostTypes (sch .types)) (leb (length (sch .entries)) mostEntries) p .0) in
+    (leb-true 1 (sch .types) (q .0), leb-true (sch .types) mostTypes (q .1)))
     (λ p. let bad : _≡_ {A = Option ℕ} (some 0) none = rw p at e in let z : _≡_ {A = ℕ} 0 1 = cc in absurd (omega arith))
 
 -- its tables, made of arrays as a reader clears them, read what it says
-pub reads-tables : (sch : Schema) (n : ℕ) (s : List ℕ) (keys info info₀ : List ℕ) → badSchema sch ≡ none → keys ≡ keysWith 0 (soundOf sch) (replicate 256 (2 ^ 64 - 1))
-    → info ≡ infoWith 0 (soundOf sch) info₀ → 1024 ≤ length info₀ → length s ≤ limit → readingBy (tableSays keys info) n s ≡ reading sch n s
+pub reads-tables : (sch : Schema) (n : ℕ) (s : List ℕ) (keys info info₀ : List ℕ) → badSchema sch ≡ none → keys ≡ keysWith 0 (soundOf sch) (replicate keyCount (2 ^ 64 - 1))
+    → info ≡ infoWith 0 (soundOf sch) info₀ → infoLength ≤ length info₀ → length s ≤ limit → readingBy (tableSays keys info) n s ≡ reading sch n s
 reads-tables sch n s keys info info₀ valid k i wide h =
     let few = valid-types sch valid in
     let es = sound-valid sch valid in
-    let keys-are : keys ≡ keysWith 0 (sch .entries) (replicate 256 (2 ^ 64 - 1)) = k ∙ ap (λ (x : List Entry). keysWith 0 x (replicate 256 (2 ^ 64 - 1))) es in
+    let keys-are : keys ≡ keysWith 0 (sch .entries) (replicate keyCount (2 ^ 64 - 1)) = k ∙ ap (λ (x : List Entry). keysWith 0 x (replicate keyCount (2 ^ 64 - 1))) es in
     let info-is : info ≡ infoWith 0 (sch .entries) info₀ = i ∙ ap (λ (x : List Entry). infoWith 0 x info₀) es in
     not-too-long (tableSays keys info) n s h
     ∙ ap (within n) (rw (keys-are, info-is)
-    (sym (read-cong (sch .types) (says sch) (tableSays (keysWith 0 (sch .entries) (replicate 256 (2 ^ 64 - 1))) (infoWith 0 (sch .entries) info₀))
+    (sym (read-cong (sch .types) (says sch) (tableSays (keysWith 0 (sch .entries) (replicate keyCount (2 ^ 64 - 1))) (infoWith 0 (sch .entries) info₀))
     (λ type t a b c d. sym (made-says sch valid info₀ wide type t (omega (arith, a, few .1)) b c d))
     (λ type t d. said-message sch valid type t d)
     0 0 0 s (omega (arith, few .0)))))

@@ -1,6 +1,6 @@
 -- Laws of the steps of a field: its tag, its length, what stands behind them. Each says an answer of the code in the definitions' terms.
 -- Assumes nothing.
-use Prim.Native.Nat.{ℕ, suc, _+_, _-_, _*_, _/_, _%_, _≤_, _<_}
+use Prim.Native.Nat.{ℕ, suc, _+_, _-_, _*_, _/_, _%_, _^_, _≤_, _<_}
 use native.Mathlib.Omega.{arith}
 use mathlib.Core.Path.{_≡_, refl, sym, ap, ap₂, _∙_}
 use mathlib.Core.Bool.{Bool, true, false, not, false≢true}
@@ -10,6 +10,7 @@ use native.Mathlib.Numerals.{add-one}
 use lib.Seq.{drop-cons, drop-drop}
 use lib.Dec.{eqb}
 use borrow.Author.Tests.{le-leb, lt-leb, eqb-true, eqb-false}
+use Rattle.spec.specs.Names.{bytesKind, messageKind, mostLevels, packedHead, stringKind, unknownBytes, badTag, endsEarly, fixed32Wire, notUtf8, tooDeep}
 use Rattle.spec.specs.Base.{if_then_else_, part, Read, Took, No, _>>=_, longer, digit}
 use Rattle.spec.specs.Varint.{varint, varint32, tag, goodTag}
 use Rattle.spec.specs.Utf8.{utf8}
@@ -19,10 +20,11 @@ use Rattle.spec.specs.Skip.{content}
 use Rattle.spec.proofs.Laws.{by-test, Takes, took, none, takes-varint, takes-scalar, takes-tag, Holds, holds, content-holds}
 use Rattle.spec.proofs.VarintLaws.{varint-goes-on}
 use Rattle.spec.proofs.SkipLaws.{good-tag}
+use Rattle.schema.specs.Layout.{keyCount}
 use Rattle.schema.specs.Tables.{tableSays}
 use Rattle.schema.proofs.AskingLaws.{Right, guessed, says-guessed}
 use Rattle.skip.proofs.PastLaws.{one-byte, tag-refused, tag-good, tag-bad, content-short, content-refused}
-use Rattle.wire.specs.Answers.{told}
+use Rattle.wire.specs.Answers.{asRead}
 use Rattle.wire.specs.Reached.{varintOf}
 use Rattle.wire.proofs.FoundLaws.{Placed, varint-placed}
 use Rattle.wire.specs.declared.found.Found.the-variants as found
@@ -51,7 +53,7 @@ module _ (at : ℕ) (s : List ℕ) (inside : at < length s) where
       is-short {v = v} {n = 2} (λ k last. later-byte (suc (suc k)) last at s inside b (one-byte (suc k) last (at + 1) s i h) ∙ ap (λ (x : ℕ). Took x 2) (omega arith)) (omega arith)
 
   pub three-short : 128 ≤ getD s at 0 → at + 1 < length s → 128 ≤ getD s (at + 1) 0 → at + 2 < length s → getD s (at + 2) 0 < 128
-      → {v : ℕ} → v ≡ getD s at 0 % 128 + getD s (at + 1) 0 % 128 * 128 + getD s (at + 2) 0 * 16384 → Shortly (drop at s) (short.Of v 3)
+      → {v : ℕ} → v ≡ getD s at 0 % 128 + getD s (at + 1) 0 % 128 * 128 + getD s (at + 2) 0 * 128 ^ 2 → Shortly (drop at s) (short.Of v 3)
   three-short b i c j h {v} e =
       let q : at + 2 ≡ at + 1 + 1 = omega arith in
       let z : getD s at 0 % 128 + 128 * (getD s (at + 1) 0 % 128 + 128 * getD s (at + 1 + 1) 0) ≡ v = rw (← q) (omega arith) in
@@ -72,11 +74,11 @@ module _ (say : ℕ → Says) (at : ℕ) (s : List ℕ) where
   unfolding tagAt
   tag-took e = rw e
 
-  pub refused-tag : {k : ℕ} → told at (found.Refused k) ≡ varint32 (drop at s) → tagged.Bad k ≡ tagAt say at (tag (drop at s))
+  pub refused-tag : {k : ℕ} → asRead at (found.Refused k) ≡ varint32 (drop at s) → tagged.Bad k ≡ tagAt say at (tag (drop at s))
   refused-tag e = tag-no (tag-refused (drop at s) (sym e))
 
-  module _ {v : ℕ} (next : ℕ) (e : told at (found.Value v next) ≡ varint32 (drop at s)) where
-    pub bad-tag : goodTag v ≡ false → tagged.Bad 3 ≡ tagAt say at (tag (drop at s))
+  module _ {v : ℕ} (next : ℕ) (e : asRead at (found.Value v next) ≡ varint32 (drop at s)) where
+    pub bad-tag : goodTag v ≡ false → tagged.Bad badTag ≡ tagAt say at (tag (drop at s))
     bad-tag g = tag-no (tag-bad (drop at s) (sym e) g)
 
     pub told-tag : goodTag v ≡ true → tagged.Of (v / 8) (say v .kind) (say v .inner) next ≡ tagAt say at (tag (drop at s))
@@ -99,7 +101,7 @@ abbrev pub byte : ℕ → List ℕ → ℕ
 byte at s = getD s at 0
 
 module _ (keys info : List ℕ) (ty at : ℕ) (s : List ℕ) (inside : at < length s) where
-  pub guessed-tag : Right keys info ty (byte at s) → guessed info ty (byte at s) < 256 → 8 ≤ byte at s → byte at s % 8 < 6
+  pub guessed-tag : Right keys info ty (byte at s) → guessed info ty (byte at s) < keyCount → 8 ≤ byte at s → byte at s % 8 < fixed32Wire + 1
       → quickTag info (guessed info ty (byte at s)) (byte at s) at ≡ tagAt (tableSays keys info ty) at (tag (drop at s))
   guessed-tag r l a b =
       let c : ℕ = byte at s in
@@ -109,7 +111,7 @@ module _ (keys info : List ℕ) (ty at : ℕ) (s : List ℕ) (inside : at < leng
 
 -- ---- lengths and contents
 
-pub width-placed : (narrow : Bool) (s : List ℕ) (at : ℕ) {v next : ℕ} → told at (found.Value v next) ≡ varintOf narrow (drop at s) → (at < next) × (next ≤ length s)
+pub width-placed : (narrow : Bool) (s : List ℕ) (at : ℕ) {v next : ℕ} → asRead at (found.Value v next) ≡ varintOf narrow (drop at s) → (at < next) × (next ≤ length s)
 width-placed true s at e = let p = varint-placed 4 15 s at e refl in (p .past, p .inside)
 width-placed false s at e = let p = varint-placed 9 1 s at e refl in (p .past, p .inside)
 
@@ -123,7 +125,7 @@ module _ (len : List ℕ → Read) (at : ℕ) (s : List ℕ) where
   span-refused e = rw (content-refused len (drop at s) e)
 
   module _ {m n : ℕ} (e : len (drop at s) ≡ Took m n) where
-    pub span-short : at ≤ length s → length s < at + n + m → span.Bad 1 ≡ spanAt at (content len (drop at s))
+    pub span-short : at ≤ length s → length s < at + n + m → span.Bad endsEarly ≡ spanAt at (content len (drop at s))
     unfolding spanAt
     span-short l h = rw (content-short len (drop at s) e (omega (arith, length-drop at s)))
 
@@ -156,25 +158,25 @@ span-in kind at s {a} {e} h =
 -- ---- what stands behind a tag
 
 -- the kinds of a field with a length
-by-length {ℓ} : (P : ℕ → Type ℓ) → P 9 → P 11 → P 12 → P 20 → P 23 → (k : ℕ) → hasLength k ≡ true → P k
-by-length P p₀ p₁ p₂ p₃ p₄ k h = by (eqb k 9) (eqb k 11) (eqb k 12) (eqb k 20) (eqb k 23) refl refl refl refl refl
+by-length {ℓ} : (P : ℕ → Type ℓ) → P stringKind → P messageKind → P bytesKind → P packedHead → P unknownBytes → (k : ℕ) → hasLength k ≡ true → P k
+by-length P p₀ p₁ p₂ p₃ p₄ k h = by (eqb k stringKind) (eqb k messageKind) (eqb k bytesKind) (eqb k packedHead) (eqb k unknownBytes) refl refl refl refl refl
   where
-    by : (b₀ b₁ b₂ b₃ b₄ : Bool) → eqb k 9 ≡ b₀ → eqb k 11 ≡ b₁ → eqb k 12 ≡ b₂ → eqb k 20 ≡ b₃ → eqb k 23 ≡ b₄ → P k
-    by true b₁ b₂ b₃ b₄ e f g i j = rw (eqb-true k 9 e) p₀
-    by false true b₂ b₃ b₄ e f g i j = rw (eqb-true k 11 f) p₁
-    by false false true b₃ b₄ e f g i j = rw (eqb-true k 12 g) p₂
-    by false false false true b₄ e f g i j = rw (eqb-true k 20 i) p₃
-    by false false false false true e f g i j = rw (eqb-true k 23 j) p₄
+    by : (b₀ b₁ b₂ b₃ b₄ : Bool) → eqb k stringKind ≡ b₀ → eqb k messageKind ≡ b₁ → eqb k bytesKind ≡ b₂ → eqb k packedHead ≡ b₃ → eqb k unknownBytes ≡ b₄ → P k
+    by true b₁ b₂ b₃ b₄ e f g i j = rw (eqb-true k stringKind e) p₀
+    by false true b₂ b₃ b₄ e f g i j = rw (eqb-true k messageKind f) p₁
+    by false false true b₃ b₄ e f g i j = rw (eqb-true k bytesKind g) p₂
+    by false false false true b₄ e f g i j = rw (eqb-true k packedHead i) p₃
+    by false false false false true e f g i j = rw (eqb-true k unknownBytes j) p₄
     by false false false false false e f g i j = absurd (false≢true (sym (rw (e, f, g, i, j) refl) ∙ h))
 
-pub text-body : (at : ℕ) (s : List ℕ) → bodied (shape 9) 0 at s ≡ texted at s (content (lengthOf 9) s)
+pub text-body : (at : ℕ) (s : List ℕ) → bodied (shape stringKind) 0 at s ≡ texted at s (content (lengthOf stringKind) s)
 unfolding bodied shape shapes
 text-body at s = refl
 
-pub content-body : (at : ℕ) (s : List ℕ) (kind : ℕ) → hasLength kind ≡ true → (kind ≡ 9 → ⊥) → bodied (shape kind) 0 at s ≡ ranged at (content (lengthOf kind) s)
+pub content-body : (at : ℕ) (s : List ℕ) (kind : ℕ) → hasLength kind ≡ true → (kind ≡ stringKind → ⊥) → bodied (shape kind) 0 at s ≡ ranged at (content (lengthOf kind) s)
 unfolding bodied shape shapes
 content-body at s =
-    by-length (λ k. (k ≡ 9 → ⊥) → bodied (shape k) 0 at s ≡ ranged at (content (lengthOf k) s)) (λ n. absurd (n refl)) (λ n. refl) (λ n. refl) (λ n. refl) (λ n. refl)
+    by-length (λ k. (k ≡ stringKind → ⊥) → bodied (shape k) 0 at s ≡ ranged at (content (lengthOf k) s)) (λ n. absurd (n refl)) (λ n. refl) (λ n. refl) (λ n. refl) (λ n. refl)
 
 module _ (at : ℕ) (r : Read) where
   pub ranged-of : {a e : ℕ} → span.Of a e ≡ spanAt at r → body.Is 0 a e ≡ ranged at r
@@ -201,11 +203,11 @@ module _ (at : ℕ) (r : Read) where
       go (Took m n) q = let z : _≡_ {A = ℕ} 0 1 = cc in absurd (omega arith)
       go (No j) q = cc
 
-  pub texted-of : (s : List ℕ) {a e : ℕ} → span.Of a e ≡ spanAt at r → at ≤ a → {b : Bool} → b ≡ utf8 (take (e - a) (drop a s)) → (if b then body.Is 0 a e else body.Bad 6) ≡ texted at (drop at s) r
+  pub texted-of : (s : List ℕ) {a e : ℕ} → span.Of a e ≡ spanAt at r → at ≤ a → {b : Bool} → b ≡ utf8 (take (e - a) (drop a s)) → (if b then body.Is 0 a e else body.Bad notUtf8) ≡ texted at (drop at s) r
   unfolding spanAt texted
   texted-of s {a} {e} h l {b} u = go r h
     where
-      go : (r : Read) → span.Of a e ≡ spanAt at r → (if b then body.Is 0 a e else body.Bad 6) ≡ texted at (drop at s) r
+      go : (r : Read) → span.Of a e ≡ spanAt at r → (if b then body.Is 0 a e else body.Bad notUtf8) ≡ texted at (drop at s) r
       go (Took m n) q =
           let x : a ≡ at + m = cc in
           let y : e ≡ at + n = cc in
@@ -232,7 +234,7 @@ unsized (other endGroup) at s h = absurd (omega arith)
 unsized (other nothing) at s h = refl
 
 module _ (x : Shape) (at : ℕ) (s : List ℕ) (h : sortOf x ≡ 0) where
-  pub value-body : {v next : ℕ} → told at (found.Value v next) ≡ scalarOf x s → body.Is v at next ≡ bodied x 0 at s
+  pub value-body : {v next : ℕ} → asRead at (found.Value v next) ≡ scalarOf x s → body.Is v at next ≡ bodied x 0 at s
   unfolding valued
   value-body {v} {next} e = go (scalarOf x s) (takes-scalarOf x s) e ∙ sym (unsized x at s h)
     where
@@ -243,12 +245,12 @@ module _ (x : Shape) (at : ℕ) (s : List ℕ) (h : sortOf x ≡ 0) where
           ap₂ (λ (a e : ℕ). body.Is a at e) z (omega arith)
       go (No k) none q = let z : _≡_ {A = ℕ} 0 1 = cc in absurd (omega arith)
 
-  pub refused-body : {k : ℕ} → told at (found.Refused k) ≡ scalarOf x s → body.Bad k ≡ bodied x 0 at s
+  pub refused-body : {k : ℕ} → asRead at (found.Refused k) ≡ scalarOf x s → body.Bad k ≡ bodied x 0 at s
   unfolding valued
   refused-body e = rw (unsized x at s h, ← e) refl
 
 -- only a message's head asks for the depth
-pub shallow-body : (depth at : ℕ) (s : List ℕ) (kind : ℕ) → (kind ≡ 11 → depth < 100) → bodied (shape kind) 0 at s ≡ bodied (shape kind) depth at s
+pub shallow-body : (depth at : ℕ) (s : List ℕ) (kind : ℕ) → (kind ≡ messageKind → depth < mostLevels) → bodied (shape kind) 0 at s ≡ bodied (shape kind) depth at s
 unfolding bodied headOf
 shallow-body depth at s kind d = go (shape kind) (head-kind kind)
   where
@@ -256,33 +258,33 @@ shallow-body depth at s kind d = go (shape kind) (head-kind kind)
     go (one c) h = refl
     go (other string) h = refl
     go (other bytes) h = refl
-    go (other message) h = rw (lt-leb 100 depth (d (head-one kind 10 h))) refl
+    go (other message) h = rw (lt-leb mostLevels depth (d (head-one kind messageKind (omega arith) h))) refl
     go (other packed) h = refl
     go (other startGroup) h = refl
     go (other endGroup) h = refl
     go (other nothing) h = refl
 
-pub deep-body : (depth at : ℕ) (s : List ℕ) → 100 ≤ depth → body.Bad 7 ≡ bodied (shape 11) depth at s
+pub deep-body : (depth at : ℕ) (s : List ℕ) → mostLevels ≤ depth → body.Bad tooDeep ≡ bodied (shape messageKind) depth at s
 unfolding bodied shape shapes
-deep-body depth at s h = rw (le-leb 100 depth h) refl
+deep-body depth at s h = rw (le-leb mostLevels depth h) refl
 
 -- ---- the answers for a field with a length
 
 module _ (kind at : ℕ) (s : List ℕ) (long : hasLength kind ≡ true) where
-  pub content-answer : {a e : ℕ} → (kind ≡ 9 → ⊥) → span.Of a e ≡ spanAt at (content (lengthOf kind) (drop at s)) → body.Is 0 a e ≡ bodied (shape kind) 0 at (drop at s)
+  pub content-answer : {a e : ℕ} → (kind ≡ stringKind → ⊥) → span.Of a e ≡ spanAt at (content (lengthOf kind) (drop at s)) → body.Is 0 a e ≡ bodied (shape kind) 0 at (drop at s)
   content-answer n h = ranged-of at (content (lengthOf kind) (drop at s)) h ∙ sym (content-body at (drop at s) kind long n)
 
   pub bad-answer : {k : ℕ} → span.Bad k ≡ spanAt at (content (lengthOf kind) (drop at s)) → body.Bad k ≡ bodied (shape kind) 0 at (drop at s)
   bad-answer {k} h =
-      by-test (eqb kind 9)
-      (λ e. bad-text (eqb-true kind 9 e) h)
-      (λ e. ranged-bad at (content (lengthOf kind) (drop at s)) h ∙ sym (content-body at (drop at s) kind long (eqb-false kind 9 e)))
+      by-test (eqb kind stringKind)
+      (λ e. bad-text (eqb-true kind stringKind e) h)
+      (λ e. ranged-bad at (content (lengthOf kind) (drop at s)) h ∙ sym (content-body at (drop at s) kind long (eqb-false kind stringKind e)))
     where
-      bad-text : kind ≡ 9 → span.Bad k ≡ spanAt at (content (lengthOf kind) (drop at s)) → body.Bad k ≡ bodied (shape kind) 0 at (drop at s)
-      bad-text e q = rw (e, text-body) (texted-bad at (content (lengthOf 9) (drop at s)) (drop at s) (rw e at q))
+      bad-text : kind ≡ stringKind → span.Bad k ≡ spanAt at (content (lengthOf kind) (drop at s)) → body.Bad k ≡ bodied (shape kind) 0 at (drop at s)
+      bad-text e q = rw (e, text-body) (texted-bad at (content (lengthOf stringKind) (drop at s)) (drop at s) (rw e at q))
 
-pub text-answer : (at : ℕ) (s : List ℕ) {a e : ℕ} (kind : ℕ) → kind ≡ 9 → span.Of a e ≡ spanAt at (content (lengthOf kind) (drop at s)) → (b : Bool)
-    → b ≡ utf8 (take (e - a) (drop a s)) → (if b then body.Is 0 a e else body.Bad 6) ≡ bodied (shape kind) 0 at (drop at s)
+pub text-answer : (at : ℕ) (s : List ℕ) {a e : ℕ} (kind : ℕ) → kind ≡ stringKind → span.Of a e ≡ spanAt at (content (lengthOf kind) (drop at s)) → (b : Bool)
+    → b ≡ utf8 (take (e - a) (drop a s)) → (if b then body.Is 0 a e else body.Bad notUtf8) ≡ bodied (shape kind) 0 at (drop at s)
 text-answer at s kind k h b u =
     let bounds = span-in kind at s h in
-    rw (k, text-body) (texted-of at (content (lengthOf 9) (drop at s)) s (rw k at h) (bounds .0) u)
+    rw (k, text-body) (texted-of at (content (lengthOf stringKind) (drop at s)) s (rw k at h) (bounds .0) u)

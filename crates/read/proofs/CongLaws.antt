@@ -6,6 +6,7 @@ use mathlib.Core.Path.{_≡_, refl, ap, ap₂, _∙_}
 use mathlib.Core.List.{List, [], _∷_}
 use lib.ListN.{length, drop}
 use lib.Dec.{leb}
+use Rattle.spec.specs.Names.{fixed32Wire, messageKind, mostLevels}
 use Rattle.spec.specs.Base.{part, Read, Took, No}
 use Rattle.spec.specs.Varint.{varint32, varint64, tag}
 use Rattle.spec.specs.Utf8.{utf8}
@@ -32,13 +33,13 @@ unfolding given
 known-given (Took v n) h = h v n
 known-given (No k) h = of-fault
 
-known-shaped : (types : ℕ) (x : Shape) (depth inner m kind n : ℕ) (s : List ℕ) → headOf x ≡ headTest kind → (kind ≡ 11 → inner < types) → Known types (shaped x depth inner m kind n s)
+known-shaped : (types : ℕ) (x : Shape) (depth inner m kind n : ℕ) (s : List ℕ) → headOf x ≡ headTest kind → (kind ≡ messageKind → inner < types) → Known types (shaped x depth inner m kind n s)
 unfolding shaped headOf
 known-shaped types (one c) depth inner m kind n s h i = known-given (scalar c s) λ v l. of-value
 known-shaped types (other string) depth inner m kind n s h i = known-given (content varint32 s) λ a z. either-way (Known types) (utf8 (part a z s)) of-value of-fault
 known-shaped types (other bytes) depth inner m kind n s h i = known-given (content varint32 s) λ a z. of-value
 known-shaped types (other message) depth inner m kind n s h i =
-    either-way (Known types) (leb 100 depth) of-fault (known-given (content varint64 s) λ a z. of-message (i (head-one kind 10 h)))
+    either-way (Known types) (leb mostLevels depth) of-fault (known-given (content varint64 s) λ a z. of-message (i (head-one kind messageKind (omega arith) h)))
 known-shaped types (other packed) depth inner m kind n s h i = known-given (content varint64 s) λ a z. of-packed
 known-shaped types (other startGroup) depth inner m kind n s h i = known-given (outerGroup depth s) λ v l. of-dropped
 known-shaped types (other endGroup) depth inner m kind n s h i = of-fault
@@ -48,7 +49,7 @@ records-same : {types : ℕ} (p q : ℕ → ℕ → List ℕ → Reading) (depth
     → ((c a : ℕ) (u : List ℕ) → c < types → p c a u ≡ q c a u) → records p depth at s x ≡ records q depth at s x
 unfolding records
 records-same p q depth at s (Value m k v a e) of-value h = refl
-records-same p q depth at s (Message m c a e) (of-message i) h = ap (_then_ (row depth m 11 0 (at + a) (at + e) at)) (h c (at + a) (part a e s) i)
+records-same p q depth at s (Message m c a e) (of-message i) h = ap (_then_ (row depth m messageKind 0 (at + a) (at + e) at)) (h c (at + a) (part a e s) i)
 records-same p q depth at s (Packed m k a e) of-packed h = refl
 records-same p q depth at s (Dropped m e) of-dropped h = refl
 records-same p q depth at s (Fault n i) of-fault h = refl
@@ -62,8 +63,8 @@ abbrev said : (depth : ℕ) (s : List ℕ) (t n : ℕ) → Says → Field
 said depth s t n x = shaped (shape (x .kind)) depth (x .inner) (t / 8) (x .kind) n (drop n s)
 
 module _ (types : ℕ) (look look′ : Look)
-    (same : (type t : ℕ) → type < types → 1 ≤ t / 8 → t < 2 ^ 32 → t % 8 ≤ 5 → look type t ≡ look′ type t)
-    (child : (type t : ℕ) → t % 8 ≤ 5 → look type t .kind ≡ 11 → look type t .inner < types) where
+    (same : (type t : ℕ) → type < types → 1 ≤ t / 8 → t < 2 ^ 32 → t % 8 ≤ fixed32Wire → look type t ≡ look′ type t)
+    (child : (type t : ℕ) → t % 8 ≤ fixed32Wire → look type t .kind ≡ messageKind → look type t .inner < types) where
   field-known : (depth type : ℕ) (s : List ℕ) → Known types (field look depth type s)
   unfolding field given
   field-known depth type s = go (tag s) refl

@@ -9,12 +9,13 @@ use lib.ListN.{length, getD, drop, length-drop, drop-of-length-le}
 use lib.Seq.{drop-drop, drop-cons}
 use lib.Dec.{leb, eqb}
 use borrow.Author.Tests.{le-leb, lt-ltb, eq-eqb, ne-eqb, eqb-true, eqb-false, leb-true}
+use Rattle.spec.specs.Names.{messageKind, packedHead, varintWire, noRoom}
 use Rattle.spec.specs.Base.{part, Read, Took, No, require}
 use Rattle.spec.specs.Varint.{varint, tag}
 use Rattle.spec.specs.Kind.{Shape, one, other, shape}
 use Rattle.spec.specs.Schema.{Says}
 use Rattle.spec.specs.Skip.{outerGroup}
-use Rattle.spec.specs.Record.{Record, row, stride}
+use Rattle.spec.specs.Record.{Record, row, stride, numbers}
 use Rattle.spec.specs.Reading as spec
 use Rattle.spec.specs.Reading.{Look, Reading, Done, Refused, _then_, _followed-by_, contents, records, read, used}
 use Rattle.spec.proofs.Laws.{chosen, by-test}
@@ -84,38 +85,38 @@ module _ (inner : ℕ → ℕ → List ℕ → Reading) {depth at most : ℕ} {f
   content-part : part (f .start - at) (f .end - at) (drop at s) ≡ part (f .start) (f .end) s
   content-part = part-at at (f .start) (f .end) s (omega (arith, h .behind))
 
-  pub row-message : f .kind ≡ 11 → recs ≡ (this then inner (f .inner) (off + f .start) (part (f .start) (f .end) s))
+  pub row-message : f .kind ≡ messageKind → recs ≡ (this then inner (f .inner) (off + f .start) (part (f .start) (f .end) s))
   unfolding records
   row-message k = rw (h .message-zero k, k, from-start, to-end, content-part)
 
-  pub row-packed : f .kind ≡ 20 → (f .start ≡ f .end → ⊥) → recs ≡ (this then contents (shape (f .inner)) (depth + 1) (f .number) (f .inner) (off + at) (off + f .start) (part (f .start) (f .end) s))
+  pub row-packed : f .kind ≡ packedHead → (f .start ≡ f .end → ⊥) → recs ≡ (this then contents (shape (f .inner)) (depth + 1) (f .number) (f .inner) (off + at) (off + f .start) (part (f .start) (f .end) s))
   unfolding records
   row-packed k some =
       let differ : eqb (f .start - at) (f .end - at) ≡ false = ne-eqb (f .start - at) (f .end - at) (λ e. some (omega (arith, h .behind, h .ordered, e))) in
       rw (h .packed-zero k, k, differ, from-start, to-end, content-part)
 
-  row-empty : f .kind ≡ 20 → f .start ≡ f .end → recs ≡ Done
+  row-empty : f .kind ≡ packedHead → f .start ≡ f .end → recs ≡ Done
   unfolding records
   row-empty k same = let alike : eqb (f .start - at) (f .end - at) ≡ true = eq-eqb (f .start - at) (f .end - at) (omega (arith, same)) in rw (k, alike)
 
-  pub row-none : f .kind ≡ 20 → f .start ≡ f .end → (room : List ℕ) (to : ℕ) → left (Go to) room ≡ emit room to recs
+  pub row-none : f .kind ≡ packedHead → f .start ≡ f .end → (room : List ℕ) (to : ℕ) → left (Go to) room ≡ emit room to recs
   unfolding emit
   row-none k same room to = sym (ap (emit room to) (row-empty k same))
 
-  pub row-value : (f .kind ≡ 11 → ⊥) → (f .kind ≡ 20 → ⊥) → recs ≡ (this then Done)
+  pub row-value : (f .kind ≡ messageKind → ⊥) → (f .kind ≡ packedHead → ⊥) → recs ≡ (this then Done)
   unfolding records
-  row-value j k = rw (ne-eqb (f .kind) 11 j, ne-eqb (f .kind) 20 k, from-start, to-end)
+  row-value j k = rw (ne-eqb (f .kind) messageKind j, ne-eqb (f .kind) packedHead k, from-start, to-end)
 
   -- the same, whatever is below it
-  row-first : (f .kind ≡ 20 → f .start ≡ f .end → ⊥) → (q : Reading) × (recs ≡ (this then q))
+  row-first : (f .kind ≡ packedHead → f .start ≡ f .end → ⊥) → (q : Reading) × (recs ≡ (this then q))
   row-first some =
-      by-test (eqb (f .kind) 11)
-      (λ e. (_, row-message (eqb-true (f .kind) 11 e)))
-      (λ e. by-test (eqb (f .kind) 20)
-      (λ k. (_, row-packed (eqb-true (f .kind) 20 k) (some (eqb-true (f .kind) 20 k))))
-      (λ k. (Done, row-value (eqb-false (f .kind) 11 e) (eqb-false (f .kind) 20 k))))
+      by-test (eqb (f .kind) messageKind)
+      (λ e. (_, row-message (eqb-true (f .kind) messageKind e)))
+      (λ e. by-test (eqb (f .kind) packedHead)
+      (λ k. (_, row-packed (eqb-true (f .kind) packedHead k) (some (eqb-true (f .kind) packedHead k))))
+      (λ k. (Done, row-value (eqb-false (f .kind) messageKind e) (eqb-false (f .kind) packedHead k))))
 
-  pub row-full : (f .kind ≡ 20 → f .start ≡ f .end → ⊥) → (room : List ℕ) (to : ℕ) → to ≤ length room → length room - to < stride → left (Stop 8 to (off + at)) room ≡ emit room to recs
+  pub row-full : (f .kind ≡ packedHead → f .start ≡ f .end → ⊥) → (room : List ℕ) (to : ℕ) → to ≤ length room → length room - to < stride → left (Stop noRoom to (off + at)) room ≡ emit room to recs
   row-full some room to i l = let x = row-first some in sym (ap (emit room to) (x .1) ∙ emit-full room to this (x .0) (omega arith))
 
 -- a record is stored, and then what is below it
@@ -210,10 +211,10 @@ module _ (look : Look) (depth ty : ℕ) {s : List ℕ} {off : ℕ} {room₀ : Li
       used-row : at + used (rowField at f) ≡ f .end
       unfolding used
       used-row =
-          by-test (eqb (f .kind) 11)
-          (λ k. rw (eqb-true (f .kind) 11 k) (omega (arith, held .behind, held .ordered)))
-          (λ j. by-test (eqb (f .kind) 20)
-          (λ k. rw (eqb-true (f .kind) 20 k) (omega (arith, held .behind, held .ordered)))
+          by-test (eqb (f .kind) messageKind)
+          (λ k. rw (eqb-true (f .kind) messageKind k) (omega (arith, held .behind, held .ordered)))
+          (λ j. by-test (eqb (f .kind) packedHead)
+          (λ k. rw (eqb-true (f .kind) packedHead k) (omega (arith, held .behind, held .ordered)))
           (λ k. rw (j, k) (omega (arith, held .behind, held .ordered))))
 
       there : emit room₀ from (read look depth ty (off + 0) (drop 0 s))
@@ -278,7 +279,7 @@ module _ (look : Look) (depth ty : ℕ) {s : List ℕ} {off : ℕ} {room₀ : Li
 
 -- ---- a short integer behind a tag of one byte
 
-tag-one : (c : ℕ) (l : List ℕ) → 8 ≤ c → c < 128 → c % 8 ≡ 0 → tag (c ∷ l) ≡ Took c 1
+tag-one : (c : ℕ) (l : List ℕ) → 8 ≤ c → c < 128 → c % 8 ≡ varintWire → tag (c ∷ l) ≡ Took c 1
 unfolding tag varint require
 tag-one c l h j z = rw (lt-ltb c 128 j, z, le-leb 1 (c / 8) (omega arith))
 
@@ -287,7 +288,7 @@ unfolding spec.shaped scalarOf spec.given
 shaped-one (one c) depth inner m kind n l e = rw e
 shaped-one (other x) depth inner m kind n l e = let z : _≡_ {A = ℕ} 0 1 = cc in absurd (omega arith)
 
-told-kind : {say : ℕ → Says} {c : ℕ} {r : Kind} (k : ℕ) → Tells say c r → r ≡ known.Of k → (8 ≤ c) × (c < 128) × (c % 8 ≡ 0) × (say c .kind ≡ k)
+told-kind : {say : ℕ → Says} {c : ℕ} {r : Kind} (k : ℕ) → Tells say c r → r ≡ known.Of k → (8 ≤ c) × (c < 128) × (c % 8 ≡ varintWire) × (say c .kind ≡ k)
 told-kind k (tells {kind} h j z e) is = let same : kind ≡ k = cc in (h, j, z, e ∙ same)
 told-kind k tells-not is = let z : _≡_ {A = ℕ} 0 1 = cc in absurd (omega arith)
 
@@ -315,6 +316,7 @@ module _ (look : Look) (depth ty : ℕ) {s : List ℕ} {off : ℕ} {room₀ : Li
   pub int-stored : {room′ : List ℕ} {to′ : ℕ} → to + stride ≤ length room
       → room′ ≡ placed room to (row depth (c / 8) k w (off + at + 1) (off + at + 1 + n) 0) → to′ ≡ to + stride
       → Here (read look depth ty) s off room₀ from b room′ (at + (1 + n)) to′
+  unfolding numbers
   int-stored l put next =
       let end : off + at + 1 + n ≡ off + at + (1 + n) = omega arith in
       record {

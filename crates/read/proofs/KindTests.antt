@@ -1,5 +1,5 @@
 -- The table of kinds by tests on the kind, which is how code asks it. Assumes nothing.
-use Prim.Native.Nat.{ℕ, suc, _≤_, _<_, min}
+use Prim.Native.Nat.{ℕ, _≤_, _<_, min}
 use native.Mathlib.Decide.{decLt}
 use native.Mathlib.Omega.{arith}
 use mathlib.Core.Path.{_≡_, refl, sym, ap, _∙_}
@@ -9,22 +9,23 @@ use mathlib.Core.List.{List}
 use lib.ListN.{List·getD-eq-default}
 use lib.Dec.{T, leb, ltb, eqb}
 use borrow.Author.Tests.{lt-ltb, le-ltb, le-leb, lt-leb, ne-eqb, eqb-true}
+use Rattle.spec.specs.Names.{allKinds, badTag, boolKind, bytesKind, doubleKind, enumKind, fixed32Kind, fixed64Kind, floatKind, groupEnd, groupStart, int32Kind, int64Kind, messageKind, outOfRange, packedHead, sfixed32Kind, sfixed64Kind, sint32Kind, sint64Kind, stringKind, uint32Kind, unknownBytes, unknownFixed32, unknownFixed64, unknownVarint}
 use Rattle.spec.specs.Base.{if_then_else_, Read, Took, No, meaning, require}
 use Rattle.spec.specs.Varint.{varint32, varint64, unzigzag}
 use Rattle.spec.specs.Kind.{int32, uint32, uint64, bool, sint32, sint64, fixed32, sfixed32, fixed64, Shape, one, other, string, bytes, message, packed, startGroup, endGroup, nothing, shape, shapes, scalar, signed32}
 use Rattle.spec.specs.Schema.{bit}
 use Rattle.wire.specs.Reached.{varintOf}
 use Rattle.wire.proofs.Below.{agree, equal-below}
-use Rattle.read.specs.Answers.{hasLength, scalarOf, meantAs, meantBy, isInt, isSigned, isNarrow, intBy, sizeOne, sizeOf}
+use Rattle.read.specs.Answers.{hasLength, scalarOf, meantAs, meantBy, isInt, mustFit32, isVarint32, intBy, sizeOne, sizeOf}
 use Rattle.read.specs.declared.scalar.Meant.{Meant}
 use Rattle.read.specs.declared.scalar.Meant.the-variants.{Is, Other}
 
 -- A number of the shape is told by tests on the kind: where they agree on the kinds of the table, and no test is met behind it.
-by-table : (f : Shape → ℕ) (g : ℕ → ℕ) → T (agree (λ k. f (shape k)) g 27) → ((k : ℕ) → 27 ≤ k → f (other nothing) ≡ g k) → (k : ℕ) → f (shape k) ≡ g k
+by-table : (f : Shape → ℕ) (g : ℕ → ℕ) → T (agree (λ k. f (shape k)) g allKinds) → ((k : ℕ) → allKinds ≤ k → f (other nothing) ≡ g k) → (k : ℕ) → f (shape k) ≡ g k
 unfolding shape shapes
 by-table f g t h k =
-    elim (decLt k 27) [
-      | yes l ↦ equal-below (λ n. f (shape n)) g 27 k t l
+    elim (decLt k allKinds) [
+      | yes l ↦ equal-below (λ n. f (shape n)) g allKinds k t l
       | no l ↦ ap f (List·getD-eq-default shapes (other nothing) {n = k} (omega arith)) ∙ h k (omega arith)
     ]
 
@@ -35,27 +36,27 @@ unfoldable pub headOf : Shape → ℕ
 headOf (one c) = 0
 headOf (other string) = 0
 headOf (other bytes) = 0
-headOf (other message) = 11
-headOf (other packed) = 20
+headOf (other message) = messageKind
+headOf (other packed) = packedHead
 headOf (other startGroup) = 0
 headOf (other endGroup) = 0
 headOf (other nothing) = 0
 
 abbrev pub headTest : ℕ → ℕ
-headTest k = if eqb k 11 then 11 else if eqb k 20 then 20 else 0
+headTest k = if eqb k messageKind then messageKind else if eqb k packedHead then packedHead else 0
 
 pub head-kind : (k : ℕ) → headOf (shape k) ≡ headTest k
 unfolding shape shapes headOf
-head-kind k = by-table headOf headTest tt (λ n h. rw (ne-eqb n 11 (λ e. omega arith), ne-eqb n 20 (λ e. omega arith))) k
+head-kind k = by-table headOf headTest tt (λ n h. rw (ne-eqb n messageKind (λ e. omega arith), ne-eqb n packedHead (λ e. omega arith))) k
 
 -- the kind of a head
-pub head-one : (k n : ℕ) → suc n ≡ headTest k → k ≡ suc n
-head-one k n h = by (eqb k 11) (eqb k 20) refl refl
+pub head-one : (k n : ℕ) → 0 < n → n ≡ headTest k → k ≡ n
+head-one k n positive h = by (eqb k messageKind) (eqb k packedHead) refl refl
   where
-    by : (p q : Bool) → eqb k 11 ≡ p → eqb k 20 ≡ q → k ≡ suc n
-    by true q e f = eqb-true k 11 e ∙ sym (h ∙ rw e refl)
-    by false true e f = eqb-true k 20 f ∙ sym (h ∙ rw (e, f) refl)
-    by false false e f = let z : suc n ≡ 0 = h ∙ rw (e, f) refl in absurd (omega arith)
+    by : (p q : Bool) → eqb k messageKind ≡ p → eqb k packedHead ≡ q → k ≡ n
+    by true q e f = eqb-true k messageKind e ∙ sym (h ∙ rw e refl)
+    by false true e f = eqb-true k packedHead f ∙ sym (h ∙ rw (e, f) refl)
+    by false false e f = let z : n ≡ 0 = h ∙ rw (e, f) refl in absurd (omega arith)
 
 -- ---- what stands behind a tag: 1 with a length, 2 and 3 for the ends of a group, 0 for a number and for nothing
 
@@ -70,7 +71,7 @@ sortOf (other endGroup) = 3
 sortOf (other nothing) = 0
 
 abbrev pub sortTest : ℕ → ℕ
-sortTest k = if hasLength k then 1 else if eqb k 25 then 2 else if eqb k 26 then 3 else 0
+sortTest k = if hasLength k then 1 else if eqb k groupStart then 2 else if eqb k groupEnd then 3 else 0
 
 pub sort-kind : (k : ℕ) → sortOf (shape k) ≡ sortTest k
 unfolding shape shapes sortOf
@@ -78,13 +79,13 @@ sort-kind k =
     by-table sortOf sortTest tt
     (λ n h.
     rw (
-      ne-eqb n 9 (λ e. omega arith),
-      ne-eqb n 11 (λ e. omega arith),
-      ne-eqb n 12 (λ e. omega arith),
-      ne-eqb n 20 (λ e. omega arith),
-      ne-eqb n 23 (λ e. omega arith),
-      ne-eqb n 25 (λ e. omega arith),
-      ne-eqb n 26 (λ e. omega arith),
+      ne-eqb n stringKind (λ e. omega arith),
+      ne-eqb n messageKind (λ e. omega arith),
+      ne-eqb n bytesKind (λ e. omega arith),
+      ne-eqb n packedHead (λ e. omega arith),
+      ne-eqb n unknownBytes (λ e. omega arith),
+      ne-eqb n groupStart (λ e. omega arith),
+      ne-eqb n groupEnd (λ e. omega arith),
     ))
     k
 
@@ -104,13 +105,13 @@ meaningOf (other x) = 0
 
 abbrev pub meaningTest : ℕ → ℕ
 meaningTest k =
-    if ltb k 6 then (if ltb 2 k then 1 else 0) else
-    if eqb k 8 then 2 else
-    if eqb k 21 then 1 else
-    if ltb k 13 then 0 else
-    if leb k 14 then 1 else
-    if ltb k 17 then 0 else
-    if leb k 18 then 3 else 0
+    if ltb k fixed64Kind then (if ltb floatKind k then 1 else 0) else
+    if eqb k boolKind then 2 else
+    if eqb k unknownVarint then 1 else
+    if ltb k uint32Kind then 0 else
+    if leb k enumKind then 1 else
+    if ltb k sint32Kind then 0 else
+    if leb k sint64Kind then 3 else 0
 
 abbrev pub meantIn : ℕ → ℕ → Meant
 meantIn n v = if eqb n 1 then Is v else if eqb n 2 then Is (min 1 v) else if eqb n 3 then Is (unzigzag v) else Other
@@ -134,13 +135,13 @@ meaning-kind k =
     by-table meaningOf meaningTest tt
     (λ n h.
     rw (
-      le-ltb n 6 (omega arith),
-      ne-eqb n 8 (λ e. omega arith),
-      ne-eqb n 21 (λ e. omega arith),
-      le-ltb n 13 (omega arith),
-      lt-leb n 14 (omega arith),
-      le-ltb n 17 (omega arith),
-      lt-leb n 18 (omega arith),
+      le-ltb n fixed64Kind (omega arith),
+      ne-eqb n boolKind (λ e. omega arith),
+      ne-eqb n unknownVarint (λ e. omega arith),
+      le-ltb n uint32Kind (omega arith),
+      lt-leb n enumKind (omega arith),
+      le-ltb n sint32Kind (omega arith),
+      lt-leb n sint64Kind (omega arith),
     ))
     k
 
@@ -149,41 +150,41 @@ meant-kind k v = meant-shape (shape k) v ∙ ap (λ (n : ℕ). meantIn n v) (mea
 
 -- each answer of the tests
 
-pub meant-first : (k v : ℕ) → 3 ≤ k → k < 6 → Is v ≡ meantBy (shape k) v
-meant-first k v h l = sym (meant-kind k v ∙ rw (lt-ltb k 6 l, lt-ltb 2 k h))
+pub meant-first : (k v : ℕ) → int64Kind ≤ k → k < fixed64Kind → Is v ≡ meantBy (shape k) v
+meant-first k v h l = sym (meant-kind k v ∙ rw (lt-ltb k fixed64Kind l, lt-ltb floatKind k h))
 
-pub meant-zero : (k v : ℕ) → k < 3 → Other ≡ meantBy (shape k) v
-meant-zero k v h = sym (meant-kind k v ∙ rw (lt-ltb k 6 (omega arith), le-ltb 2 k (omega arith)))
+pub meant-zero : (k v : ℕ) → k < int64Kind → Other ≡ meantBy (shape k) v
+meant-zero k v h = sym (meant-kind k v ∙ rw (lt-ltb k fixed64Kind (omega arith), le-ltb floatKind k (omega arith)))
 
-module _ (k v : ℕ) (above : 6 ≤ k) (no-bool : k ≡ 8 → ⊥) (known : k ≡ 21 → ⊥) where
-  pub meant-low : k < 13 → Other ≡ meantBy (shape k) v
-  meant-low h = sym (meant-kind k v ∙ rw (le-ltb k 6 above, ne-eqb k 8 no-bool, ne-eqb k 21 known, lt-ltb k 13 h))
+module _ (k v : ℕ) (above : fixed64Kind ≤ k) (no-bool : k ≡ boolKind → ⊥) (known : k ≡ unknownVarint → ⊥) where
+  pub meant-low : k < uint32Kind → Other ≡ meantBy (shape k) v
+  meant-low h = sym (meant-kind k v ∙ rw (le-ltb k fixed64Kind above, ne-eqb k boolKind no-bool, ne-eqb k unknownVarint known, lt-ltb k uint32Kind h))
 
-  pub meant-13-14 : 13 ≤ k → k ≤ 14 → Is v ≡ meantBy (shape k) v
-  meant-13-14 h l = sym (meant-kind k v ∙ rw (le-ltb k 6 above, ne-eqb k 8 no-bool, ne-eqb k 21 known, le-ltb k 13 h, le-leb k 14 l))
+  pub meant-uint32-enum : uint32Kind ≤ k → k ≤ enumKind → Is v ≡ meantBy (shape k) v
+  meant-uint32-enum h l = sym (meant-kind k v ∙ rw (le-ltb k fixed64Kind above, ne-eqb k boolKind no-bool, ne-eqb k unknownVarint known, le-ltb k uint32Kind h, le-leb k enumKind l))
 
-  pub meant-15-16 : 14 < k → k < 17 → Other ≡ meantBy (shape k) v
-  meant-15-16 h l =
-      sym (meant-kind k v ∙ rw (le-ltb k 6 above, ne-eqb k 8 no-bool, ne-eqb k 21 known, le-ltb k 13 (omega arith), lt-leb k 14 h, lt-ltb k 17 l))
+  pub meant-sfixed : enumKind < k → k < sint32Kind → Other ≡ meantBy (shape k) v
+  meant-sfixed h l =
+      sym (meant-kind k v ∙ rw (le-ltb k fixed64Kind above, ne-eqb k boolKind no-bool, ne-eqb k unknownVarint known, le-ltb k uint32Kind (omega arith), lt-leb k enumKind h, lt-ltb k sint32Kind l))
 
-  pub meant-17-18 : 17 ≤ k → k ≤ 18 → Is (unzigzag v) ≡ meantBy (shape k) v
-  meant-17-18 h l =
+  pub meant-sint : sint32Kind ≤ k → k ≤ sint64Kind → Is (unzigzag v) ≡ meantBy (shape k) v
+  meant-sint h l =
       sym
       (meant-kind k v
-      ∙ rw (le-ltb k 6 above, ne-eqb k 8 no-bool, ne-eqb k 21 known, le-ltb k 13 (omega arith), lt-leb k 14 (omega arith), le-ltb k 17 h, le-leb k 18 l))
+      ∙ rw (le-ltb k fixed64Kind above, ne-eqb k boolKind no-bool, ne-eqb k unknownVarint known, le-ltb k uint32Kind (omega arith), lt-leb k enumKind (omega arith), le-ltb k sint32Kind h, le-leb k sint64Kind l))
 
-  pub meant-high : 18 < k → Other ≡ meantBy (shape k) v
+  pub meant-high : sint64Kind < k → Other ≡ meantBy (shape k) v
   meant-high h =
       sym
       (meant-kind k v
-      ∙ rw (le-ltb k 6 above, ne-eqb k 8 no-bool, ne-eqb k 21 known, le-ltb k 13 (omega arith), lt-leb k 14 (omega arith), le-ltb k 17 (omega arith), lt-leb k 18 h))
+      ∙ rw (le-ltb k fixed64Kind above, ne-eqb k boolKind no-bool, ne-eqb k unknownVarint known, le-ltb k uint32Kind (omega arith), lt-leb k enumKind (omega arith), le-ltb k sint32Kind (omega arith), lt-leb k sint64Kind h))
 
 -- ---- how many bytes a value has that is no varint
 
 abbrev pub sizeTest : ℕ → ℕ
 sizeTest k =
-    if eqb k 1 || eqb k 6 || eqb k 16 || eqb k 22 then 8 else
-    if eqb k 2 || eqb k 7 || eqb k 15 || eqb k 24 then 4 else 0
+    if eqb k doubleKind || eqb k fixed64Kind || eqb k sfixed64Kind || eqb k unknownFixed64 then 8 else
+    if eqb k floatKind || eqb k fixed32Kind || eqb k sfixed32Kind || eqb k unknownFixed32 then 4 else 0
 
 size-kind : (k : ℕ) → sizeOf (shape k) ≡ sizeTest k
 unfolding shape shapes sizeOf sizeOne
@@ -191,33 +192,33 @@ size-kind k =
     by-table sizeOf sizeTest tt
     (λ n h.
     rw (
-      ne-eqb n 1 (λ e. omega arith),
-      ne-eqb n 6 (λ e. omega arith),
-      ne-eqb n 16 (λ e. omega arith),
-      ne-eqb n 22 (λ e. omega arith),
-      ne-eqb n 2 (λ e. omega arith),
-      ne-eqb n 7 (λ e. omega arith),
-      ne-eqb n 15 (λ e. omega arith),
-      ne-eqb n 24 (λ e. omega arith),
+      ne-eqb n doubleKind (λ e. omega arith),
+      ne-eqb n fixed64Kind (λ e. omega arith),
+      ne-eqb n sfixed64Kind (λ e. omega arith),
+      ne-eqb n unknownFixed64 (λ e. omega arith),
+      ne-eqb n floatKind (λ e. omega arith),
+      ne-eqb n fixed32Kind (λ e. omega arith),
+      ne-eqb n sfixed32Kind (λ e. omega arith),
+      ne-eqb n unknownFixed32 (λ e. omega arith),
     ))
     k
 
-pub size-none : (k : ℕ) → ((k ≡ 1) ⊎ (k ≡ 6) ⊎ (k ≡ 16) ⊎ (k ≡ 22) → ⊥) → (k ≡ 2 → ⊥) → (k ≡ 7 → ⊥) → (k ≡ 15 → ⊥) → (k ≡ 24 → ⊥) → sizeOf (shape k) ≡ 0
+pub size-none : (k : ℕ) → ((k ≡ doubleKind) ⊎ (k ≡ fixed64Kind) ⊎ (k ≡ sfixed64Kind) ⊎ (k ≡ unknownFixed64) → ⊥) → (k ≡ floatKind → ⊥) → (k ≡ fixed32Kind → ⊥) → (k ≡ sfixed32Kind → ⊥) → (k ≡ unknownFixed32 → ⊥) → sizeOf (shape k) ≡ 0
 size-none k n a b c d =
     size-kind k
     ∙ rw (
-      ne-eqb k 1 (λ e. n (inl e)),
-      ne-eqb k 6 (λ e. n (inr (inl e))),
-      ne-eqb k 16 (λ e. n (inr (inr (inl e)))),
-      ne-eqb k 22 (λ e. n (inr (inr (inr e)))),
-      ne-eqb k 2 a,
-      ne-eqb k 7 b,
-      ne-eqb k 15 c,
-      ne-eqb k 24 d,
+      ne-eqb k doubleKind (λ e. n (inl e)),
+      ne-eqb k fixed64Kind (λ e. n (inr (inl e))),
+      ne-eqb k sfixed64Kind (λ e. n (inr (inr (inl e)))),
+      ne-eqb k unknownFixed64 (λ e. n (inr (inr (inr e)))),
+      ne-eqb k floatKind a,
+      ne-eqb k fixed32Kind b,
+      ne-eqb k sfixed32Kind c,
+      ne-eqb k unknownFixed32 d,
     )
 
 -- a shape with no size is an integer's, or no number's
-pub no-size : (x : Shape) (s : List ℕ) → sizeOf x ≡ 0 → scalarOf x s ≡ (if isInt x then scalarOf x s else No 3)
+pub no-size : (x : Shape) (s : List ℕ) → sizeOf x ≡ 0 → scalarOf x s ≡ (if isInt x then scalarOf x s else No badTag)
 unfolding sizeOf sizeOne scalarOf meantBy meantAs
 no-size (one int32) s h = refl
 no-size (one uint32) s h = refl
@@ -230,53 +231,53 @@ no-size (one sfixed32) s h = absurd (omega arith)
 no-size (one fixed64) s h = absurd (omega arith)
 no-size (other x) s h = refl
 
--- ---- an integer: whether it has 32 signed bits, whether its varint has 32 bits
+-- ---- an integer: whether it is a varint64 that must fit 32 signed bits, whether it is a varint32
 
-unfoldable signedOf : Shape → ℕ
-signedOf (one int32) = 1
-signedOf (one uint32) = 0
-signedOf (one uint64) = 0
-signedOf (one bool) = 0
-signedOf (one sint32) = 0
-signedOf (one sint64) = 0
-signedOf (one fixed32) = 0
-signedOf (one sfixed32) = 0
-signedOf (one fixed64) = 0
-signedOf (other x) = 0
+unfoldable fitOf : Shape → ℕ
+fitOf (one int32) = 1
+fitOf (one uint32) = 0
+fitOf (one uint64) = 0
+fitOf (one bool) = 0
+fitOf (one sint32) = 0
+fitOf (one sint64) = 0
+fitOf (one fixed32) = 0
+fitOf (one sfixed32) = 0
+fitOf (one fixed64) = 0
+fitOf (other x) = 0
 
-unfoldable narrowOf : Shape → ℕ
-narrowOf (one int32) = 0
-narrowOf (one uint32) = 1
-narrowOf (one uint64) = 0
-narrowOf (one bool) = 0
-narrowOf (one sint32) = 1
-narrowOf (one sint64) = 0
-narrowOf (one fixed32) = 0
-narrowOf (one sfixed32) = 0
-narrowOf (one fixed64) = 0
-narrowOf (other x) = 0
+unfoldable varint32Of : Shape → ℕ
+varint32Of (one int32) = 0
+varint32Of (one uint32) = 1
+varint32Of (one uint64) = 0
+varint32Of (one bool) = 0
+varint32Of (one sint32) = 1
+varint32Of (one sint64) = 0
+varint32Of (one fixed32) = 0
+varint32Of (one sfixed32) = 0
+varint32Of (one fixed64) = 0
+varint32Of (other x) = 0
 
 bit-back : (b : Bool) → b ≡ eqb (bit b) 1
 bit-back true = refl
 bit-back false = refl
 
-signed-kind : (k : ℕ) → isSigned k ≡ eqb (signedOf (shape k)) 1
-unfolding shape shapes signedOf
-signed-kind k =
-    bit-back (isSigned k)
-    ∙ ap (λ (n : ℕ). eqb n 1) (sym (by-table signedOf (λ n. bit (isSigned n)) tt (λ n h. rw (ne-eqb n 5 (λ e. omega arith), ne-eqb n 14 (λ e. omega arith))) k))
+fit-kind : (k : ℕ) → mustFit32 k ≡ eqb (fitOf (shape k)) 1
+unfolding shape shapes fitOf
+fit-kind k =
+    bit-back (mustFit32 k)
+    ∙ ap (λ (n : ℕ). eqb n 1) (sym (by-table fitOf (λ n. bit (mustFit32 n)) tt (λ n h. rw (ne-eqb n int32Kind (λ e. omega arith), ne-eqb n enumKind (λ e. omega arith))) k))
 
-narrow-kind : (k : ℕ) → isNarrow k ≡ eqb (narrowOf (shape k)) 1
-unfolding shape shapes narrowOf
-narrow-kind k =
-    bit-back (isNarrow k)
-    ∙ ap (λ (n : ℕ). eqb n 1) (sym (by-table narrowOf (λ n. bit (isNarrow n)) tt (λ n h. rw (ne-eqb n 13 (λ e. omega arith), ne-eqb n 17 (λ e. omega arith))) k))
+varint32-kind : (k : ℕ) → isVarint32 k ≡ eqb (varint32Of (shape k)) 1
+unfolding shape shapes varint32Of
+varint32-kind k =
+    bit-back (isVarint32 k)
+    ∙ ap (λ (n : ℕ). eqb n 1) (sym (by-table varint32Of (λ n. bit (isVarint32 n)) tt (λ n h. rw (ne-eqb n uint32Kind (λ e. omega arith), ne-eqb n sint32Kind (λ e. omega arith))) k))
 
-int-shape : (x : Shape) (s : List ℕ) → isInt x ≡ true → intBy x (eqb (signedOf x) 1) (varintOf (eqb (narrowOf x) 1) s) ≡ scalarOf x s
-unfolding signedOf narrowOf scalarOf scalar intBy require meantBy meantAs meaning
+int-shape : (x : Shape) (s : List ℕ) → isInt x ≡ true → intBy x (eqb (fitOf x) 1) (varintOf (eqb (varint32Of x) 1) s) ≡ scalarOf x s
+unfolding fitOf varint32Of scalarOf scalar intBy require meantBy meantAs meaning
 int-shape (one int32) s h = signed (varint64 s)
   where
-    signed : (r : Read) → intBy (one int32) true r ≡ require 5 signed32 r
+    signed : (r : Read) → intBy (one int32) true r ≡ require outOfRange signed32 r
     signed (Took v n) = refl
     signed (No k) = refl
 int-shape (one uint32) s h = same (varint32 s)
@@ -310,5 +311,5 @@ int-shape (one fixed64) s h = absurd (false≢true h)
 int-shape (other x) s h = absurd (false≢true h)
 
 -- a varint read as a value of its kind is the definition's
-pub int-kind : (k : ℕ) (s : List ℕ) → isInt (shape k) ≡ true → intBy (shape k) (isSigned k) (varintOf (isNarrow k) s) ≡ scalarOf (shape k) s
-int-kind k s h = rw (signed-kind k, narrow-kind k) (int-shape (shape k) s h)
+pub int-kind : (k : ℕ) (s : List ℕ) → isInt (shape k) ≡ true → intBy (shape k) (mustFit32 k) (varintOf (isVarint32 k) s) ≡ scalarOf (shape k) s
+int-kind k s h = rw (fit-kind k, varint32-kind k) (int-shape (shape k) s h)

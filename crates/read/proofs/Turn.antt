@@ -1,6 +1,6 @@
 -- The turns of a reader's loop, in plain values. Where a loop is says `Further`: what was to be emitted is what the rest emits from here. Here
 -- stands how each end and each turn follows from that. Assumes nothing.
-use Prim.Native.Nat.{ℕ, _+_, _-_, _≤_, _<_, min}
+use Prim.Native.Nat.{ℕ, _+_, _-_, _^_, _≤_, _<_, min}
 use native.Mathlib.Omega.{arith}
 use native.Mathlib.Nat.{add-zero}
 use mathlib.Core.Path.{_≡_, refl, sym, ap, _∙_, subst}
@@ -9,16 +9,17 @@ use mathlib.Core.List.{List, [], _∷_}
 use lib.ListN.{length, drop, length-drop, drop-of-length-le}
 use lib.Seq.{drop-drop}
 use borrow.Author.Tests.{lt-ltb}
+use Rattle.spec.specs.Names.{noRoom}
 use Rattle.spec.specs.Base.{Read, Took, No, meaning, require}
 use Rattle.spec.specs.Varint.{unzigzag}
 use Rattle.spec.specs.Kind.{Scalar, int32, uint32, uint64, bool, sint32, sint64, fixed32, sfixed32, fixed64, Shape, one, other, shape, isScalar, scalar}
-use Rattle.spec.specs.Record.{Record, row, stride}
+use Rattle.spec.specs.Record.{Record, row, stride, numbers}
 use Rattle.spec.specs.Reading.{Reading, Done, Refused, _then_, element, elements, contents}
 use Rattle.spec.proofs.Laws.{Takes, took, none, takes-scalar}
 use Rattle.spec.proofs.ReadingLaws.{elements-cons}
 use Rattle.wire.specs.declared.found.Found.{Found}
 use Rattle.wire.specs.declared.found.Found.the-variants as found
-use Rattle.wire.specs.Answers.{told}
+use Rattle.wire.specs.Answers.{asRead}
 use Rattle.read.specs.Answers.{scalarOf, Shortly, is-short, meantAs, meantBy, isInt, sizeOne, sizeOf}
 use Rattle.read.specs.Emit.{Left, left, placed, emit, Further}
 use Rattle.read.specs.declared.room.Step.the-variants.{Go, Stop}
@@ -47,7 +48,7 @@ module _ {most : ℕ} {todo : ℕ → Reading} {room₀ : List ℕ} {from b : �
   unfolding emit
   stops e = sym (h .same ∙ ap (emit room to) e)
 
-  pub full : {r : Record} {q : Reading} → todo at ≡ (r then q) → length room - to < stride → left (Stop 8 to (r .tag)) room ≡ emit room₀ b (todo from)
+  pub full : {r : Record} {q : Reading} → todo at ≡ (r then q) → length room - to < stride → left (Stop noRoom to (r .tag)) room ≡ emit room₀ b (todo from)
   full {r} {q} e l = sym (h .same ∙ ap (emit room to) e ∙ emit-full room to r q (omega (arith, h .fits)))
 
   -- a record is stored
@@ -135,7 +136,7 @@ no-elements (other x) d m kind t at s room to i h = refl
 -- a short varint is the value that it means
 short-one : (c : Scalar) (s : List ℕ) (v n w : ℕ) → Shortly s (short.Of v n) → meantAs c v ≡ meant.Is w → scalar c s ≡ Took w n
 unfolding scalar meantAs meaning require
-short-one int32 s v n w (is-short f l) e = let same : v ≡ w = cc in rw (f 6 1, lt-ltb v (2147483648) (omega arith), same)
+short-one int32 s v n w (is-short f l) e = let same : v ≡ w = cc in rw (f 6 1, lt-ltb v (2 ^ 31) (omega arith), same)
 short-one uint32 s v n w (is-short f l) e = let same : v ≡ w = cc in rw (f 1 15, same)
 short-one uint64 s v n w (is-short f l) e = let same : v ≡ w = cc in rw (f 6 1, same)
 short-one bool s v n w (is-short f l) e = let same : min 1 v ≡ w = cc in rw (f 6 1, same)
@@ -176,17 +177,17 @@ module _ (p : List ℕ) (off depth number kind tag : ℕ) where
     element-bad i e = contents-bad depth number kind tag (shape kind) (off + at) (drop at p) (omega (arith, length-drop at p)) i e
 
     -- the same of an element that was found with the place behind it
-    found-size : {r : Found} {v next : ℕ} → r ≡ found.Value v next → told at r ≡ scalarOf (shape kind) (drop at p) → (at < next) × (next ≤ length p)
+    found-size : {r : Found} {v next : ℕ} → r ≡ found.Value v next → asRead at r ≡ scalarOf (shape kind) (drop at p) → (at < next) × (next ≤ length p)
     found-size {r} {v} {next} is e =
-        let k = element-size {v = v} {n = next - at} (sym e ∙ ap (told at) is) in
+        let k = element-size {v = v} {n = next - at} (sym e ∙ ap (asRead at) is) in
         (omega (arith, k .0), omega (arith, k .0, k .1))
 
-    found-here : {r : Found} {v next : ℕ} → r ≡ found.Value v next → told at r ≡ scalarOf (shape kind) (drop at p)
+    found-here : {r : Found} {v next : ℕ} → r ≡ found.Value v next → asRead at r ≡ scalarOf (shape kind) (drop at p)
         → content at ≡ (row depth number kind v (off + at) (off + next) tag then content next)
     found-here {r} {v} {next} is e =
         let k = found-size is e in
         let behind : at + (next - at) ≡ next = omega (arith, k .0) in
-        element-here {v = v} {n = next - at} (sym e ∙ ap (told at) is) ∙ rw behind
+        element-here {v = v} {n = next - at} (sym e ∙ ap (asRead at) is) ∙ rw behind
 
 -- a loop over its elements
 module _ (depth number kind tag : ℕ) {p : List ℕ} {off : ℕ} {room₀ : List ℕ} {from : ℕ} {room : List ℕ} {at to : ℕ}
@@ -201,11 +202,11 @@ module _ (depth number kind tag : ℕ) {p : List ℕ} {off : ℕ} {room₀ : Lis
   elements-end l =
       from-first (ends (h .further) (ap (contents (shape kind) depth number kind tag (off + at)) (drop-of-length-le p {i = at} l) ∙ contents-none depth number kind tag (shape kind) (off + at)))
 
-  module _ (lt : at < length p) {r : Found} (e : told at r ≡ scalarOf (shape kind) (drop at p)) where
+  module _ (lt : at < length p) {r : Found} (e : asRead at r ≡ scalarOf (shape kind) (drop at p)) where
     pub element-refused : {k : ℕ} → isScalar (shape kind) ≡ true → r ≡ found.Refused k → left (Stop k to tag) room ≡ all
-    element-refused i is = from-first (stops (h .further) (element-bad p off depth number kind tag lt i (sym e ∙ ap (told at) is)))
+    element-refused i is = from-first (stops (h .further) (element-bad p off depth number kind tag lt i (sym e ∙ ap (asRead at) is)))
 
-    pub element-full : {v next : ℕ} → r ≡ found.Value v next → length room - to < stride → left (Stop 8 to tag) room ≡ all
+    pub element-full : {v next : ℕ} → r ≡ found.Value v next → length room - to < stride → left (Stop noRoom to tag) room ≡ all
     element-full is l = from-first (full (h .further) (found-here p off depth number kind tag lt is e) l)
 
     pub element-within : {v next : ℕ} → r ≡ found.Value v next → (at < next) × (next ≤ length p)
@@ -214,6 +215,7 @@ module _ (depth number kind tag : ℕ) {p : List ℕ} {off : ℕ} {room₀ : Lis
     pub element-stored : {v next : ℕ} → r ≡ found.Value v next → {room′ : List ℕ} {to′ : ℕ} → to + stride ≤ length room
         → room′ ≡ placed room to (row depth number kind v (off + at) (off + next) 0) → to′ ≡ to + stride
         → Here (contents (shape kind) depth number kind tag) p off room₀ 0 from room′ next to′
+    unfolding numbers
     element-stored is l put next =
         let k = element-within is in
         record { further = stored (h .further) (found-here p off depth number kind tag lt is e) (omega (arith, k .0)) (k .1) l put next }
@@ -231,5 +233,6 @@ module _ (depth number kind tag : ℕ) {p : List ℕ} {off : ℕ} {room₀ : Lis
   pub short-stored : {room′ : List ℕ} {to′ : ℕ} → to + stride ≤ length room
       → room′ ≡ placed room to (row depth number kind w (off + at) (off + (at + n)) 0) → to′ ≡ to + stride
       → Here (contents (shape kind) depth number kind tag) p off room₀ from b room′ (at + n) to′
+  unfolding numbers
   short-stored l put next =
       record { further = stored (h .further) (element-here p off depth number kind tag lt {v = w} {n = n} this) (omega arith) (short-within .1) l put next }

@@ -1,11 +1,12 @@
 -- What the functions of this crate answer, by the definitions of reading. Assumes nothing: these are definitions. That a field which is asked
 -- for so is the field of the definition is a law (proofs/AskedLaws).
-use Prim.Native.Nat.{ℕ, suc, _+_, _-_, _/_, _%_, _≤_, _<_, min}
+use Prim.Native.Nat.{ℕ, suc, _+_, _-_, _/_, _%_, _^_, _≤_, _<_, min}
 use mathlib.Core.Path.{_≡_}
 use mathlib.Core.Bool.{Bool, true, false, not, _||_}
 use mathlib.Core.List.{List}
 use lib.ListN.{length, drop, getD}
 use lib.Dec.{leb, ltb, eqb}
+use Rattle.spec.specs.Names.{bytesKind, enumKind, int32Kind, messageKind, mostLevels, packedHead, sint32Kind, stringKind, tooLarge, uint32Kind, unknownBytes, varintWire, badTag, noGroupOpen, notUtf8, outOfRange, tooDeep}
 use Rattle.spec.specs.Base.{if_then_else_, part, limit, Read, Took, No}
 use Rattle.spec.specs.Varint.{varint, varint32, varint64, unzigzag, tag}
 use Rattle.spec.specs.Utf8.{utf8}
@@ -13,6 +14,7 @@ use Rattle.spec.specs.Kind.{Scalar, int32, uint32, uint64, bool, sint32, sint64
 use Rattle.spec.specs.Schema.{Says}
 use Rattle.spec.specs.Skip.{content, outerGroup}
 use Rattle.wire.specs.Reached.{varintOf}
+use Rattle.schema.specs.Layout.{innersAt, kindsAt}
 use Rattle.spec.specs.Reading as spec
 use Rattle.spec.specs.Record.{stride}
 use Rattle.read.specs.declared.Answer.{Answer}
@@ -36,14 +38,14 @@ use Rattle.read.specs.declared.classify.Body.the-variants as body
 
 -- ---- values that are one number
 
--- of any shape: refusal 3 where it is none
+-- of any shape: `badTag` where it is none
 unfoldable pub scalarOf : Shape → List ℕ → Read
 scalarOf (one c) s = scalar c s
-scalarOf (other x) s = No 3
+scalarOf (other x) s = No badTag
 
--- a short varint is the same at every width
+-- a short varint, of at most three bytes, is the same at every width
 pub data Shortly (s : List ℕ) : Short → Type 0 where
-  is-short : {v n : ℕ} → ((k last : ℕ) → varint (suc (suc (suc k))) last s ≡ Took v n) → v < 2097152 → Shortly s (short.Of v n)
+  is-short : {v n : ℕ} → ((k last : ℕ) → varint (suc (suc (suc k))) last s ≡ Took v n) → v < 128 ^ 3 → Shortly s (short.Of v n)
   is-longer : Shortly s short.Longer
 
 -- what a varint says
@@ -86,33 +88,33 @@ unfoldable pub sizeOf : Shape → ℕ
 sizeOf (one c) = sizeOne c
 sizeOf (other x) = 0
 
--- the kinds of a signed number of 32 bits, and those whose varint has 32 bits
-abbrev pub isSigned : ℕ → Bool
-isSigned kind = eqb kind 5 || eqb kind 14
+-- the kinds whose values are a varint64 that must fit 32 signed bits, and those whose values are a varint32
+abbrev pub mustFit32 : ℕ → Bool
+mustFit32 kind = eqb kind int32Kind || eqb kind enumKind
 
-abbrev pub isNarrow : ℕ → Bool
-isNarrow kind = eqb kind 13 || eqb kind 17
+abbrev pub isVarint32 : ℕ → Bool
+isVarint32 kind = eqb kind uint32Kind || eqb kind sint32Kind
 
 abbrev pub inRange : Bool → ℕ → Bool
-inRange signed v = if signed then signed32 v else true
+inRange fit v = if fit then signed32 v else true
 
 -- a varint as a value of a shape
 abbrev pub tookMeant : ℕ → Meant → Read
 tookMeant n (meant.Is v) = Took v n
-tookMeant n meant.Other = No 3
+tookMeant n meant.Other = No badTag
 
 unfoldable pub intBy : Shape → Bool → Read → Read
-intBy x signed (Took v n) = if inRange signed v then tookMeant n (meantBy x v) else No 5
-intBy x signed (No k) = No k
+intBy x fit (Took v n) = if inRange fit v then tookMeant n (meantBy x v) else No outOfRange
+intBy x fit (No k) = No k
 
 -- ---- contents
 
 -- the kinds of a head, and those whose field has a length
 abbrev pub isHead : ℕ → Bool
-isHead kind = eqb kind 11 || eqb kind 20
+isHead kind = eqb kind messageKind || eqb kind packedHead
 
 abbrev pub hasLength : ℕ → Bool
-hasLength kind = eqb kind 9 || eqb kind 11 || eqb kind 12 || eqb kind 20 || eqb kind 23
+hasLength kind = eqb kind stringKind || eqb kind messageKind || eqb kind bytesKind || eqb kind packedHead || eqb kind unknownBytes
 
 abbrev pub lengthOf : ℕ → List ℕ → Read
 lengthOf kind s = varintOf (not (isHead kind)) s
@@ -133,18 +135,18 @@ ranged at (Took a z) = body.Is 0 (at + a) (at + z)
 ranged at (No k) = body.Bad k
 
 unfoldable pub texted : ℕ → List ℕ → Read → Body
-texted at s (Took a z) = if utf8 (part a z s) then body.Is 0 (at + a) (at + z) else body.Bad 6
+texted at s (Took a z) = if utf8 (part a z s) then body.Is 0 (at + a) (at + z) else body.Bad notUtf8
 texted at s (No k) = body.Bad k
 
 unfoldable pub bodied : Shape → (depth at : ℕ) → List ℕ → Body
 bodied (one c) depth at s = valued at (scalar c s)
 bodied (other string) depth at s = texted at s (content varint32 s)
 bodied (other bytes) depth at s = ranged at (content varint32 s)
-bodied (other message) depth at s = if leb 100 depth then body.Bad 7 else ranged at (content varint64 s)
+bodied (other message) depth at s = if leb mostLevels depth then body.Bad tooDeep else ranged at (content varint64 s)
 bodied (other packed) depth at s = ranged at (content varint64 s)
 bodied (other startGroup) depth at s = body.Group
-bodied (other endGroup) depth at s = body.Bad 4
-bodied (other nothing) depth at s = body.Bad 3
+bodied (other endGroup) depth at s = body.Bad noGroupOpen
+bodied (other nothing) depth at s = body.Bad badTag
 
 -- ---- a field
 
@@ -156,12 +158,12 @@ tagAt say at (No k) = tagged.Bad k
 -- what entry i of the tables says of the tag c at a place, which is one byte and whose key it has
 abbrev pub quickTag : List ℕ → (i c at : ℕ) → Tag
 quickTag info i c at =
-    let kind = getD info (512 + i) 0 in
-    tagged.Of (c / 8) kind (if eqb kind 11 then getD info (768 + i) 0 else 0) (at + 1)
+    let kind = getD info (kindsAt + i) 0 in
+    tagged.Of (c / 8) kind (if eqb kind messageKind then getD info (innersAt + i) 0 else 0) (at + 1)
 
 -- the kind that is known of a tag
 pub data Tells (say : ℕ → Says) (c : ℕ) : Kind → Type 0 where
-  tells : {kind : ℕ} → 8 ≤ c → c < 128 → c % 8 ≡ 0 → say c .kind ≡ kind → Tells say c (known.Of kind)
+  tells : {kind : ℕ} → 8 ≤ c → c < 128 → c % 8 ≡ varintWire → say c .kind ≡ kind → Tells say c (known.Of kind)
   tells-not : Tells say c known.Other
 
 unfoldable pub fromBody : (number kind inner next : ℕ) → Body → Field
@@ -180,8 +182,8 @@ asked look depth type at s = fromTag depth s (tagAt (look type) at (tag (drop at
 -- the definition's field of a record that is asked for, and of what is asked for at the place `at` of s
 abbrev pub asField : (number kind inner value start end : ℕ) → spec.Field
 asField m kind inner v a e =
-    if eqb kind 11 then spec.Message m inner a e else
-    if eqb kind 20 then spec.Packed m inner a e else
+    if eqb kind messageKind then spec.Message m inner a e else
+    if eqb kind packedHead then spec.Packed m inner a e else
     spec.Value m kind v a e
 
 abbrev pub rowField : ℕ → Row → spec.Field
@@ -197,14 +199,14 @@ pub record Held (depth at most : ℕ) (r : Row) : Type 0 where
   pub behind : at < r .start
   pub ordered : r .start ≤ r .end
   pub inside : r .end ≤ most
-  pub shallow : r .kind ≡ 11 → depth < 100
-  pub message-zero : r .kind ≡ 11 → r .value ≡ 0
-  pub packed-zero : r .kind ≡ 20 → r .value ≡ 0
+  pub shallow : r .kind ≡ messageKind → depth < mostLevels
+  pub message-zero : r .kind ≡ messageKind → r .value ≡ 0
+  pub packed-zero : r .kind ≡ packedHead → r .value ≡ 0
 
 -- ---- the call, by what is known of tags
 
 unfoldable pub readingBy : spec.Look → ℕ → List ℕ → spec.Reading
-readingBy look room s = if ltb limit (length s) then spec.Refused 11 0 else spec.within room (spec.read look 0 0 0 s)
+readingBy look room s = if ltb limit (length s) then spec.Refused tooLarge 0 else spec.within room (spec.read look 0 0 0 s)
 
 -- the answer of a reader that began at the start of the room, whose places count numbers; a caller counts records
 abbrev pub answerOf : (number to place : ℕ) → Answer

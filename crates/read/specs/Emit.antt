@@ -1,12 +1,13 @@
 -- What a reader does with lent room: each record in turn is stored behind those before it, until one does not fit. Assumes nothing: these are
 -- definitions. That reading from the start of the room leaves what the definition of the call says is a law (proofs/EmitLaws).
-use Prim.Native.Nat.{ℕ, _+_, _≤_}
+use Prim.Native.Nat.{ℕ, suc, _+_, _≤_}
 use mathlib.Core.Path.{_≡_}
-use mathlib.Core.List.{List}
+use mathlib.Core.List.{List, [], _∷_}
 use lib.ListN.{length, set}
 use lib.Dec.{leb}
+use Rattle.spec.specs.Names.{noRoom}
 use Rattle.spec.specs.Base.{if_then_else_}
-use Rattle.spec.specs.Record.{Record, stride}
+use Rattle.spec.specs.Record.{Record, stride, numbers}
 use Rattle.spec.specs.Reading.{Reading, Done, Refused, _then_}
 use Rattle.read.specs.declared.room.Step.{Step}
 use Rattle.read.specs.declared.room.Step.the-variants.{Go, Stop}
@@ -15,10 +16,14 @@ use Rattle.read.specs.declared.room.Step.the-variants.{Go, Stop}
 pub data Left : Type 0 where
   left : Step → List ℕ → Left
 
+-- the room with the numbers xs stored from its number b + i on
+unfoldable pub storedFrom : List ℕ → (b i : ℕ) → List ℕ → List ℕ
+storedFrom room b i [] = room
+storedFrom room b i (x ∷ xs) = storedFrom (set room (b + i) x) b (suc i) xs
+
 -- the room with the record r at its number b
 abbrev pub placed : List ℕ → ℕ → Record → List ℕ
-placed room b r =
-    set (set (set (set (set (set room b (r .depth)) (b + 1) (r .number)) (b + 2) (r .kind)) (b + 3) (r .value)) (b + 4) (r .start)) (b + 5) (r .stop)
+placed room b r = storedFrom room b 0 (numbers r)
 
 -- with b numbers of the room in use
 unfoldable pub emit : List ℕ → ℕ → Reading → Left
@@ -26,7 +31,7 @@ emit room b Done = left (Go b) room
 emit room b (Refused k p) = left (Stop k b p) room
 emit room b (r then q) =
     let more = emit (placed room b r) (b + stride) q in
-    if leb (b + stride) (length room) then more else left (Stop 8 b (r .tag)) room
+    if leb (b + stride) (length room) then more else left (Stop noRoom b (r .tag)) room
 
 -- A part of the work is done, up to the place `at` of `most`: what was to be emitted before is what is to be emitted now, where `todo` is what
 -- there is to do from a place on.

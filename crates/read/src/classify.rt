@@ -8,6 +8,7 @@ ghost use Rattle.spec.specs.Varint.{tag};
 ghost use Rattle.spec.specs.Kind.{shape};
 ghost use Rattle.spec.specs.Skip.{content};
 ghost use Rattle.spec.specs.Reading.{field};
+ghost use Rattle.schema.specs.Layout.{keyCount};
 ghost use Rattle.schema.specs.Tables.{tableSays};
 ghost use Rattle.read.specs.Answers.{tagAt, quickTag, isHead, lengthOf, spanAt, hasLength, bodied, fromBody, asked, resolved};
 use crate::scalar::index;
@@ -15,10 +16,23 @@ use crate::scalar::scalar_at;
 use crate::scalar::varint_at;
 use crate::scalar::wide;
 use crate::scalar::wide32;
+use schema::layout;
 use schema::says;
+use spec::kinds;
+use spec::limits;
+use spec::refusals;
+use spec::wire_types;
 use utf8::is_utf8;
 use wire::found::Found;
 use wire::varint::decode::decode_varint32;
+
+// The last wire type, and the first number after the wire types.
+const LAST_WIRE: u64 = wire_types::FIXED32 as u64;
+
+const WIRE_TYPES: u64 = LAST_WIRE + 1;
+
+// The greatest depth at which a message head may stand.
+const DEEPEST_HEAD: u32 = limits::MOST_LEVELS - 1;
 
 // A field that gives a record: what the record says, and what is in it, which is the type of a message's fields or the kind of a packed field's
 // elements, else 0.
@@ -69,16 +83,22 @@ enum Body {
 // ---- tags
 
 // Any tag.
-fn long_tag(keys: &[u64; 256], info: &[u8; 1024], s: &[u8], at: usize, ty: u32) -> Tag
+fn long_tag(
+    keys: &[u64; layout::KEYS],
+    info: &[u8; layout::INFO],
+    s: &[u8],
+    at: usize,
+    ty: u32,
+) -> Tag
     ensures { λ r. ⌜ r ≡ tagAt (tableSays (now (keys .entry)) (now (info .entry)) ty) at (tag (drop at (now (s .entry)))) ⌝ }
 {
     match decode_varint32(s, at) {
         Found::Value { value, next } => {
             if value < 8 {
-                return Tag::Bad(3);
+                return Tag::Bad(refusals::BAD_TAG);
             }
-            if 5 < value % 8 {
-                return Tag::Bad(3);
+            if LAST_WIRE < value % 8 {
+                return Tag::Bad(refusals::BAD_TAG);
             }
             let said = says(keys, info, ty, value as u32);
             let number = value / 8;
@@ -96,14 +116,18 @@ fn long_tag(keys: &[u64; 256], info: &[u8; 1024], s: &[u8], at: usize, ty: u32) 
 }
 
 // What entry i says of a tag of one byte whose key it has.
-fn quick_tag(info: &[u8; 1024], i: usize, c: u64, at: usize) -> Tag
-    requires { ⌜ (i < 256) × (at + 1 < 2 ^ 64) ⌝ }
+fn quick_tag(info: &[u8; layout::INFO], i: usize, c: u64, at: usize) -> Tag
+    requires { ⌜ (i < keyCount) × (at + 1 < 2 ^ 64) ⌝ }
     ensures { λ r. ⌜ r ≡ quickTag (now (info .entry)) i c at ⌝ }
 {
     let number = c / 8;
-    let kind = wide(info[512 + i]);
+    let kind = wide(info[layout::KINDS_AT + i]);
     let next = at + 1;
-    let inner = if kind == 11 { wide32(info[768 + i]) } else { 0 };
+    let inner = if kind == kinds::MESSAGE {
+        wide32(info[layout::INNERS_AT + i])
+    } else {
+        0
+    };
     Tag::Of {
         number,
         kind,
@@ -113,17 +137,23 @@ fn quick_tag(info: &[u8; 1024], i: usize, c: u64, at: usize) -> Tag
 }
 
 // The tag at a place. One of a single byte whose entry is the guess needs no search: its key says that owner, number and wire type are right.
-fn tag_at(keys: &[u64; 256], info: &[u8; 1024], s: &[u8], at: usize, ty: u32) -> Tag
+fn tag_at(
+    keys: &[u64; layout::KEYS],
+    info: &[u8; layout::INFO],
+    s: &[u8],
+    at: usize,
+    ty: u32,
+) -> Tag
     ensures { λ r. ⌜ r ≡ tagAt (tableSays (now (keys .entry)) (now (info .entry)) ty) at (tag (drop at (now (s .entry)))) ⌝ }
 {
     if at < s.len() {
-        if ty < 32 {
+        if ty < limits::MOST_TYPES {
             let c = s[at] as u64;
             if c < 128 {
-                let i = index(info[ty as usize * 16 + c as usize / 8]);
-                if keys[i] == ty as u64 * 4294967296 + c {
+                let i = index(info[ty as usize * layout::GUESSES + c as usize / 8]);
+                if keys[i] == ty as u64 * layout::OWNER_UNIT + c {
                     if 8 <= c {
-                        if c % 8 < 6 {
+                        if c % 8 < WIRE_TYPES {
                             return quick_tag(info, i, c, at);
                         }
                     }
@@ -139,7 +169,7 @@ fn tag_at(keys: &[u64; 256], info: &[u8; 1024], s: &[u8], at: usize, ty: u32) ->
 fn is_head(kind: u64) -> bool
     ensures { λ r. ⌜ r ≡ isHead kind ⌝ }
 {
-    kind == 11 || kind == 20
+    kind == kinds::MESSAGE || kind == kinds::PACKED_HEAD
 }
 
 fn long_span(s: &[u8], at: usize, kind: u64) -> Span
@@ -149,7 +179,7 @@ fn long_span(s: &[u8], at: usize, kind: u64) -> Span
     match varint_at(s, at, !is_head(kind)) {
         Found::Value { value, next } => {
             if ((s.len() - next) as u64) < value {
-                return Span::Bad(1);
+                return Span::Bad(refusals::ENDS_EARLY);
             }
             let end = next + value as usize;
             Span::Of { start: next, end }
@@ -168,7 +198,7 @@ fn span_at(s: &[u8], at: usize, kind: u64) -> Span
         if n < 128 {
             let start = at + 1;
             if s.len() - start < n {
-                return Span::Bad(1);
+                return Span::Bad(refusals::ENDS_EARLY);
             }
             let end = start + n;
             return Span::Of { start, end };
@@ -182,19 +212,19 @@ fn span_at(s: &[u8], at: usize, kind: u64) -> Span
 fn has_length(kind: u64) -> bool
     ensures { λ r. ⌜ r ≡ hasLength kind ⌝ }
 {
-    if kind == 9 {
+    if kind == kinds::STRING {
         return true;
     }
-    if kind == 11 {
+    if kind == kinds::MESSAGE {
         return true;
     }
-    if kind == 12 {
+    if kind == kinds::BYTES {
         return true;
     }
-    if kind == 20 {
+    if kind == kinds::PACKED_HEAD {
         return true;
     }
-    kind == 23
+    kind == kinds::UNKNOWN_BYTES
 }
 
 // A field with a length.
@@ -204,9 +234,9 @@ fn delimited(s: &[u8], at: usize, kind: u64) -> Body
 {
     match span_at(s, at, kind) {
         Span::Of { start, end } => {
-            if kind == 9 {
+            if kind == kinds::STRING {
                 if !is_utf8(&s[start..end]) {
-                    return Body::Bad(6);
+                    return Body::Bad(refusals::NOT_UTF8);
                 }
             }
             Body::Is {
@@ -225,8 +255,8 @@ fn plain(s: &[u8], at: usize, kind: u64) -> Body
     ensures { λ r. ⌜ r ≡ bodied (shape kind) 0 at (drop at (now (s .entry))) ⌝ }
 {
     match kind {
-        25 => Body::Group,
-        26 => Body::Bad(4),
+        kinds::GROUP_START => Body::Group,
+        kinds::GROUP_END => Body::Bad(refusals::NO_GROUP_OPEN),
         _ => match scalar_at(s, at, kind) {
             Found::Value { value, next } => Body::Is {
                 value,
@@ -243,9 +273,9 @@ fn body_at(s: &[u8], at: usize, kind: u64, depth: u32) -> Body
     ensures { λ r. ⌜ r ≡ bodied (shape kind) depth at (drop at (now (s .entry))) ⌝ }
 {
     if has_length(kind) {
-        if kind == 11 {
-            if 99 < depth {
-                return Body::Bad(7);
+        if kind == kinds::MESSAGE {
+            if DEEPEST_HEAD < depth {
+                return Body::Bad(refusals::TOO_DEEP);
             }
         }
         return delimited(s, at, kind);
@@ -277,8 +307,8 @@ fn with_body(number: u64, kind: u64, inner: u32, next: usize, body: Body) -> Fie
 
 // The field at a place, in a message of this type and depth.
 pub fn field_at(
-    keys: &[u64; 256],
-    info: &[u8; 1024],
+    keys: &[u64; layout::KEYS],
+    info: &[u8; layout::INFO],
     s: &[u8],
     at: usize,
     ty: u32,

@@ -17,7 +17,11 @@ mod scalar;
 use crate::message::message;
 use crate::room::Step;
 use schema::Verdict;
+use schema::layout;
 use schema::tables;
+use spec::columns;
+use spec::limits;
+use spec::refusals;
 
 // What a reading comes to: the refusal's number, 0 for none; how many records stand in the room; the place of the refusal.
 pub struct Answer {
@@ -32,12 +36,12 @@ fn counted(number: u32, to: usize, place: usize) -> Answer
 {
     Answer {
         number,
-        count: to / 6,
+        count: to / columns::STRIDE,
         place,
     }
 }
 
-fn told(step: Step) -> Answer
+fn answered(step: Step) -> Answer
     ensures { λ r. ⌜ r ≡ answered step ⌝ }
 {
     match step {
@@ -47,41 +51,46 @@ fn told(step: Step) -> Answer
 }
 
 // Reads the message `s` under the tables of a schema, which a caller with many messages makes once. Any arrays are tables.
-pub fn read_prepared(keys: &[u64; 256], info: &[u8; 1024], s: &[u8], room: &mut [u64]) -> Answer
+pub fn read_prepared(
+    keys: &[u64; layout::KEYS],
+    info: &[u8; layout::INFO],
+    s: &[u8],
+    room: &mut [u64],
+) -> Answer
     ensures { λ r. ⌜ (r .number ≡ number (readingBy (tableSays (now (keys .entry)) (now (info .entry))) (length (now (room .entry)) / stride) (now (s .entry))))
         × (r .place ≡ place (readingBy (tableSays (now (keys .entry)) (now (info .entry))) (length (now (room .entry)) / stride) (now (s .entry))))
         × (r .count ≡ length (listed (readingBy (tableSays (now (keys .entry)) (now (info .entry))) (length (now (room .entry)) / stride) (now (s .entry)))))
         × (now (room .exit) ≡ roomAfter (readingBy (tableSays (now (keys .entry)) (now (info .entry))) (length (now (room .entry)) / stride) (now (s .entry))) (now (room .entry))) ⌝ }
 {
-    if 0x7fff_ffff < s.len() {
+    if limits::MOST_BYTES < s.len() {
         return Answer {
-            number: 11,
+            number: refusals::TOO_LARGE,
             count: 0,
             place: 0,
         };
     }
-    told(message(keys, info, s, 0, 0, 0, room, 0))
+    answered(message(keys, info, s, 0, 0, 0, room, 0))
 }
 
-// Reads the message `s` under a schema of five numbers an entry.
+// Reads the message `s` under a schema whose entries are lent as numbers, one entry after the other.
 pub fn read(types: u32, numbers: &[u32], s: &[u8], room: &mut [u64]) -> Answer
     ensures { λ r. ⌜ (r .number ≡ number (reading (schemaOf types (now (numbers .entry))) (length (now (room .entry)) / stride) (now (s .entry))))
         × (r .place ≡ place (reading (schemaOf types (now (numbers .entry))) (length (now (room .entry)) / stride) (now (s .entry))))
         × (r .count ≡ length (listed (reading (schemaOf types (now (numbers .entry))) (length (now (room .entry)) / stride) (now (s .entry)))))
         × (now (room .exit) ≡ roomAfter (reading (schemaOf types (now (numbers .entry))) (length (now (room .entry)) / stride) (now (s .entry))) (now (room .entry))) ⌝ }
 {
-    if 0x7fff_ffff < s.len() {
+    if limits::MOST_BYTES < s.len() {
         return Answer {
-            number: 11,
+            number: refusals::TOO_LARGE,
             count: 0,
             place: 0,
         };
     }
-    let mut keys: [u64; 256] = [0xffff_ffff_ffff_ffff; 256];
-    let mut info: [u8; 1024] = [0; 1024];
+    let mut keys: [u64; layout::KEYS] = [layout::NO_KEY; layout::KEYS];
+    let mut info: [u8; layout::INFO] = [0; layout::INFO];
     match tables(types, numbers, &mut keys, &mut info) {
         Verdict::Bad(i) => Answer {
-            number: 9,
+            number: refusals::INVALID_SCHEMA,
             count: 0,
             place: i,
         },

@@ -2,6 +2,7 @@
 ghost use mathlib.Core.Path.{_≡_};
 ghost use Prim.Native.Nat.{_+_, _^_, _≤_, _<_};
 ghost use lib.ListN.{length, drop};
+ghost use Rattle.spec.specs.Names.{mostLevels, mostTypes};
 ghost use Rattle.spec.specs.Reading.{records, read};
 ghost use Rattle.schema.specs.Tables.{tableSays};
 ghost use Rattle.read.specs.Answers.{Held, Tells, rowField};
@@ -19,26 +20,32 @@ use crate::scalar::index;
 use crate::scalar::meaning_of;
 use crate::scalar::short_at;
 use crate::scalar::wide;
+use schema::layout;
 use skip::field::Past;
 use skip::unknown_or_group::skip_unknown_group;
+use spec::columns::STRIDE;
+use spec::kinds;
+use spec::limits;
+use spec::refusals;
+use spec::wire_types;
 
 enum Kind {
     Of(u64),
     Other,
 }
 
-// The kind of the field whose tag is the one byte c, of wire type 0. Number 0 is asked for last: no table of a schema has a key for it.
-fn int_kind(keys: &[u64; 256], info: &[u8; 1024], c: u8, ty: u32) -> Kind
-    requires { ⌜ ty < 32 ⌝ }
+// The kind of the field whose tag is the one byte c, of the wire type of varints. Number 0 is asked for last: no table of a schema has a key for it.
+fn int_kind(keys: &[u64; layout::KEYS], info: &[u8; layout::INFO], c: u8, ty: u32) -> Kind
+    requires { ⌜ ty < mostTypes ⌝ }
     ensures { λ r. ⌜ Tells (tableSays (now (keys .entry)) (now (info .entry)) ty) c r ⌝ }
 {
-    if c % 8 == 0 {
+    if c % 8 == wire_types::VARINT {
         if c < 128 {
             let number = c / 8;
-            let i = index(info[ty as usize * 16 + number as usize]);
-            if keys[i] == ty as u64 * 0x1_0000_0000 + c as u64 {
+            let i = index(info[ty as usize * layout::GUESSES + number as usize]);
+            if keys[i] == ty as u64 * layout::OWNER_UNIT + c as u64 {
                 if 0 < number {
-                    return Kind::Of(wide(info[512 + i]));
+                    return Kind::Of(wide(info[layout::KINDS_AT + i]));
                 }
             }
         }
@@ -48,8 +55,8 @@ fn int_kind(keys: &[u64; 256], info: &[u8; 1024], c: u8, ty: u32) -> Kind
 
 // Reads on while fields are short varints with a tag of one byte, and there is room. Whatever it leaves, `message` does.
 fn short_ints(
-    keys: &[u64; 256],
-    info: &[u8; 1024],
+    keys: &[u64; layout::KEYS],
+    info: &[u8; layout::INFO],
     s: &[u8],
     off: usize,
     ty: u32,
@@ -57,18 +64,18 @@ fn short_ints(
     room: &mut [u64],
     from: Spot,
 ) -> Spot
-    requires { ⌜ (from .at < length (now s)) × (off + length (now s) < 2 ^ 64) × (from .to ≤ length (now room)) × (ty < 32) ⌝ }
+    requires { ⌜ (from .at < length (now s)) × (off + length (now s) < 2 ^ 64) × (from .to ≤ length (now room)) × (ty < mostTypes) ⌝ }
     ensures { λ r. ⌜ Further (length (now (s .entry))) (λ at. read (tableSays (now (keys .entry)) (now (info .entry))) depth ty (off + at) (drop at (now (s .entry))))
         (now (room .entry)) (from .at) (from .to) (now (room .exit)) (r .at) (r .to) ⌝ }
 {
     let mut at = from.at;
     let mut to = from.to;
     let last = s.len() - 1;
-    if room.len() < 6 {
+    if room.len() < STRIDE {
         return Spot { at, to };
     }
     // the last place where a record has room: one bound for the whole loop, which keeps a register free
-    let most = room.len() - 6;
+    let most = room.len() - STRIDE;
     while at < last {
         if most < to {
             return Spot { at, to };
@@ -101,8 +108,8 @@ fn short_ints(
 
 // What a field asks, where its tag stands at `at`: its record, and for a head what lies below it.
 fn store(
-    keys: &[u64; 256],
-    info: &[u8; 1024],
+    keys: &[u64; layout::KEYS],
+    info: &[u8; layout::INFO],
     s: &[u8],
     off: usize,
     at: usize,
@@ -111,21 +118,21 @@ fn store(
     room: &mut [u64],
     from: usize,
 ) -> Step
-    requires { ⌜ (depth ≤ 100) × (off + length (now s) < 2 ^ 64) × (from ≤ length (now room)) × Held depth at (length (now s)) f ⌝ }
+    requires { ⌜ (depth ≤ mostLevels) × (off + length (now s) < 2 ^ 64) × (from ≤ length (now room)) × Held depth at (length (now s)) f ⌝ }
     ensures { λ r. ⌜ left r (now (room .exit)) ≡ emit (now (room .entry)) from
         (records (read (tableSays (now (keys .entry)) (now (info .entry))) (depth + 1)) depth (off + at) (drop at (now (s .entry))) (rowField at f)) ⌝ }
 {
     let start = f.start;
     let end = f.end;
     let kind = f.kind;
-    if kind == 20 {
+    if kind == kinds::PACKED_HEAD {
         if start == end {
             return Step::Go(from);
         }
     }
-    if room.len() - from < 6 {
+    if room.len() - from < STRIDE {
         return Step::Stop {
-            number: 8,
+            number: refusals::NO_ROOM,
             to: from,
             place: off + at,
         };
@@ -140,7 +147,7 @@ fn store(
         off + start,
         off + end,
     );
-    if kind == 11 {
+    if kind == kinds::MESSAGE {
         return message(
             keys,
             info,
@@ -152,7 +159,7 @@ fn store(
             to,
         );
     }
-    if kind == 20 {
+    if kind == kinds::PACKED_HEAD {
         return packed(
             &s[start..end],
             off + start,
@@ -169,8 +176,8 @@ fn store(
 
 // The fields of the message s, which stands at `off`, behind the first `from` numbers of the room.
 pub(crate) fn message(
-    keys: &[u64; 256],
-    info: &[u8; 1024],
+    keys: &[u64; layout::KEYS],
+    info: &[u8; layout::INFO],
     s: &[u8],
     off: usize,
     ty: u32,
@@ -178,13 +185,13 @@ pub(crate) fn message(
     room: &mut [u64],
     from: usize,
 ) -> Step
-    requires { ⌜ (depth ≤ 100) × (off + length (now s) < 2 ^ 64) × (from ≤ length (now room)) ⌝ }
+    requires { ⌜ (depth ≤ mostLevels) × (off + length (now s) < 2 ^ 64) × (from ≤ length (now room)) ⌝ }
     ensures { λ r. ⌜ left r (now (room .exit)) ≡ emit (now (room .entry)) from (read (tableSays (now (keys .entry)) (now (info .entry))) depth ty off (now (s .entry))) ⌝ }
 {
     let mut at: usize = 0;
     let mut to = from;
     while at < s.len() {
-        if ty < 32 {
+        if ty < limits::MOST_TYPES {
             let x = short_ints(keys, info, s, off, ty, depth, room, Spot { at, to });
             at = x.at;
             to = x.to;

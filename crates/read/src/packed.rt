@@ -18,6 +18,8 @@ use crate::scalar::is_int;
 use crate::scalar::meaning_of;
 use crate::scalar::scalar_at;
 use crate::scalar::short_at;
+use spec::columns::STRIDE;
+use spec::refusals;
 use wire::found::Found;
 
 // Reads on while elements are short and there is room. Whatever it leaves, `packed_ints` does.
@@ -36,11 +38,11 @@ fn short_elements(
 {
     let mut at = from.at;
     let mut to = from.to;
-    if room.len() < 6 {
+    if room.len() < STRIDE {
         return Spot { at, to };
     }
     // the last place where a record has room: one bound for the whole loop, which keeps a register free
-    let most = room.len() - 6;
+    let most = room.len() - STRIDE;
     while at < p.len() {
         if most < to {
             return Spot { at, to };
@@ -58,8 +60,7 @@ fn short_elements(
     Spot { at, to }
 }
 
-// The elements in the content p, which stands at `off`, behind the first `from` numbers of the room; `tag` is the place of the field's tag.
-
+// The elements in the content p, which stands at `off`, after the first `from` numbers of the room; `tag` is the place of the field's tag.
 fn packed_ints(
     p: &[u8],
     off: usize,
@@ -84,9 +85,9 @@ fn packed_ints(
         }
         match int_at(p, at, kind) {
             Found::Value { value, next } => {
-                if room.len() - to < 6 {
+                if room.len() - to < STRIDE {
                     return Step::Stop {
-                        number: 8,
+                        number: refusals::NO_ROOM,
                         to,
                         place: tag,
                     };
@@ -124,9 +125,9 @@ fn packed_fixed(
     while at < p.len() {
         match scalar_at(p, at, kind) {
             Found::Value { value, next } => {
-                if room.len() - to < 6 {
+                if room.len() - to < STRIDE {
                     return Step::Stop {
-                        number: 8,
+                        number: refusals::NO_ROOM,
                         to,
                         place: tag,
                     };

@@ -2,8 +2,9 @@
 ghost use mathlib.Core.Path.{_≡_};
 ghost use Prim.Native.Nat.{_+_, _≤_};
 ghost use lib.ListN.{length};
-ghost use Rattle.spec.specs.Record.{row};
+ghost use Rattle.spec.specs.Record.{row, stride};
 ghost use Rattle.read.specs.Emit.{placed};
+use spec::columns;
 
 // How far a reader came: on, with `to` numbers of the room in use; or refused. Numbers, and not records, so that no turn multiplies.
 pub enum Step {
@@ -21,7 +22,7 @@ pub struct Spot {
     pub to: usize,
 }
 
-// Stores a record from `to` on, where it has room; the place behind it.
+// Stores a record from `to` on, where it has room; the place after it. To add a column, change this function, and the definitions of `spec`.
 pub(crate) fn put(
     room: &mut [u64],
     to: usize,
@@ -32,14 +33,14 @@ pub(crate) fn put(
     start: usize,
     end: usize,
 ) -> usize
-    requires { ⌜ to + 6 ≤ length (now room) ⌝ }
-    ensures { λ r. ⌜ (now (room .exit) ≡ placed (now (room .entry)) to (row depth number kind value start end 0)) × (r ≡ to + 6) ⌝ }
+    requires { ⌜ to + stride ≤ length (now room) ⌝ }
+    ensures { λ r. ⌜ (now (room .exit) ≡ placed (now (room .entry)) to (row depth number kind value start end 0)) × (r ≡ to + stride) ⌝ }
 {
     room[to] = depth as u64;
-    room[to + 1] = number;
-    room[to + 2] = kind;
-    room[to + 3] = value;
-    room[to + 4] = start as u64;
-    room[to + 5] = end as u64;
-    to + 6
+    room[to + columns::NUMBER] = number;
+    room[to + columns::KIND] = kind;
+    room[to + columns::VALUE] = value;
+    room[to + columns::START] = start as u64;
+    room[to + columns::END] = end as u64;
+    to + columns::STRIDE
 }

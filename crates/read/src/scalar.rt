@@ -2,12 +2,16 @@
 ghost use mathlib.Core.Path.{_≡_};
 ghost use Prim.Native.Nat.{_+_, _<_};
 ghost use lib.ListN.{length, drop};
+ghost use Rattle.spec.specs.Names.{badTag};
 ghost use Rattle.spec.specs.Varint.{fixed};
 ghost use Rattle.spec.specs.Base.{if_then_else_, No, meaning};
 ghost use Rattle.spec.specs.Kind.{shape, extend};
-ghost use Rattle.wire.specs.Answers.{told};
+ghost use Rattle.wire.specs.Answers.{asRead};
 ghost use Rattle.wire.specs.Reached.{varintOf};
-ghost use Rattle.read.specs.Answers.{scalarOf, meantBy, isInt, isSigned, isNarrow, inRange, intBy, sizeOf, Shortly};
+ghost use Rattle.read.specs.Answers.{scalarOf, meantBy, isInt, mustFit32, isVarint32, inRange, intBy, sizeOf, Shortly};
+use spec::kinds;
+use spec::limits;
+use spec::refusals;
 use wire::fixed::decode_fixed32;
 use wire::fixed::decode_fixed64;
 use wire::fixed::extend32;
@@ -15,6 +19,12 @@ use wire::found::Found;
 use wire::varint::decode::decode_varint32;
 use wire::varint::decode::decode_varint64;
 use wire::zigzag::unzigzag;
+
+// What the third byte of a varint counts.
+const THIRD: u64 = 128 * 128;
+
+// The first number after the kinds of descriptor.proto.
+const OWN_KINDS: u64 = kinds::OWN_KINDS as u64;
 
 // ---- a byte as a number, and as a place among 256
 
@@ -68,7 +78,7 @@ pub(crate) fn short_at(s: &[u8], at: usize) -> Short
     let e = s[at + 2] as u64;
     if e < 128 {
         return Short::Of {
-            value: c % 128 + d % 128 * 0x80 + e * 0x4000,
+            value: c % 128 + d % 128 * 0x80 + e * THIRD,
             size: 3,
         };
     }
@@ -85,24 +95,27 @@ pub enum Meant {
 pub(crate) fn meaning_of(kind: u64, v: u64) -> Meant
     ensures { λ r. ⌜ r ≡ meantBy (shape kind) v ⌝ }
 {
-    if 2 < kind {
-        if kind < 6 {
+    // int64, uint64, int32
+    if kinds::FLOAT < kind {
+        if kind < kinds::FIXED64 {
             return Meant::Is(v);
         }
     }
-    if 16 < kind {
-        if kind < 19 {
+    // sint32, sint64
+    if kinds::SFIXED64 < kind {
+        if kind < OWN_KINDS {
             return Meant::Is(unzigzag(v));
         }
     }
-    if 12 < kind {
-        if kind < 15 {
+    // uint32, enum
+    if kinds::BYTES < kind {
+        if kind < kinds::SFIXED32 {
             return Meant::Is(v);
         }
     }
     match kind {
-        8 => Meant::Is(if v == 0 { 0 } else { 1 }),
-        21 => Meant::Is(v),
+        kinds::BOOL => Meant::Is(if v == 0 { 0 } else { 1 }),
+        kinds::UNKNOWN_VARINT => Meant::Is(v),
         _ => Meant::Other,
     }
 }
@@ -117,33 +130,35 @@ pub(crate) fn is_int(kind: u64) -> bool
     }
 }
 
-fn is_signed(kind: u64) -> bool
-    ensures { λ r. ⌜ r ≡ isSigned kind ⌝ }
+// Whether a value of a kind is a varint64 that must fit 32 signed bits: int32 and enum.
+fn must_fit_32(kind: u64) -> bool
+    ensures { λ r. ⌜ r ≡ mustFit32 kind ⌝ }
 {
-    kind == 5 || kind == 14
+    kind == kinds::INT32 || kind == kinds::ENUM
 }
 
 // Whether a varint of a kind may have this value: int32 and enum have 32 signed bits.
 fn in_range(kind: u64, v: u64) -> bool
-    ensures { λ r. ⌜ r ≡ inRange (isSigned kind) v ⌝ }
+    ensures { λ r. ⌜ r ≡ inRange (mustFit32 kind) v ⌝ }
 {
-    if !is_signed(kind) {
+    if !must_fit_32(kind) {
         return true;
     }
-    if v < 0x8000_0000 {
+    if v < limits::BEYOND_INT32 {
         return true;
     }
-    0xffff_ffff_8000_0000 <= v
+    limits::LEAST_INT32 <= v
 }
 
-fn is_narrow(kind: u64) -> bool
-    ensures { λ r. ⌜ r ≡ isNarrow kind ⌝ }
+// Whether a value of a kind is a varint32: uint32 and sint32.
+fn is_varint32(kind: u64) -> bool
+    ensures { λ r. ⌜ r ≡ isVarint32 kind ⌝ }
 {
-    kind == 13 || kind == 17
+    kind == kinds::UINT32 || kind == kinds::SINT32
 }
 
 pub(crate) fn varint_at(s: &[u8], at: usize, narrow: bool) -> Found
-    ensures { λ r. ⌜ told at r ≡ varintOf narrow (drop at (now (s .entry))) ⌝ }
+    ensures { λ r. ⌜ asRead at r ≡ varintOf narrow (drop at (now (s .entry))) ⌝ }
 {
     if narrow {
         return decode_varint32(s, at);
@@ -153,16 +168,16 @@ pub(crate) fn varint_at(s: &[u8], at: usize, narrow: bool) -> Found
 
 // A value of a kind whose values are varints.
 pub(crate) fn int_at(s: &[u8], at: usize, kind: u64) -> Found
-    ensures { λ r. ⌜ told at r ≡ intBy (shape kind) (isSigned kind) (varintOf (isNarrow kind) (drop at (now (s .entry)))) ⌝ }
+    ensures { λ r. ⌜ asRead at r ≡ intBy (shape kind) (mustFit32 kind) (varintOf (isVarint32 kind) (drop at (now (s .entry)))) ⌝ }
 {
-    match varint_at(s, at, is_narrow(kind)) {
+    match varint_at(s, at, is_varint32(kind)) {
         Found::Value { value, next } => {
             if !in_range(kind, value) {
-                return Found::Refused(5);
+                return Found::Refused(refusals::OUT_OF_RANGE);
             }
             match meaning_of(kind, value) {
                 Meant::Is(v) => Found::Value { value: v, next },
-                Meant::Other => Found::Refused(3),
+                Meant::Other => Found::Refused(refusals::BAD_TAG),
             }
         }
         Found::Refused(k) => Found::Refused(k),
@@ -172,7 +187,7 @@ pub(crate) fn int_at(s: &[u8], at: usize, kind: u64) -> Found
 // ---- numbers of four bytes with a sign
 
 fn sfixed32_at(s: &[u8], at: usize) -> Found
-    ensures { λ r. ⌜ told at r ≡ meaning extend (fixed 4 (drop at (now (s .entry)))) ⌝ }
+    ensures { λ r. ⌜ asRead at r ≡ meaning extend (fixed 4 (drop at (now (s .entry)))) ⌝ }
 {
     match decode_fixed32(s, at) {
         Found::Value { value, next } => {
@@ -190,29 +205,31 @@ pub(crate) fn fixed_size(kind: u64) -> usize
     ensures { λ r. ⌜ r ≡ sizeOf (shape kind) ⌝ }
 {
     match kind {
-        1 | 6 | 16 | 22 => 8,
-        2 | 7 | 15 | 24 => 4,
+        kinds::DOUBLE | kinds::FIXED64 | kinds::SFIXED64 | kinds::UNKNOWN_FIXED64 => 8,
+        kinds::FLOAT | kinds::FIXED32 | kinds::SFIXED32 | kinds::UNKNOWN_FIXED32 => 4,
         _ => 0,
     }
 }
 
 fn int_or_none(s: &[u8], at: usize, kind: u64) -> Found
-    ensures { λ r. ⌜ told at r ≡ (if isInt (shape kind) then scalarOf (shape kind) (drop at (now (s .entry))) else No 3) ⌝ }
+    ensures { λ r. ⌜ asRead at r ≡ (if isInt (shape kind) then scalarOf (shape kind) (drop at (now (s .entry))) else No badTag) ⌝ }
 {
     if !is_int(kind) {
-        return Found::Refused(3);
+        return Found::Refused(refusals::BAD_TAG);
     }
     int_at(s, at, kind)
 }
 
-// A value of a kind that is one number, and else refusal 3.
+// A value of a kind that is one number, and else the refusal of a bad tag.
 pub(crate) fn scalar_at(s: &[u8], at: usize, kind: u64) -> Found
-    ensures { λ r. ⌜ told at r ≡ scalarOf (shape kind) (drop at (now (s .entry))) ⌝ }
+    ensures { λ r. ⌜ asRead at r ≡ scalarOf (shape kind) (drop at (now (s .entry))) ⌝ }
 {
     match kind {
-        1 | 6 | 16 | 22 => decode_fixed64(s, at),
-        2 | 7 | 24 => decode_fixed32(s, at),
-        15 => sfixed32_at(s, at),
+        kinds::DOUBLE | kinds::FIXED64 | kinds::SFIXED64 | kinds::UNKNOWN_FIXED64 => {
+            decode_fixed64(s, at)
+        }
+        kinds::FLOAT | kinds::FIXED32 | kinds::UNKNOWN_FIXED32 => decode_fixed32(s, at),
+        kinds::SFIXED32 => sfixed32_at(s, at),
         _ => int_or_none(s, at, kind),
     }
 }

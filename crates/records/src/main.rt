@@ -1,55 +1,87 @@
-// Prints the records of one message on standard input, read under schema A of the rules: at most 65,536 bytes, and room for 1,024 records.
+// The program that prints the records of one message on standard input, read under schema A of the rules: at most 65,536 bytes, and room for 1,024 records.
 use libc::STDIN_FILENO;
 use libc::STDOUT_FILENO;
-use lines::put_byte;
-use lines::put_listing;
+use printing::put_byte;
+use printing::put_listing;
 use read::Answer;
+use spec::columns::ENTRY_STRIDE;
+use spec::columns::STRIDE;
+use spec::kinds;
+use spec::refusals;
 
-// Schema A: owner, number, kind, repeated, child of each entry.
-const SCHEMA: [u32; 45] = [
+// The buffer of the input: the longest message, and one byte by which a longer one is known.
+const INPUT: usize = 65537;
+
+// The room for records.
+const ROOM: usize = 1024 * STRIDE;
+
+// The characters of the listing.
+const OUTPUT: usize = 65536;
+
+const FLOAT: u32 = kinds::FLOAT as u32;
+
+const INT32: u32 = kinds::INT32 as u32;
+
+const BOOL: u32 = kinds::BOOL as u32;
+
+const STRING: u32 = kinds::STRING as u32;
+
+const MESSAGE: u32 = kinds::MESSAGE as u32;
+
+const BYTES: u32 = kinds::BYTES as u32;
+
+const UINT32: u32 = kinds::UINT32 as u32;
+
+const SINT32: u32 = kinds::SINT32 as u32;
+
+// How many message types schema A has.
+const TYPES: u32 = 2;
+
+// Schema A: owner, number, kind, repeated, child of each of its nine entries.
+const SCHEMA: [u32; 9 * ENTRY_STRIDE] = [
     0,
     1,
-    5,
+    INT32,
     0,
     0,
     0,
     2,
-    9,
+    STRING,
     0,
     0,
     0,
     3,
-    11,
+    MESSAGE,
     0,
     1,
     0,
     4,
-    17,
+    SINT32,
     1,
     0,
     0,
     5,
-    2,
+    FLOAT,
     0,
     0,
     0,
     7,
-    8,
+    BOOL,
     0,
     0,
     1,
     1,
-    13,
+    UINT32,
     0,
     0,
     1,
     2,
-    12,
+    BYTES,
     0,
     0,
     1,
     3,
-    11,
+    MESSAGE,
     0,
     1,
 ];
@@ -60,7 +92,7 @@ struct Input {
     failed: bool,
 }
 
-// Reads more behind what there is: nothing more at the end of the input, or where the buffer is full.
+// Reads more after what there is: nothing more at the end of the input, or where the buffer is full.
 fn read_some(buf: &mut [u8], have: usize) -> Input {
     if buf.len() <= have {
         return Input {
@@ -120,24 +152,24 @@ fn write_listing(number: u32, count: usize, place: usize, list: &[u64], out: &mu
 // The records that stand in the room are listed, with how the reading ended.
 fn list_answer(r: Answer, room: &[u64], out: &mut [u8]) {
     let count = r.count;
-    if count <= room.len() / 6 {
-        let end = count * 6;
+    if count <= room.len() / STRIDE {
+        let end = count * STRIDE;
         write_listing(r.number, count, r.place, &room[0..end], out);
     }
 }
 
 // Reads the message and lists its records.
 fn list_records(s: &[u8], room: &mut [u64], out: &mut [u8]) {
-    let r = read::read(2, &SCHEMA, s, room);
+    let r = read::read(TYPES, &SCHEMA, s, room);
     list_answer(r, room, out);
 }
 
-// The input is what the buffer has of it, and its last byte is behind the longest message.
+// The input is what the buffer has of it, and its last byte is after the longest message.
 fn list_input(buf: &[u8], have: usize, room: &mut [u64], out: &mut [u8]) {
     if have < buf.len() {
         list_records(&buf[0..have], room, out);
     } else {
-        write_listing(11, 0, 0, &[], out);
+        write_listing(refusals::TOO_LARGE, 0, 0, &[], out);
     }
 }
 
@@ -151,8 +183,8 @@ fn run(buf: &mut [u8], room: &mut [u64], out: &mut [u8]) {
 }
 
 fn main() {
-    let mut buf = [0u8; 65537];
-    let mut room = [0u64; 6144];
-    let mut out = [0u8; 65536];
+    let mut buf = [0u8; INPUT];
+    let mut room = [0u64; ROOM];
+    let mut out = [0u8; OUTPUT];
     run(&mut buf, &mut room, &mut out);
 }

@@ -54,7 +54,7 @@ fn moved(buf: &mut [u8], from: usize, have: usize) -> usize {
     to
 }
 
-// Reads more behind what there is, and returns how much there is then: as much as before at the end of the input, or where a read failed.
+// Reads more after what there is, and returns how much there is then: as much as before at the end of the input, or where a read failed.
 fn more(buf: &mut [u8], have: usize) -> usize {
     if buf.len() <= have {
         return have;
@@ -140,8 +140,8 @@ pub fn next_line(buf: &mut [u8], from: usize, have: usize) -> Line {
     last_line(s)
 }
 
-// Where what is behind a line begins.
-pub fn behind(l: Line) -> usize {
+// Where what comes after a line begins.
+pub fn after(l: Line) -> usize {
     if l.end < l.have {
         return l.end + 1;
     }

@@ -1,19 +1,30 @@
-// The verbs of the leaves: varints, zigzag, tags, the size limit, the table of kinds, UTF-8.
+// The verbs on numbers and on bytes alone: varints, zigzag, tags, the size limit, the table of kinds, UTF-8, skipping, the document check.
+use crate::answers::Answer;
+use crate::answers::BARE;
+use crate::answers::NO;
+use crate::answers::NONE;
+use crate::answers::OK;
+use crate::answers::YES;
+use crate::answers::bad;
+use crate::answers::found;
+use crate::answers::ok_or;
+use crate::answers::one;
+use crate::answers::refused;
+use crate::answers::word;
+use crate::answers::word_one;
+use crate::answers::word_two;
 use crate::signs::fits32;
 use crate::signs::pattern;
 use crate::signs::pattern32;
 use crate::signs::signed;
 use crate::signs::signed32;
-use crate::told::ok_or;
-use crate::told::one;
-use crate::told::put_found;
-use crate::words::done;
-use crate::words::hex;
-use crate::words::number32;
-use crate::words::number64;
-use lines::put_decimal;
-use lines::put_hex;
-use lines::put_text;
+use crate::sizings::fieldsize;
+use crate::verbs;
+use printing::put_hex;
+use skip::unknown_or_group::Skipped;
+use skip::unknown_or_group::read_unknown_or_skip_group;
+use skip::unknown_or_group::skip_field_for_tag;
+use spec::refusals;
 use wire::put::Put;
 use wire::varint::decode::decode_varint32;
 use wire::varint::decode::decode_varint64;
@@ -24,28 +35,94 @@ use wire::wire_format::Tag;
 use wire::wire_format::Tagged;
 use wire::wire_format::WireType;
 
-// `varint64 HEX`, `varint32 HEX`: `ok VALUE USED` or `refused N`.
-pub fn varint(line: &[u8], at: usize, narrow: bool, bytes: &mut [u8], out: &mut [u8]) -> usize {
-    let h = hex(line, at, bytes);
-    if !done(line, h.next) {
-        return 0;
+// The most bytes of a varint.
+const LONGEST_VARINT: usize = 10;
+
+// `zenc32 PATTERN`: what stands for the number of this pattern.
+fn zenc32(value: u64) -> Answer {
+    if !fits32(value) {
+        return bad();
     }
-    let n = h.count;
-    if narrow {
-        return put_found(decode_varint32(&bytes[0..n], 0), out);
-    }
-    put_found(decode_varint64(&bytes[0..n], 0), out)
+    one(wire::zigzag::encode_zig_zag_32(signed32(value)) as u64)
 }
 
-// `encode V`: the shortest varint.
-pub fn encode(line: &[u8], at: usize, bytes: &mut [u8], out: &mut [u8]) -> usize {
-    let v = number64(line, at);
-    if !done(line, v.next) {
-        return 0;
+// `tag V`: `ok NUMBER WIRE` or `refused 3`.
+fn tag(value: u32) -> Answer {
+    match Tag::new(value) {
+        Tagged::Tag(t) => {
+            let wire_type = t.wire_type;
+            word_two(OK, t.field_number as u64, wire_type.number() as u64)
+        }
+        Tagged::BadTag => refused(refusals::BAD_TAG),
     }
-    match put_varint64(v.value, bytes, 0) {
-        Put::Next(n) => put_front(bytes, n, out),
-        Put::NoRoom => 0,
+}
+
+// `maketag NUMBER WIRE`: `ok TAG` or `refused 3`.
+fn maketag(number: u32, wire_type: u32) -> Answer {
+    match Tag::make(number, wire_type) {
+        Tagged::Tag(t) => word_one(OK, t.value()),
+        Tagged::BadTag => refused(refusals::BAD_TAG),
+    }
+}
+
+// `msgsize N`: `ok` or `refused 11`.
+fn msgsize(size: u64) -> Answer {
+    match wire::wire_format::check_message_size(size) {
+        Sized::Size(_) => word(OK),
+        Sized::TooLarge => refused(refusals::TOO_LARGE),
+    }
+}
+
+// `wire KIND`: the wire type of a kind of descriptor.proto, or `none`.
+fn wire(kind: u32) -> Answer {
+    match WireType::for_type(kind) {
+        MaybeWireType::Known(w) => one(w.number() as u64),
+        MaybeWireType::Unknown => word(NONE),
+    }
+}
+
+// The verbs on numbers. `vsize V` and `tagsize NUMBER`: how many bytes a varint and a tag take. `zdec32 N`, `zdec64 N`: the pattern of the number that
+// N stands for. `zenc64 PATTERN`: what stands for the number of this pattern.
+pub fn on_numbers(verb: usize, first: u32, second: u32, wide: u64) -> Answer {
+    match verb {
+        verbs::VSIZE => one(sizes::compute_raw_varint64_size(wide)),
+        verbs::ZDEC64 => one(pattern(wire::zigzag::decode_zig_zag_64(wide))),
+        verbs::ZENC32 => zenc32(wide),
+        verbs::ZENC64 => one(wire::zigzag::encode_zig_zag_64(signed(wide))),
+        verbs::MSGSIZE => msgsize(wide),
+        verbs::TAGSIZE => one(sizes::tag_size(first)),
+        verbs::ZDEC32 => one(pattern32(wire::zigzag::decode_zig_zag_32(first))),
+        verbs::TAG => tag(first),
+        verbs::WIRE => wire(first),
+        verbs::MAKETAG => maketag(first, second),
+        verbs::FIELDSIZE => fieldsize(first, second, wide),
+        _ => bad(),
+    }
+}
+
+// `N USED`.
+fn skipped(s: Skipped) -> Answer {
+    word_two(BARE, s.number as u64, s.used as u64)
+}
+
+// `yes` or `no`.
+fn yes_or_no(is: bool) -> Answer {
+    if is {
+        return word(YES);
+    }
+    word(NO)
+}
+
+// The verbs on bytes: `varint64 HEX`, `varint32 HEX`, `utf8 HEX`, `document HEX`, `skip LEVEL TAG HEX`, `group LEVEL TAG HEX`.
+pub fn on_bytes(verb: usize, level: u32, tag: u32, s: &[u8]) -> Answer {
+    match verb {
+        verbs::VARINT64 => found(decode_varint64(s, 0)),
+        verbs::VARINT32 => found(decode_varint32(s, 0)),
+        verbs::UTF8 => ok_or(utf8::is_utf8(s), refusals::NOT_UTF8),
+        verbs::DOCUMENT => yes_or_no(skip::document::is_document(s)),
+        verbs::SKIP => skipped(skip_field_for_tag(tag, s, level)),
+        verbs::GROUP => skipped(read_unknown_or_skip_group(tag, s, level)),
+        _ => bad(),
     }
 }
 
@@ -57,130 +134,11 @@ fn put_front(bytes: &[u8], n: usize, out: &mut [u8]) -> usize {
     0
 }
 
-// `vsize V`: how many bytes its varint takes.
-pub fn vsize(line: &[u8], at: usize, out: &mut [u8]) -> usize {
-    let v = number64(line, at);
-    if !done(line, v.next) {
-        return 0;
+// `encode V`: the shortest varint.
+pub fn encode(value: u64, out: &mut [u8]) -> usize {
+    let mut bytes = [0u8; LONGEST_VARINT];
+    match put_varint64(value, &mut bytes, 0) {
+        Put::Next(n) => put_front(&bytes, n, out),
+        Put::NoRoom => 0,
     }
-    one(rt::compute_raw_varint64_size(v.value), out)
-}
-
-// `tagsize NUMBER`: how many bytes a tag takes.
-pub fn tagsize(line: &[u8], at: usize, out: &mut [u8]) -> usize {
-    let n = number32(line, at);
-    if !done(line, n.next) {
-        return 0;
-    }
-    one(rt::tag_size(n.value), out)
-}
-
-// `zdec32 N`: the pattern of the number that N stands for.
-pub fn zdec32(line: &[u8], at: usize, out: &mut [u8]) -> usize {
-    let n = number32(line, at);
-    if !done(line, n.next) {
-        return 0;
-    }
-    one(pattern32(wire::zigzag::decode_zig_zag_32(n.value)), out)
-}
-
-// `zdec64 N`.
-pub fn zdec64(line: &[u8], at: usize, out: &mut [u8]) -> usize {
-    let n = number64(line, at);
-    if !done(line, n.next) {
-        return 0;
-    }
-    one(pattern(wire::zigzag::decode_zig_zag_64(n.value)), out)
-}
-
-// `zenc32 PATTERN`: what stands for the number of this pattern.
-pub fn zenc32(line: &[u8], at: usize, out: &mut [u8]) -> usize {
-    let n = number64(line, at);
-    if !done(line, n.next) {
-        return 0;
-    }
-    if !fits32(n.value) {
-        return 0;
-    }
-    one(
-        wire::zigzag::encode_zig_zag_32(signed32(n.value)) as u64,
-        out,
-    )
-}
-
-// `zenc64 PATTERN`.
-pub fn zenc64(line: &[u8], at: usize, out: &mut [u8]) -> usize {
-    let n = number64(line, at);
-    if !done(line, n.next) {
-        return 0;
-    }
-    one(wire::zigzag::encode_zig_zag_64(signed(n.value)), out)
-}
-
-// `tag V`: `ok NUMBER WIRE` or `refused 3`.
-pub fn tag(line: &[u8], at: usize, out: &mut [u8]) -> usize {
-    let v = number32(line, at);
-    if !done(line, v.next) {
-        return 0;
-    }
-    match Tag::new(v.value) {
-        Tagged::Tag(t) => {
-            let wire_type = t.wire_type;
-            let told = put_text(b"ok ", 0, out);
-            let numbered = put_decimal(t.field_number as u64, told, out);
-            let to = put_text(b" ", numbered, out);
-            put_decimal(wire_type.number() as u64, to, out)
-        }
-        Tagged::BadTag => put_text(b"refused 3", 0, out),
-    }
-}
-
-// `maketag NUMBER WIRE`: `ok TAG` or `refused 3`.
-pub fn maketag(line: &[u8], at: usize, out: &mut [u8]) -> usize {
-    let n = number32(line, at);
-    let w = number32(line, n.next);
-    if !done(line, w.next) {
-        return 0;
-    }
-    match Tag::make(n.value, w.value) {
-        Tagged::Tag(t) => {
-            let to = put_text(b"ok ", 0, out);
-            put_decimal(t.value(), to, out)
-        }
-        Tagged::BadTag => put_text(b"refused 3", 0, out),
-    }
-}
-
-// `msgsize N`: `ok` or `refused 11`.
-pub fn msgsize(line: &[u8], at: usize, out: &mut [u8]) -> usize {
-    let n = number64(line, at);
-    if !done(line, n.next) {
-        return 0;
-    }
-    match wire::wire_format::check_message_size(n.value) {
-        Sized::Size(_) => put_text(b"ok", 0, out),
-        Sized::TooLarge => put_text(b"refused 11", 0, out),
-    }
-}
-
-// `wire KIND`: the wire type of a kind of descriptor.proto, or `none`.
-pub fn wire(line: &[u8], at: usize, out: &mut [u8]) -> usize {
-    let k = number32(line, at);
-    if !done(line, k.next) {
-        return 0;
-    }
-    match WireType::for_type(k.value) {
-        MaybeWireType::Known(w) => one(w.number() as u64, out),
-        MaybeWireType::Unknown => put_text(b"none", 0, out),
-    }
-}
-
-// `utf8 HEX`: `ok` or `refused 6`.
-pub fn utf8(line: &[u8], at: usize, bytes: &mut [u8], out: &mut [u8]) -> usize {
-    let h = hex(line, at, bytes);
-    if !done(line, h.next) {
-        return 0;
-    }
-    let n = h.count;
-    ok_or(utf8::is_utf8(&bytes[0..n]), b"refused 6", out)
 }

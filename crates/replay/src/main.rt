@@ -1,103 +1,138 @@
-// Answers case lines: one answer line for each line of standard input, written before the next line is waited for. docs/CASES.md has the lines.
+// The program that answers case lines: one answer line for each line of standard input, written before the next line is waited for. docs/CASES.md has the
+// lines. A line is answered in three steps: its verb is found (verbs), its words are parsed (cases), and the call that the verb names is made and told.
+mod answers;
+mod cases;
 mod input;
 mod leaves;
 mod pulls;
 mod readings;
 mod schemas;
 mod signs;
-mod sizes;
-mod skips;
-mod told;
+mod sizings;
+mod verbs;
 mod words;
 mod writings;
 
+use crate::answers::Answer;
+use crate::answers::bad;
+use crate::answers::put_answer;
+use crate::cases::Case;
+use crate::cases::case_of;
 use crate::input::Line;
-use crate::input::behind;
+use crate::input::after;
 use crate::input::next_line;
-use crate::words::name_in;
+use crate::verbs::shape_of;
+use crate::verbs::verb_in;
+use crate::words::done;
 use crate::words::past;
 use libc::STDOUT_FILENO;
-use lines::put_byte;
-use lines::put_text;
+use printing::put_byte;
+use printing::put_text;
 
 // The most characters of a line.
 const LONGEST: usize = 65536;
 
-// The verbs on bytes and numbers alone, by their place in the list of names.
-fn leaf(
-    verb: usize,
-    line: &[u8],
-    at: usize,
-    bytes: &mut [u8],
-    list: &mut [u64],
-    out: &mut [u8],
-) -> usize {
+// The buffer of the input: two of the longest lines.
+const INPUT: usize = 131072;
+
+// The bytes of a word: a line of the longest has fewer.
+const BYTES: usize = 32768;
+
+// The numbers of a list or of the entries of a schema: a line of the longest has fewer. The room of a reading, at most 4,096 records and the 12 numbers
+// that are watched after them, stands here too.
+const NUMBERS: usize = 32768;
+
+// The longest answer, and its line end.
+const ANSWER: usize = 262145;
+
+// The verbs whose answer is a word and numbers.
+fn plain(verb: usize, c: Case, s: &[u8], list: &[u64], numbers: &[u32]) -> Answer {
+    if verb < verbs::VARINT64 {
+        return leaves::on_numbers(verb, c.first, c.second, c.wide);
+    }
+    if verb < verbs::PACKEDSIZE {
+        return leaves::on_bytes(verb, c.first, c.second, s);
+    }
     match verb {
-        0 => leaves::varint(line, at, false, bytes, out),
-        1 => leaves::varint(line, at, true, bytes, out),
-        2 => leaves::encode(line, at, bytes, out),
-        3 => leaves::vsize(line, at, out),
-        4 => leaves::tagsize(line, at, out),
-        5 => leaves::zdec32(line, at, out),
-        6 => leaves::zdec64(line, at, out),
-        7 => leaves::zenc32(line, at, out),
-        8 => leaves::zenc64(line, at, out),
-        9 => leaves::tag(line, at, out),
-        10 => leaves::maketag(line, at, out),
-        11 => leaves::msgsize(line, at, out),
-        12 => leaves::wire(line, at, out),
-        13 => leaves::utf8(line, at, bytes, out),
-        14 => sizes::fieldsize(line, at, out),
-        15 => sizes::packedsize(line, at, list, out),
-        16 => skips::skip(line, at, false, bytes, out),
-        17 => skips::skip(line, at, true, bytes, out),
-        18 => skips::document(line, at, bytes, out),
-        _ => 0,
+        verbs::PACKEDSIZE => sizings::packedsize(c.first, c.second, list),
+        verbs::SCHEMA => schemas::schema(c.types, numbers),
+        verbs::LOOKUP => schemas::lookup(numbers, c.first, c.second),
+        verbs::SIZE => writings::size(c.types, numbers, list, s),
+        _ => bad(),
     }
 }
 
-// The verbs on a schema, and the pull reader.
-fn call(
+// The verbs that take the first `c.records` numbers of the list.
+fn with_list(
     verb: usize,
+    c: Case,
+    s: &[u8],
+    list: &[u64],
+    numbers: &[u32],
+    out: &mut [u8],
+) -> usize {
+    let n = c.records;
+    if list.len() < n {
+        return 0;
+    }
+    if verb == verbs::WRITE {
+        return writings::write(c.types, numbers, &list[0..n], s, c.wide, out);
+    }
+    put_answer(plain(verb, c, s, &list[0..n], numbers), out)
+}
+
+// How many characters the answer to a case has; 0 where the line is no case.
+fn answer_to(
+    verb: usize,
+    c: Case,
     line: &[u8],
-    at: usize,
-    bytes: &mut [u8],
+    s: &[u8],
     list: &mut [u64],
-    numbers: &mut [u32],
-    room: &mut [u64],
-    output: &mut [u8],
+    numbers: &[u32],
     out: &mut [u8],
 ) -> usize {
     match verb {
-        19 => schemas::schema(line, at, list, numbers, out),
-        20 => schemas::lookup(line, at, list, numbers, out),
-        21 => readings::read(line, at, bytes, list, numbers, room, out),
-        22 => readings::records(line, at, bytes, list, numbers, room, out),
-        23 => writings::size(line, at, bytes, list, numbers, out),
-        24 => writings::write(line, at, bytes, list, numbers, output, out),
-        25 => pulls::pull(line, at, bytes, out),
-        _ => 0,
+        verbs::ENCODE => leaves::encode(c.wide, out),
+        verbs::READ => readings::read(c.types, numbers, s, c.first, list, out),
+        verbs::RECORDS => readings::records(c.types, numbers, s, list, out),
+        verbs::PULL => pulls::pull(c.first, line, c.steps, s, out),
+        _ => with_list(verb, c, s, list, numbers, out),
     }
 }
 
-// How many characters the answer has; 0 where the line is no case.
+// Where an entry is looked up, whatever `repeated` says is taken.
+fn clip_for(verb: usize, numbers: &mut [u32]) {
+    if verb == verbs::LOOKUP {
+        schemas::clip(numbers);
+    }
+}
+
+// How many characters the answer to a line has; 0 where the line is no case.
 fn answer(
     line: &[u8],
     bytes: &mut [u8],
     list: &mut [u64],
     numbers: &mut [u32],
-    room: &mut [u64],
-    output: &mut [u8],
     out: &mut [u8],
 ) -> usize {
-    let names =
-        b"varint64 varint32 encode vsize tagsize zdec32 zdec64 zenc32 zenc64 tag maketag msgsize wire utf8 fieldsize packedsize skip group document schema lookup read records size write pull";
-    let v = name_in(names, line, 0);
+    let v = verb_in(line);
     let at = past(line, v.next, b' ');
-    if v.count < 19 {
-        return leaf(v.count, line, at, bytes, list, out);
+    let c = case_of(shape_of(v.count), line, at, bytes, list, numbers);
+    if !done(line, c.next) {
+        return 0;
     }
-    call(v.count, line, at, bytes, list, numbers, room, output, out)
+    clip_for(v.count, numbers);
+    let size = c.size;
+    let entries = c.entries;
+    answer_to(
+        v.count,
+        c,
+        line,
+        &bytes[0..size],
+        list,
+        &numbers[0..entries],
+        out,
+    )
 }
 
 // The answer and its line end: how many characters they have.
@@ -109,6 +144,22 @@ fn ended(answered: usize, out: &mut [u8]) -> usize {
     put_byte(b'\n', answered, out)
 }
 
+// The line that stands in the buffer; one that is too long is as an empty one, which is no case either.
+fn line_in<'a>(buf: &'a [u8], l: Line) -> &'a [u8] {
+    let start = l.start;
+    let end = l.end;
+    if !l.long {
+        if start <= end {
+            if end <= buf.len() {
+                if end - start <= LONGEST {
+                    return &buf[start..end];
+                }
+            }
+        }
+    }
+    &buf[0..0]
+}
+
 // Answers the line that stands in the buffer.
 fn respond(
     buf: &[u8],
@@ -116,25 +167,10 @@ fn respond(
     bytes: &mut [u8],
     list: &mut [u64],
     numbers: &mut [u32],
-    room: &mut [u64],
-    output: &mut [u8],
     out: &mut [u8],
 ) -> usize {
-    let start = l.start;
-    let end = l.end;
-    if l.long {
-        return ended(0, out);
-    }
-    if end < start {
-        return ended(0, out);
-    }
-    if buf.len() < end {
-        return ended(0, out);
-    }
-    if LONGEST < end - start {
-        return ended(0, out);
-    }
-    let answered = answer(&buf[start..end], bytes, list, numbers, room, output, out);
+    let line = line_in(buf, l);
+    let answered = answer(line, bytes, list, numbers, out);
     ended(answered, out)
 }
 
@@ -151,15 +187,7 @@ fn write_front(out: &[u8], size: usize) -> bool {
 }
 
 // Answers each line in turn.
-fn serve(
-    buf: &mut [u8],
-    bytes: &mut [u8],
-    list: &mut [u64],
-    numbers: &mut [u32],
-    room: &mut [u64],
-    output: &mut [u8],
-    out: &mut [u8],
-) {
+fn serve(buf: &mut [u8], bytes: &mut [u8], list: &mut [u64], numbers: &mut [u32], out: &mut [u8]) {
     let mut from: usize = 0;
     let mut have: usize = 0;
     let mut turns: u64 = 0xffff_ffff_ffff_ffff;
@@ -168,33 +196,26 @@ fn serve(
         if !l.found {
             return;
         }
-        let size = respond(buf, l, bytes, list, numbers, room, output, out);
+        let size = respond(buf, l, bytes, list, numbers, out);
         if !write_front(out, size) {
             return;
         }
         have = l.have;
-        from = behind(l);
+        from = after(l);
         turns -= 1;
     }
 }
 
+// Answers each line in turn, with buffers for lists and entries.
+fn serve_all(buf: &mut [u8], bytes: &mut [u8], out: &mut [u8]) {
+    let mut list = [0u64; NUMBERS];
+    let mut numbers = [0u32; NUMBERS];
+    serve(buf, bytes, &mut list, &mut numbers, out);
+}
+
 fn main() {
-    let mut buf = [0u8; 131072];
-    let mut bytes = [0u8; 32768];
-    let mut list = [0u64; 32768];
-    let mut numbers = [0u32; 32768];
-    let mut room = [0u64; 24600];
-    let mut output = [0u8; 65600];
-    let mut out = [0u8; 262145];
-    readings::fill(&mut room);
-    writings::fill(&mut output);
-    serve(
-        &mut buf,
-        &mut bytes,
-        &mut list,
-        &mut numbers,
-        &mut room,
-        &mut output,
-        &mut out,
-    );
+    let mut buf = [0u8; INPUT];
+    let mut bytes = [0u8; BYTES];
+    let mut out = [0u8; ANSWER];
+    serve_all(&mut buf, &mut bytes, &mut out);
 }

@@ -1,39 +1,32 @@
-// The verbs that read a message: `read` and `records`. The room is filled with a pattern beforehand. What the call was not lent, and what stands
-// behind the records that it says it stored, is watched; what was stored is filled again, so that the room is as it was for the next line.
-use crate::schemas::schema_word;
-use crate::told::three;
-use crate::told::touched;
-use crate::words::done;
-use crate::words::hex;
-use crate::words::number32;
-use lines::put_listing;
-use lines::put_records;
-use lines::put_text;
+// The verbs that read a message: `read` and `records`. The room of `read` is filled with a pattern before the call. What the call was not lent, and what
+// stands after the records that it says it stored, is watched.
+use crate::answers::put_answer;
+use crate::answers::three;
+use crate::answers::touched;
+use printing::put_listing;
+use printing::put_records;
+use printing::put_text;
 use read::Answer;
+use spec::columns::STRIDE;
 
 // What each number of the room is where nothing is stored.
 const PATTERN: u64 = 0xa5c3_5a3c_a5c3_5a3c;
 
-// The most records of room that a line may name, how many numbers more are watched behind them, and how many the listing has.
+// The most records of room that a line may name.
 const MOST: u32 = 4096;
 
-const BEHIND: usize = 12;
+// How many numbers more are watched after them.
+const WATCHED: usize = 2 * STRIDE;
 
-const LISTED: usize = 6144;
+// How many numbers the room of the listing has: 1,024 records, as the program `records` lends.
+const LISTED: usize = 1024 * STRIDE;
 
 // Fills a part of the room.
-pub fn fill(part: &mut [u64]) {
+fn fill(part: &mut [u64]) {
     let mut i: usize = 0;
     while i < part.len() {
         part[i] = PATTERN;
         i += 1;
-    }
-}
-
-// Fills what stands before `end`.
-fn refill(room: &mut [u64], end: usize) {
-    if end <= room.len() {
-        fill(&mut room[0..end]);
     }
 }
 
@@ -62,31 +55,31 @@ fn read_into(types: u32, numbers: &[u32], s: &[u8], n: usize, room: &mut [u64]) 
     }
 }
 
-// `N COUNT PLACE RECORDS`, and the room as it was.
-fn told_reading(r: Answer, room: &mut [u64], out: &mut [u8]) -> usize {
-    let count = r.count;
-    let to = three(r.number as u64, count as u64, r.place as u64, out);
-    if room.len() / 6 < count {
-        return touched(true, to, out);
+// The records, or `-` where there are none.
+fn put_list(list: &[u64], at: usize, out: &mut [u8]) -> usize {
+    if list.len() == 0 {
+        return put_text(b" -", at, out);
     }
-    let end = count * 6;
-    let bad = changed(&room[end..]);
-    if count == 0 {
-        let none = put_text(b" -", to, out);
-        return rid(bad, end, room, none, out);
-    }
-    let listed = put_records(&room[0..end], b' ', b';', b',', to, out);
-    rid(bad, end, room, listed, out)
+    put_records(list, b' ', b';', b',', at, out)
 }
 
-// Fills the room again, and says whether it was touched where it should not be.
-fn rid(bad: bool, end: usize, room: &mut [u64], at: usize, out: &mut [u8]) -> usize {
-    if bad {
-        fill(room);
+// The records in the room, which end at `end`, and whether anything after them has changed.
+fn put_room(room: &[u64], end: usize, at: usize, out: &mut [u8]) -> usize {
+    if room.len() < end {
         return touched(true, at, out);
     }
-    refill(room, end);
-    touched(false, at, out)
+    let to = put_list(&room[0..end], at, out);
+    touched(changed(&room[end..]), to, out)
+}
+
+// `N COUNT PLACE RECORDS`.
+fn put_reading(r: Answer, room: &[u64], out: &mut [u8]) -> usize {
+    let count = r.count;
+    let to = put_answer(three(r.number as u64, count as u64, r.place as u64), out);
+    if room.len() / STRIDE < count {
+        return touched(true, to, out);
+    }
+    put_room(room, count * STRIDE, to, out)
 }
 
 // Reads into the first `n` numbers of a part, the whole of which is watched.
@@ -98,75 +91,43 @@ fn read_watched(
     part: &mut [u64],
     out: &mut [u8],
 ) -> usize {
+    fill(part);
     let r = read_into(types, numbers, s, n, part);
-    told_reading(r, part, out)
+    put_reading(r, part, out)
 }
 
 // `read SCHEMA ROOM HEX`.
 pub fn read(
-    line: &[u8],
-    at: usize,
-    bytes: &mut [u8],
-    list: &mut [u64],
-    numbers: &mut [u32],
+    types: u32,
+    numbers: &[u32],
+    s: &[u8],
+    most: u32,
     room: &mut [u64],
     out: &mut [u8],
 ) -> usize {
-    let s = schema_word(line, at, list, numbers);
-    let m = number32(line, s.next);
-    let h = hex(line, m.next, bytes);
-    if !done(line, h.next) {
+    if MOST < most {
         return 0;
     }
-    if MOST < m.value {
-        return 0;
-    }
-    let count = s.count;
-    let size = h.count;
-    let n = m.value as usize * 6;
-    let end = n + BEHIND;
+    let n = most as usize * STRIDE;
+    let end = n + WATCHED;
     if room.len() < end {
         return 0;
     }
-    read_watched(
-        s.types,
-        &numbers[0..count],
-        &bytes[0..size],
-        n,
-        &mut room[0..end],
-        out,
-    )
+    read_watched(types, numbers, s, n, &mut room[0..end], out)
 }
 
-// The listing, and the room as it was.
-fn told_listing(r: Answer, room: &mut [u64], out: &mut [u8]) -> usize {
+// The listing.
+fn put_listed(r: Answer, room: &[u64], out: &mut [u8]) -> usize {
     let count = r.count;
-    if room.len() / 6 < count {
+    if room.len() / STRIDE < count {
         return 0;
     }
-    let end = count * 6;
-    let to = put_listing(r.number, count, r.place, &room[0..end], b'/', 0, out);
-    fill(&mut room[0..end]);
-    to
+    let end = count * STRIDE;
+    put_listing(r.number, count, r.place, &room[0..end], b'/', 0, out)
 }
 
 // `records SCHEMA HEX`: what the program `records` would print under that schema, with `/` between lines.
-pub fn records(
-    line: &[u8],
-    at: usize,
-    bytes: &mut [u8],
-    list: &mut [u64],
-    numbers: &mut [u32],
-    room: &mut [u64],
-    out: &mut [u8],
-) -> usize {
-    let s = schema_word(line, at, list, numbers);
-    let h = hex(line, s.next, bytes);
-    if !done(line, h.next) {
-        return 0;
-    }
-    let count = s.count;
-    let size = h.count;
-    let r = read_into(s.types, &numbers[0..count], &bytes[0..size], LISTED, room);
-    told_listing(r, room, out)
+pub fn records(types: u32, numbers: &[u32], s: &[u8], room: &mut [u64], out: &mut [u8]) -> usize {
+    let r = read_into(types, numbers, s, LISTED, room);
+    put_listed(r, room, out)
 }

@@ -1,17 +1,22 @@
-// A schema word, and the verbs of the schema alone.
+// A schema as a word of a line, and the verbs on a schema alone: `schema` and `lookup`.
 ghost use Prim.Native.Nat.{_≤_};
 ghost use lib.ListN.{length};
-use crate::told::one;
+use crate::answers::Answer;
+use crate::answers::NONE;
+use crate::answers::OK;
+use crate::answers::REFUSED_ENTRY;
+use crate::answers::one;
+use crate::answers::word;
+use crate::answers::word_one;
 use crate::words::NOWHERE;
+use crate::words::as_narrow;
 use crate::words::digits;
-use crate::words::done;
 use crate::words::groups;
-use crate::words::number32;
 use crate::words::past;
-use lines::put_decimal;
-use lines::put_text;
 use schema::Place;
 use schema::Verdict;
+use spec::columns::ENTRY_REPEATED;
+use spec::columns::ENTRY_STRIDE;
 
 // A schema: its type count, how many numbers its entries are, and where the word ends.
 pub struct SchemaWord {
@@ -37,62 +42,44 @@ fn narrowed(list: &[u64], numbers: &mut [u32]) -> bool {
     true
 }
 
+// The entries' numbers are narrowed; none where that cannot be.
+fn entries_word(types: u32, list: &[u64], next: usize, numbers: &mut [u32]) -> SchemaWord
+    ensures { λ r. ⌜ r .count ≤ length (now (numbers .exit)) ⌝ }
+{
+    let count = list.len();
+    if count <= numbers.len() {
+        if narrowed(list, numbers) {
+            return SchemaWord { types, count, next };
+        }
+    }
+    SchemaWord {
+        types: 0,
+        count: 0,
+        next: NOWHERE,
+    }
+}
+
 // `T|o,n,k,r,c;...`: the entries' numbers are stored from the front on.
 pub fn schema_word(line: &[u8], at: usize, list: &mut [u64], numbers: &mut [u32]) -> SchemaWord
     ensures { λ r. ⌜ r .count ≤ length (now (numbers .exit)) ⌝ }
 {
-    let nothing = SchemaWord {
-        types: 0,
-        count: 0,
-        next: NOWHERE,
-    };
-    let t = digits(line, at, 0xffff_ffff);
-    let g = groups(line, past(line, t.next, b'|'), 5, b';', list);
+    let t = as_narrow(digits(line, at, 0xffff_ffff));
+    let g = groups(line, past(line, t.next, b'|'), ENTRY_STRIDE, b';', list);
     let count = g.count;
-    if g.next == NOWHERE {
-        return nothing;
-    }
-    if numbers.len() < count {
-        return nothing;
-    }
-    if !narrowed(&list[0..count], numbers) {
-        return nothing;
-    }
-    if 0xffff_ffff < t.value {
-        return nothing;
-    }
-    SchemaWord {
-        types: t.value as u32,
-        count,
-        next: g.next,
-    }
+    entries_word(t.value, &list[0..count], g.next, numbers)
 }
 
 // `schema SCHEMA`: `ok` or `refused 9 at I`.
-pub fn schema(
-    line: &[u8],
-    at: usize,
-    list: &mut [u64],
-    numbers: &mut [u32],
-    out: &mut [u8],
-) -> usize {
-    let s = schema_word(line, at, list, numbers);
-    if !done(line, s.next) {
-        return 0;
-    }
-    let count = s.count;
-    match schema::check(s.types, &numbers[0..count]) {
-        Verdict::Valid => put_text(b"ok", 0, out),
-        Verdict::Bad(i) => {
-            let to = put_text(b"refused 9 at ", 0, out);
-            put_decimal(i as u64, to, out)
-        }
+pub fn schema(types: u32, numbers: &[u32]) -> Answer {
+    match schema::check(types, numbers) {
+        Verdict::Valid => word(OK),
+        Verdict::Bad(i) => word_one(REFUSED_ENTRY, i as u64),
     }
 }
 
 // The number at place i, where `repeated` is at most 1: an entry has only yes or no there.
 fn clipped(i: usize, v: u32) -> u32 {
-    if i % 5 == 3 {
+    if i % ENTRY_STRIDE == ENTRY_REPEATED {
         if 1 < v {
             return 1;
         }
@@ -100,33 +87,19 @@ fn clipped(i: usize, v: u32) -> u32 {
     v
 }
 
-// Looks up an entry of these numbers, whatever `repeated` says: it is not asked for.
-fn find_entry(numbers: &mut [u32], owner: u32, number: u32) -> Place {
+// Makes `repeated` at most 1 in each entry, for a look-up, which does not ask for it.
+pub fn clip(numbers: &mut [u32]) {
     let mut i: usize = 0;
     while i < numbers.len() {
         numbers[i] = clipped(i, numbers[i]);
         i += 1;
     }
-    entries::lookup_numbers(numbers, owner, number)
 }
 
 // `lookup SCHEMA OWNER NUMBER`: the entry's index or `none`.
-pub fn lookup(
-    line: &[u8],
-    at: usize,
-    list: &mut [u64],
-    numbers: &mut [u32],
-    out: &mut [u8],
-) -> usize {
-    let s = schema_word(line, at, list, numbers);
-    let o = number32(line, s.next);
-    let n = number32(line, o.next);
-    if !done(line, n.next) {
-        return 0;
-    }
-    let count = s.count;
-    match find_entry(&mut numbers[0..count], o.value, n.value) {
-        Place::At(i) => one(i as u64, out),
-        Place::Nothing => put_text(b"none", 0, out),
+pub fn lookup(numbers: &[u32], owner: u32, number: u32) -> Answer {
+    match entries::lookup_numbers(numbers, owner, number) {
+        Place::At(i) => one(i as u64),
+        Place::Nothing => word(NONE),
     }
 }

@@ -1,4 +1,4 @@
-// Signed numbers and their 64-bit patterns. Zigzag, whose functions are there for both, leads from the one to the other.
+// Signed numbers and their 64-bit patterns. Each is made from the other by way of zigzag, since the library encodes and decodes zigzag for both.
 use wire::zigzag::decode_zig_zag_32;
 use wire::zigzag::decode_zig_zag_64;
 use wire::zigzag::encode_zig_zag_32;
@@ -20,9 +20,14 @@ pub fn signed(pattern: u64) -> i64 {
     decode_zig_zag_64(zigzag(pattern))
 }
 
+// The greatest signed number of 32 bits, and the pattern of the least.
+const GREATEST: u64 = 0x7fff_ffff;
+
+const LEAST: u64 = 0xffff_ffff_8000_0000;
+
 // Whether a pattern is that of a signed number of 32 bits.
 pub fn fits32(pattern: u64) -> bool {
-    pattern <= 0x7fff_ffff || 0xffff_ffff_8000_0000 <= pattern
+    pattern <= GREATEST || LEAST <= pattern
 }
 
 // The number of 32 bits of a pattern that is one; 0 for any other.

@@ -1,9 +1,10 @@
-// The words of a line. Each function begins at a position and returns the position behind the word and the space, or the line's end, that ends it.
-// Where the word is none, the position is `NOWHERE`, at which no further word is found: so a verb parses its words in a row and asks once, by `done`.
+// The words of a line. Each function begins at a position and returns the position after the word and the space, or the line's end, that ends it.
+// Where no such word stands, the position is `NOWHERE`, at which no further word is found: so all words of a line are parsed in a row, and `done` is asked
+// once.
 ghost use Prim.Native.Nat.{_≤_};
 ghost use lib.ListN.{length};
 
-// Behind every line.
+// After every line.
 pub const NOWHERE: usize = 0xffff_ffff_ffff_ffff;
 
 // A number, and where it ends.
@@ -18,7 +19,7 @@ pub struct Many {
     pub next: usize,
 }
 
-// Behind the byte `b`, where it stands here; a space stands at the line's end too.
+// After the byte `b`, where it stands here; a space stands at the line's end too.
 pub fn past(line: &[u8], at: usize, b: u8) -> usize {
     if at < line.len() {
         if line[at] == b {
@@ -39,26 +40,29 @@ pub fn done(line: &[u8], at: usize) -> bool {
     at == line.len() + 1
 }
 
+// The largest number whose tenfold has 64 bits.
+const MOST_TENTHS: u64 = 0xffff_ffff_ffff_ffff / 10;
+
 // The digits of a number in decimal of at most `most`, without what ends it.
 pub fn digits(line: &[u8], at: usize, most: u64) -> Number {
     let mut value: u64 = 0;
     let mut i = at;
     while i < line.len() {
         let b = line[i];
-        if b < 48 {
+        if b < b'0' {
             break;
         }
-        if 57 < b {
+        if b'9' < b {
             break;
         }
-        if 1844674407370955161 < value {
+        if MOST_TENTHS < value {
             return Number {
                 value: 0,
                 next: NOWHERE,
             };
         }
         let tens = value * 10;
-        let digit = (b - 48) as u64;
+        let digit = (b - b'0') as u64;
         if 0xffff_ffff_ffff_ffff - tens < digit {
             return Number {
                 value: 0,
@@ -98,8 +102,8 @@ pub struct Narrow {
     pub next: usize,
 }
 
-pub fn number32(line: &[u8], at: usize) -> Narrow {
-    let d = number64(line, at);
+// A number as one of 32 bits.
+pub fn as_narrow(d: Number) -> Narrow {
     let value = d.value;
     if value <= 0xffff_ffff {
         return Narrow {
@@ -113,29 +117,42 @@ pub fn number32(line: &[u8], at: usize) -> Narrow {
     }
 }
 
-// A digit of hexadecimal in lower case; 16 for any other byte.
+pub fn number32(line: &[u8], at: usize) -> Narrow {
+    as_narrow(number64(line, at))
+}
+
+// What any byte but a digit of hexadecimal counts as: more than a digit.
+const NO_DIGIT: u8 = 16;
+
+// What two characters that are no two digits count as: more than a byte.
+const NO_BYTE: u32 = 256;
+
+// What is taken from a letter to have its digit: that of `a` is 10.
+const LETTERS: u8 = b'a' - 10;
+
+// A digit of hexadecimal in lower case; `NO_DIGIT` for any other byte.
 fn nibble(b: u8) -> u8 {
     match b {
-        48..=57 => b - 48,
-        97..=102 => b - 87,
-        _ => 16,
+        b'0'..=b'9' => b - b'0',
+        b'a'..=b'f' => b - LETTERS,
+        _ => NO_DIGIT,
     }
 }
 
-// The byte that two digits are; 256 where there are no two.
+// The byte that two digits are; `NO_BYTE` where there are no two.
 fn pair(line: &[u8], at: usize) -> u32 {
     if at < line.len() {
         if 1 < line.len() - at {
             let high = nibble(line[at]);
             let low = nibble(line[at + 1]);
-            if high < 16 {
-                if low < 16 {
+            if high < NO_DIGIT {
+                if low < NO_DIGIT {
                     return high as u32 * 16 + low as u32;
                 }
             }
         }
     }
-    256
+    NO_BYTE
 }
 
 // Bytes, stored from the front on; `-` for none.
@@ -156,7 +173,7 @@ pub fn hex(line: &[u8], at: usize, bytes: &mut [u8]) -> Many
             break;
         }
         let b = pair(line, i);
-        if 255 < b {
+        if NO_BYTE <= b {
             break;
         }
         bytes[n] = b as u8;
@@ -175,7 +192,7 @@ pub fn hex(line: &[u8], at: usize, bytes: &mut [u8]) -> Many
     }
 }
 
-// Behind the separator of a list: `,` within a group, and `between` behind one.
+// After the separator of a list: `,` within a group, and `between` after one.
 fn separated(line: &[u8], at: usize, left: usize, between: u8) -> usize {
     if left < 2 {
         past(line, at, between)
@@ -232,7 +249,7 @@ fn goes_on(line: &[u8], at: usize) -> bool {
     if at < line.len() {
         let b = line[at];
         return match b {
-            48..=57 | 97..=122 => true,
+            b'0'..=b'9' | b'a'..=b'z' => true,
             _ => false,
         };
     }
@@ -263,7 +280,7 @@ fn named(names: &[u8], i: usize, line: &[u8], at: usize) -> usize {
     p
 }
 
-// Behind the name that stands at `i`, and the space behind it.
+// After the name that stands at `i`, and the space after it.
 fn name_end(names: &[u8], i: usize) -> usize {
     let mut k = i;
     while k < names.len() {
@@ -294,4 +311,16 @@ pub fn name_in(names: &[u8], line: &[u8], at: usize) -> Many {
         count,
         next: NOWHERE,
     }
+}
+
+// Where a word ends.
+pub fn word_end(line: &[u8], at: usize) -> usize {
+    let mut i = at;
+    while i < line.len() {
+        if line[i] == b' ' {
+            return i;
+        }
+        i += 1;
+    }
+    i
 }

@@ -1,41 +1,23 @@
-// The verbs that write a list: `size` and `write`. The output is filled with a pattern beforehand, watched and filled again, as the room is in readings.
-ghost use Prim.Native.Nat.{_≤_};
-ghost use lib.ListN.{length};
-use crate::schemas::schema_word;
-use crate::told::three;
-use crate::told::touched;
-use crate::words::done;
-use crate::words::groups;
-use crate::words::hex;
-use crate::words::number32;
-use lines::put_byte;
-use lines::put_hex;
-use lines::put_text;
+// The verbs that write a list: `size` and `write`. The output is made of a pattern before the call and watched, as the room is in readings.
+use crate::answers;
+use crate::answers::put_answer;
+use crate::answers::three;
+use crate::answers::touched;
+use printing::put_byte;
+use printing::put_hex;
+use printing::put_text;
 use write::Answer;
 
 // What each byte of the output is where nothing is written.
 const PATTERN: u8 = 0xa5;
 
-// The most bytes of output that a line may name, and how many more are watched behind them.
-const MOST: u32 = 65536;
+// The most bytes of output that a line may name.
+const MOST: u64 = 65536;
 
-const BEHIND: usize = 64;
+// How many bytes more are watched after them.
+const WATCHED: usize = 64;
 
-// Fills a part of the output.
-pub fn fill(part: &mut [u8]) {
-    let mut i: usize = 0;
-    while i < part.len() {
-        part[i] = PATTERN;
-        i += 1;
-    }
-}
-
-// Fills what stands before `end`.
-fn refill(output: &mut [u8], end: usize) {
-    if end <= output.len() {
-        fill(&mut output[0..end]);
-    }
-}
+const OUTPUT: usize = MOST as usize + WATCHED;
 
 // Whether a byte of a part is not the pattern.
 fn changed(part: &[u8]) -> bool {
@@ -50,60 +32,14 @@ fn changed(part: &[u8]) -> bool {
     bad
 }
 
-// A schema, a list and a payload: the type count, how many numbers or bytes each has, and where the last word ends.
-struct ListWords {
-    types: u32,
-    entries: usize,
-    records: usize,
-    payload: usize,
-    next: usize,
+// `N SIZE INDEX`.
+fn numbers_of(r: Answer) -> answers::Answer {
+    three(r.number as u64, r.size as u64, r.index as u64)
 }
 
-// The words of a list to write: each is stored from the front on.
-fn list_words(
-    line: &[u8],
-    at: usize,
-    bytes: &mut [u8],
-    list: &mut [u64],
-    numbers: &mut [u32],
-) -> ListWords
-    ensures { λ r. ⌜ (r .entries ≤ length (now (numbers .exit))) × (r .records ≤ length (now (list .exit))) × (r .payload ≤ length (now (bytes .exit))) ⌝ }
-{
-    let s = schema_word(line, at, list, numbers);
-    let g = groups(line, s.next, 6, b';', list);
-    let h = hex(line, g.next, bytes);
-    ListWords {
-        types: s.types,
-        entries: s.count,
-        records: g.count,
-        payload: h.count,
-        next: h.next,
-    }
-}
-
-// `size SCHEMA RECORDS HEX`: `N SIZE INDEX`.
-pub fn size(
-    line: &[u8],
-    at: usize,
-    bytes: &mut [u8],
-    list: &mut [u64],
-    numbers: &mut [u32],
-    out: &mut [u8],
-) -> usize {
-    let w = list_words(line, at, bytes, list, numbers);
-    if !done(line, w.next) {
-        return 0;
-    }
-    let entries = w.entries;
-    let records = w.records;
-    let payload = w.payload;
-    let r = entries::size_numbers(
-        w.types,
-        &numbers[0..entries],
-        &list[0..records],
-        &bytes[0..payload],
-    );
-    three(r.number as u64, r.size as u64, r.index as u64, out)
+// `size SCHEMA RECORDS HEX`.
+pub fn size(types: u32, numbers: &[u32], list: &[u64], payload: &[u8]) -> answers::Answer {
+    numbers_of(entries::size_numbers(types, numbers, list, payload))
 }
 
 // Writes into the first `n` bytes of the output.
@@ -133,80 +69,45 @@ fn filled(r: Answer) -> usize {
     0
 }
 
-// `N SIZE INDEX OUTHEX`, and the output as it was.
-fn told_writing(r: Answer, output: &mut [u8], out: &mut [u8]) -> usize {
-    let to = three(r.number as u64, r.size as u64, r.index as u64, out);
-    let end = filled(r);
-    if output.len() < end {
-        return touched(true, to, out);
+// The bytes, or `-` where there are none.
+fn put_bytes(bytes: &[u8], at: usize, out: &mut [u8]) -> usize {
+    if bytes.len() == 0 {
+        return put_text(b" -", at, out);
     }
-    let bad = changed(&output[end..]);
-    if end == 0 {
-        let none = put_text(b" -", to, out);
-        return rid(bad, end, output, none, out);
-    }
-    let space = put_byte(b' ', to, out);
-    let shown = put_hex(&output[0..end], space, out);
-    rid(bad, end, output, shown, out)
+    let space = put_byte(b' ', at, out);
+    put_hex(bytes, space, out)
 }
 
-// Fills the output again, and says whether it was touched where it should not be.
-fn rid(bad: bool, end: usize, output: &mut [u8], at: usize, out: &mut [u8]) -> usize {
-    if bad {
-        fill(output);
+// The bytes of the output, which end at `end`, and whether anything after them has changed.
+fn put_output(output: &[u8], end: usize, at: usize, out: &mut [u8]) -> usize {
+    if output.len() < end {
         return touched(true, at, out);
     }
-    refill(output, end);
-    touched(false, at, out)
+    let to = put_bytes(&output[0..end], at, out);
+    touched(changed(&output[end..]), to, out)
 }
 
-// Writes into the first `n` bytes of a part, the whole of which is watched.
-fn write_watched(
-    types: u32,
-    numbers: &[u32],
-    list: &[u64],
-    payload: &[u8],
-    n: usize,
-    part: &mut [u8],
-    out: &mut [u8],
-) -> usize {
-    let r = write_into(types, numbers, list, payload, n, part);
-    told_writing(r, part, out)
+// `N SIZE INDEX OUTHEX`.
+fn put_writing(r: Answer, output: &[u8], out: &mut [u8]) -> usize {
+    let to = put_answer(numbers_of(r), out);
+    put_output(output, filled(r), to, out)
 }
 
 // `write SCHEMA RECORDS HEX ROOM`.
 pub fn write(
-    line: &[u8],
-    at: usize,
-    bytes: &mut [u8],
-    list: &mut [u64],
-    numbers: &mut [u32],
-    output: &mut [u8],
+    types: u32,
+    numbers: &[u32],
+    list: &[u64],
+    payload: &[u8],
+    most: u64,
     out: &mut [u8],
 ) -> usize {
-    let w = list_words(line, at, bytes, list, numbers);
-    let m = number32(line, w.next);
-    if !done(line, m.next) {
+    if MOST < most {
         return 0;
     }
-    if MOST < m.value {
-        return 0;
-    }
-    let entries = w.entries;
-    let records = w.records;
-    let payload = w.payload;
-    let n = m.value as usize;
-    let end = n + BEHIND;
-    if output.len() < end {
-        return 0;
-    }
-    write_watched(
-        w.types,
-        &numbers[0..entries],
-        &list[0..records],
-        &bytes[0..payload],
-        n,
-        &mut output[0..end],
-        out,
-    )
+    let n = most as usize;
+    let end = n + WATCHED;
+    let mut output = [PATTERN; OUTPUT];
+    let r = write_into(types, numbers, list, payload, n, &mut output);
+    put_writing(r, &output[0..end], out)
 }

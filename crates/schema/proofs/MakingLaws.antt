@@ -10,16 +10,18 @@ use lib.ListN.{length, take, getD, set, length-take}
 use lib.Seq.{take-suc, take-all}
 use lib.Dec.{eqb}
 use borrow.Author.Tests.{eqb-true, eqb-false}
+use Rattle.spec.specs.Names.{delimitedWire, messageKind, mostTypes, noWire, ownKinds, sint64Kind}
 use Rattle.spec.specs.Kind.{kindWires, ownWires, wires, wire}
-use Rattle.spec.specs.Schema.{badSchema, noEntry, schemaOf}
+use Rattle.spec.specs.Schema.{badSchema, noEntry, schemaOf, entryStride}
 use Rattle.spec.proofs.Laws.{by-test}
 use Rattle.spec.proofs.SchemaLaws.{length-entries, Good}
 use Rattle.spec.specs.declared.Entry.{Entry}
 use Rattle.wire.proofs.Below.{equal-below}
+use Rattle.schema.specs.Layout.{keyCount}
 use Rattle.schema.specs.declared.Five.{Five}
 use Rattle.schema.specs.Tables.{counted, upTo, soundOf, rank, nextKey, keyOf, innerIn, noted, storing, putKey, putInfo, keysWith, infoWith}
 use Rattle.schema.specs.Told.{entry, fiveAt}
-use Rattle.schema.proofs.ValidLaws.{entriesIn, schemaIn, counts-right, counts-wrong, counts-bounds, plain, is-entry, good-five, Here, here-first, here-end, here-five, here-bad, here-good, here-next, here-entry}
+use Rattle.schema.proofs.ValidLaws.{entriesIn, schemaIn, counts-right, counts-wrong, counts-bounds, plain, is-entry, good-five, Here, here-first, here-end, here-whole, here-bad, here-good, here-next, here-entry}
 
 -- ---- one entry more
 
@@ -44,14 +46,14 @@ module _ (put : ℕ → Entry → List ℕ → List ℕ) where
 -- ---- while they are made
 
 -- the table of wire types that code holds is the definition's
-wire-in : (k : ℕ) → k ≤ 18 → getD kindWires k 0 ≡ wire k
+wire-in : (k : ℕ) → k ≤ sint64Kind → getD kindWires k 0 ≡ wire k
 unfolding kindWires ownWires wires wire
-wire-in k h = equal-below (λ n. getD kindWires n 0) wire 19 k tt (omega arith)
+wire-in k h = equal-below (λ n. getD kindWires n 0) wire ownKinds k tt (omega arith)
 
-pub wire-below : (k : ℕ) → k ≤ 18 → wire k < 8
+pub wire-below : (k : ℕ) → k ≤ sint64Kind → wire k < 8
 unfolding kindWires ownWires wires wire
 wire-below k h =
-    let m : min 7 (wire k) ≡ wire k = equal-below (λ n. min 7 (wire n)) wire 19 k tt (omega arith) in
+    let m : min noWire (wire k) ≡ wire k = equal-below (λ n. min noWire (wire n)) wire ownKinds k tt (omega arith) in
     omega arith
 
 pub record Made (types : ℕ) (ns : List ℕ) (i e last : ℕ) (keys₀ keys info₀ info : List ℕ) : Type 0 where
@@ -88,8 +90,8 @@ module _ {types : ℕ} {ns : List ℕ} {i e last : ℕ} {keys₀ keys info₀ in
 
   pub made-all : length ns ≤ i → Promised types ns keys₀ keys info₀ info none
   made-all l =
-      let a = m .here .five in
-      let k : length (entriesIn ns) ≤ e = omega (arith, length-entries (length ns / 5) ns) in
+      let a = m .here .begins in
+      let k : length (entriesIn ns) ≤ e = omega (arith, length-entries (length ns / entryStride) ns) in
       promised none (here-end (m .here) l) (sym (take-all e (entriesIn ns) k))
 
   module _ (l : i < length ns) where
@@ -112,22 +114,22 @@ module _ {types : ℕ} {ns : List ℕ} {i e last : ℕ} {keys₀ keys info₀ in
 
         among : e < length (entriesIn ns)
         among =
-            let a = m .here .five in
-            let b = here-five (m .here) l in
-            omega (arith, length-entries (length ns / 5) ns)
+            let a = m .here .begins in
+            let b = here-whole (m .here) l in
+            omega (arith, length-entries (length ns / entryStride) ns)
 
         small-child : f .child < 256
         small-child =
             let g = good .1 in
             let b = counts-bounds types (length ns) (m .here .counts) in
-            by-test (eqb (f .kind) 11)
-            (λ p. let c = g .message-child (eqb-true (f .kind) 11 p) in omega arith)
-            (λ p. let c = g .no-child (eqb-false (f .kind) 11 p) in omega arith)
+            by-test (eqb (f .kind) messageKind)
+            (λ p. let c = g .message-child (eqb-true (f .kind) messageKind p) in omega arith)
+            (λ p. let c = g .no-child (eqb-false (f .kind) messageKind p) in omega arith)
 
         -- what the code may store
-        pub made-fits : (e < 256) × (f .owner < 32) × (f .kind ≤ 18) × (f .repeated < 2) × (f .child < 256) × (key < 2 ^ 63)
+        pub made-fits : (e < keyCount) × (f .owner < mostTypes) × (f .kind ≤ sint64Kind) × (f .repeated < 2) × (f .child < 256) × (key < 2 ^ 63)
         made-fits =
-            let a = m .here .five in
+            let a = m .here .begins in
             let g = good .1 in
             let o = g .owned in
             let n = g .number-to in
@@ -136,12 +138,12 @@ module _ {types : ℕ} {ns : List ℕ} {i e last : ℕ} {keys₀ keys info₀ in
             (omega arith, omega arith, g .kind-to, good .0, small-child, omega arith)
 
         -- only a kind of wire type 2 has a child
-        pub made-childless : (w : ℕ) → w ≡ getD kindWires (f .kind) 0 → (w ≡ 2 → ⊥) → f .child ≡ 0
+        pub made-childless : (w : ℕ) → w ≡ getD kindWires (f .kind) 0 → (w ≡ delimitedWire → ⊥) → f .child ≡ 0
         unfolding kindWires
         made-childless w q n = good .1 .no-child (λ k. n (q ∙ ap (λ (x : ℕ). getD kindWires x 0) k))
 
         pub made-next : (w : ℕ) → w ≡ getD kindWires (f .kind) 0
-            → Made types ns (i + 5) (e + 1) key keys₀ (set keys e (key + w)) info₀ (noted e (f .owner) (f .number) (f .kind) (innerIn w (eqb (f .repeated) 1) (f .child)) info)
+            → Made types ns (i + entryStride) (e + 1) key keys₀ (set keys e (key + w)) info₀ (noted e (f .owner) (f .number) (f .kind) (innerIn w (eqb (f .repeated) 1) (f .child)) info)
         made-next w q =
             let r : w ≡ wire (f .kind) = q ∙ wire-in (f .kind) (good .1 .kind-to) in
             record {

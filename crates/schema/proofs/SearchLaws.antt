@@ -76,7 +76,7 @@ module _ (row : ℕ → ℕ) (lost key : ℕ) where
       (λ l. step-below k lo hi h l ∙ search-misses k lo (middle lo hi) (λ j a b. away j a (omega arith))))
       (λ h. step-end (suc k) lo hi h)
 
-  -- and the key is found where what stands before it is below and what stands behind it is above
+  -- and the key is found where what stands before it is below and what stands after it is above
   pub search-finds : (k lo hi i : ℕ) → hi - lo ≤ k → lo ≤ i → i < hi → row i ≡ key → ((j : ℕ) → j < i → row j < key) → ((j : ℕ) → i < j → j < hi → key < row j)
       → Left k lo hi ≡ i
   search-finds zero lo hi i p a b e under over = absurd (omega arith)

@@ -8,9 +8,9 @@ use Rattle.schema.specs.declared.Verdict.the-variants.{Valid, Bad}
 use Rattle.schema.specs.declared.Place.{Place}
 use Rattle.schema.specs.declared.Place.the-variants.{At, Nothing}
 use Rattle.schema.specs.declared.Said.{Said}
-use Rattle.schema.specs.Told.{told, place, said}
+use Rattle.schema.specs.Told.{badPlace, place, said}
 
-pub told-once : (a b : Verdict) → told a ≡ told b → a ≡ b
+pub told-once : (a b : Verdict) → badPlace a ≡ badPlace b → a ≡ b
 told-once Valid Valid e = refl
 told-once Valid (Bad j) e = let z : _≡_ {A = ℕ} 0 1 = cc in absurd (omega arith)
 told-once (Bad i) Valid e = let z : _≡_ {A = ℕ} 0 1 = cc in absurd (omega arith)

@@ -10,12 +10,14 @@ use lib.ListN.{length, drop, getD}
 use lib.Seq.{getD-drop, drop-drop}
 use lib.Dec.{leb, ltb, eqb}
 use borrow.Author.Tests.{ltb-true, ltb-false, lt-ltb, le-ltb, le-leb, lt-leb, leb-true, eqb-true, eqb-false, eq-eqb, ne-eqb}
+use Rattle.spec.specs.Names.{groupKind, largestNumber, messageKind, sint64Kind, childColumn, doubleKind, entryKindColumn, entryNumberColumn, mostEntries, mostTypes, repeatedColumn}
 use Rattle.spec.specs.Base.{if_then_else_, between}
-use Rattle.spec.specs.Schema.{Schema, rises, goodEntry, badEntry, badSchema, noEntry, entryOf, entriesOf, schemaOf}
+use Rattle.spec.specs.Schema.{Schema, rises, goodEntry, badEntry, badSchema, noEntry, entryOf, entriesOf, schemaOf, entryStride}
 use Rattle.spec.proofs.Laws.{both, by-test}
 use Rattle.spec.proofs.VarintLaws.{lower-or-not}
 use Rattle.spec.proofs.SchemaLaws.{firstEntry, entries-step, length-entries, entry-at, repeated-bad, rest-bad, Good, good-entry}
 use Rattle.spec.specs.declared.Entry.{Entry}
+use Rattle.schema.specs.Layout.{mostNumbers, ownerUnit}
 use Rattle.schema.specs.declared.Five.{Five}
 use Rattle.schema.specs.Tables.{counted, rank, nextKey}
 use Rattle.schema.specs.Told.{entry, fiveAt}
@@ -24,48 +26,48 @@ use Rattle.schema.specs.Told.{entry, fiveAt}
 
 -- the entries of numbers that are whole ones
 abbrev pub entriesIn : List ℕ → List Entry
-entriesIn ns = entriesOf (length ns / 5) ns
+entriesIn ns = entriesOf (length ns / entryStride) ns
 
 abbrev pub schemaIn : ℕ → List ℕ → Schema
 schemaIn types ns = record { types = types; entries = entriesIn ns }
 
-pub counts-bounds : (types count : ℕ) → counted types count ≡ true → (types ≤ 32) × (count ≤ 1280)
+pub counts-bounds : (types count : ℕ) → counted types count ≡ true → (types ≤ mostTypes) × (count ≤ mostNumbers)
 counts-bounds types count h =
-    let a = both (between 1 32 types && leb count 1280) (eqb (count % 5) 0) h in
-    let b = both (between 1 32 types) (leb count 1280) (a .0) in
-    (leb-true types 32 (both (leb 1 types) (leb types 32) (b .0) .1), leb-true count 1280 (b .1))
+    let a = both (between 1 mostTypes types && leb count mostNumbers) (eqb (count % entryStride) 0) h in
+    let b = both (between 1 mostTypes types) (leb count mostNumbers) (a .0) in
+    (leb-true types mostTypes (both (leb 1 types) (leb types mostTypes) (b .0) .1), leb-true count mostNumbers (b .1))
 
 -- so many numbers are so many entries
-five-times : (n : ℕ) → n % 5 ≡ 0 → leb (n / 5) 256 ≡ leb n 1280
-five-times n h = lower-or-not 1280 n (λ c. lt-leb (n / 5) 256 (omega arith) ∙ sym (lt-leb n 1280 c)) (λ c. le-leb (n / 5) 256 (omega arith) ∙ sym (le-leb n 1280 c))
+as-many-entries : (n : ℕ) → n % entryStride ≡ 0 → leb (n / entryStride) mostEntries ≡ leb n mostNumbers
+as-many-entries n h = lower-or-not mostNumbers n (λ c. lt-leb (n / entryStride) mostEntries (omega arith) ∙ sym (lt-leb n mostNumbers c)) (λ c. le-leb (n / entryStride) mostEntries (omega arith) ∙ sym (le-leb n mostNumbers c))
 
 module _ (types : ℕ) (ns : List ℕ) where
-  pub whole : length ns % 5 ≡ 0 → schemaOf types ns ≡ schemaIn types ns
+  pub whole : length ns % entryStride ≡ 0 → schemaOf types ns ≡ schemaIn types ns
   unfolding schemaOf
-  whole h = ap (λ (b : Bool). if b then schemaIn types ns else record { types = 0; entries = [] }) (eq-eqb (length ns % 5) 0 h)
+  whole h = ap (λ (b : Bool). if b then schemaIn types ns else record { types = 0; entries = [] }) (eq-eqb (length ns % entryStride) 0 h)
 
-  entry-count : length ns % 5 ≡ 0 → leb (length (entriesIn ns)) 256 ≡ leb (length ns) 1280
-  entry-count h = ap (λ (n : ℕ). leb n 256) (length-entries (length ns / 5) ns) ∙ five-times (length ns) h
+  entry-count : length ns % entryStride ≡ 0 → leb (length (entriesIn ns)) mostEntries ≡ leb (length ns) mostNumbers
+  entry-count h = ap (λ (n : ℕ). leb n mostEntries) (length-entries (length ns / entryStride) ns) ∙ as-many-entries (length ns) h
 
-  by-counts : length ns % 5 ≡ 0 → badSchema (schemaOf types ns) ≡ (if between 1 32 types && leb (length ns) 1280 then badEntry types 0 0 0 (entriesIn ns) else some 0)
+  by-counts : length ns % entryStride ≡ 0 → badSchema (schemaOf types ns) ≡ (if between 1 mostTypes types && leb (length ns) mostNumbers then badEntry types 0 0 0 (entriesIn ns) else some 0)
   unfolding badSchema
   by-counts h =
       ap badSchema (whole h)
-      ∙ ap (λ (b : Bool). if between 1 32 types && b then badEntry types 0 0 0 (entriesIn ns) else some 0) (entry-count h)
+      ∙ ap (λ (b : Bool). if between 1 mostTypes types && b then badEntry types 0 0 0 (entriesIn ns) else some 0) (entry-count h)
 
   -- right counts leave it to the entries, and a wrong one is bad at 0
   pub counts-right : counted types (length ns) ≡ true
-      → (schemaOf types ns ≡ schemaIn types ns) × (badSchema (schemaOf types ns) ≡ badEntry types 0 0 0 (entriesIn ns)) × (length ns % 5 ≡ 0)
+      → (schemaOf types ns ≡ schemaIn types ns) × (badSchema (schemaOf types ns) ≡ badEntry types 0 0 0 (entriesIn ns)) × (length ns % entryStride ≡ 0)
   counts-right h =
-      let b = both (between 1 32 types && leb (length ns) 1280) (eqb (length ns % 5) 0) h in
-      let w = eqb-true (length ns % 5) 0 (b .1) in
+      let b = both (between 1 mostTypes types && leb (length ns) mostNumbers) (eqb (length ns % entryStride) 0) h in
+      let w = eqb-true (length ns % entryStride) 0 (b .1) in
       (whole w, by-counts w ∙ ap (λ (x : Bool). if x then badEntry types 0 0 0 (entriesIn ns) else some 0) (b .0), w)
 
   pub counts-wrong : counted types (length ns) ≡ false → badSchema (schemaOf types ns) ≡ some 0
   counts-wrong h =
-      by-test (eqb (length ns % 5) 0)
-      (λ p. by-counts (eqb-true (length ns % 5) 0 p) ∙ ap (λ (x : Bool). if x then badEntry types 0 0 0 (entriesIn ns) else some 0) (go (between 1 32 types && leb (length ns) 1280) (eqb (length ns % 5) 0) p h))
-      (λ p. rest-bad types ns (eqb-false (length ns % 5) 0 p))
+      by-test (eqb (length ns % entryStride) 0)
+      (λ p. by-counts (eqb-true (length ns % entryStride) 0 p) ∙ ap (λ (x : Bool). if x then badEntry types 0 0 0 (entriesIn ns) else some 0) (go (between 1 mostTypes types && leb (length ns) mostNumbers) (eqb (length ns % entryStride) 0) p h))
+      (λ p. rest-bad types ns (eqb-false (length ns % entryStride) 0 p))
     where
       go : (a b : Bool) → b ≡ true → (a && b) ≡ false → a ≡ false
       go true b p q = sym p ∙ q
@@ -94,17 +96,17 @@ module _ (types : ℕ) (f : Five) where
   bad-five h = by-test (goodEntry types (entry f)) (λ p. absurd (h (good-five p))) (λ p. sym p)
 
   -- the child decides, where all else is right
-  pub child-decides : f .owner < types → 1 ≤ f .number → f .number ≤ 536870911 → 1 ≤ f .kind → f .kind ≤ 18 → (f .kind ≡ 10 → ⊥) → f .repeated < 2
-      → goodEntry types (entry f) ≡ (if eqb (f .kind) 11 then ltb (f .child) types else eqb (f .child) 0)
+  pub child-decides : f .owner < types → 1 ≤ f .number → f .number ≤ largestNumber → doubleKind ≤ f .kind → f .kind ≤ sint64Kind → (f .kind ≡ groupKind → ⊥) → f .repeated < 2
+      → goodEntry types (entry f) ≡ (if eqb (f .kind) messageKind then ltb (f .child) types else eqb (f .child) 0)
   unfolding goodEntry
   child-decides o n m k l t r =
       ap (goodEntry types) (is-entry f r)
-      ∙ simp (lt-ltb (f .owner) types o, le-leb 1 (f .number) n, le-leb (f .number) 536870911 m, le-leb 1 (f .kind) k, le-leb (f .kind) 18 l, ne-eqb (f .kind) 10 t)
+      ∙ simp (lt-ltb (f .owner) types o, le-leb 1 (f .number) n, le-leb (f .number) largestNumber m, le-leb doubleKind (f .kind) k, le-leb (f .kind) sint64Kind l, ne-eqb (f .kind) groupKind t)
 
 -- ---- an entry is the next one
 
--- of good numbers, one entry stands behind another exactly when its rank is above
-rises-rank : (o n last : ℕ) (e : Entry) → last ≡ o * 2 ^ 32 + n * 8 → n < 2 ^ 29 → e .number < 2 ^ 29 → rises o n e ≡ ltb last (rank e)
+-- of good numbers, one entry stands after another exactly when its rank is above
+rises-rank : (o n last : ℕ) (e : Entry) → last ≡ o * ownerUnit + n * 8 → n < 2 ^ 29 → e .number < 2 ^ 29 → rises o n e ≡ ltb last (rank e)
 rises-rank o n last e p l m = go (ltb o (e .owner)) (eqb o (e .owner)) (ltb n (e .number)) refl refl refl
   where
     go : (a b c : Bool) → ltb o (e .owner) ≡ a → eqb o (e .owner) ≡ b → ltb n (e .number) ≡ c → (a || b && c) ≡ ltb last (rank e)
@@ -125,10 +127,10 @@ rises-rank o n last e p l m = go (ltb o (e .owner)) (eqb o (e .owner)) (ltb n (e
 
 -- the owner and the number that a rank is of
 abbrev pub ownerOf : ℕ → ℕ
-ownerOf last = last / 2 ^ 32
+ownerOf last = last / ownerUnit
 
 abbrev pub numberOf : ℕ → ℕ
-numberOf last = last % 2 ^ 32 / 8
+numberOf last = last % ownerUnit / 8
 
 module _ (types last : ℕ) (e : Entry) where
   -- the two tests of an entry
@@ -174,7 +176,7 @@ module _ (types last : ℕ) (e : Entry) (low : last % 8 ≡ 0) where
   next-later i es z =
       by-test (passes types last e)
       (λ p. let g = good-entry types e (both (goodEntry types e) (ltb last (rank e)) p .0) in
-      let l : e .number ≤ 536870911 = g .number-to in
+      let l : e .number ≤ largestNumber = g .number-to in
       let k = key-passed types last e p in
       let o : e .owner ≡ ownerOf (nextKey types last e) = omega arith in
       let n : e .number ≡ numberOf (nextKey types last e) = omega arith in
@@ -187,17 +189,17 @@ module _ (types last : ℕ) (e : Entry) (low : last % 8 ≡ 0) where
 -- before entry e, whose numbers begin at i: the rank of the one before it is `last`, and the rest decides
 pub record Here (types : ℕ) (ns : List ℕ) (i e last : ℕ) : Type 0 where
   pub counts : counted types (length ns) ≡ true
-  pub five : i ≡ 5 * e
+  pub begins : i ≡ entryStride * e
   pub inside : i ≤ length ns
   pub low : last % 8 ≡ 0
-  pub rest : badSchema (schemaOf types ns) ≡ badEntry types (ownerOf last) (numberOf last) e (entriesOf (length ns / 5 - e) (drop (5 * e) ns))
+  pub rest : badSchema (schemaOf types ns) ≡ badEntry types (ownerOf last) (numberOf last) e (entriesOf (length ns / entryStride - e) (drop (entryStride * e) ns))
 
 pub here-first : (types : ℕ) (ns : List ℕ) → counted types (length ns) ≡ true → Here types ns 0 0 0
 here-first types ns h =
-    let k : length ns / 5 ≡ length ns / 5 - 0 = omega arith in
+    let k : length ns / entryStride ≡ length ns / entryStride - 0 = omega arith in
     record {
       counts = h;
-      five = omega arith;
+      begins = omega arith;
       inside = omega arith;
       low = omega arith;
       rest = counts-right types ns h .1 ∙ ap (λ (n : ℕ). badEntry types 0 0 0 (entriesOf n ns)) k;
@@ -207,22 +209,22 @@ here-first types ns h =
 pub first-five : (ns : List ℕ) (i : ℕ) → entry (fiveAt ns i) ≡ firstEntry (drop i ns)
 first-five ns i =
     let z : i ≡ i + 0 = omega arith in
-    simp getD-drop (ap (λ (n : ℕ). entryOf (getD ns n 0) (getD ns (i + 1) 0) (getD ns (i + 2) 0) (getD ns (i + 3) 0) (getD ns (i + 4) 0)) z)
+    simp getD-drop (ap (λ (n : ℕ). entryOf (getD ns n 0) (getD ns (i + entryNumberColumn) 0) (getD ns (i + entryKindColumn) 0) (getD ns (i + repeatedColumn) 0) (getD ns (i + childColumn) 0)) z)
 
 module _ {types : ℕ} {ns : List ℕ} {i e last : ℕ} (h : Here types ns i e last) where
-  whole-fives : length ns % 5 ≡ 0
-  whole-fives = counts-right types ns (h .counts) .2
+  whole-entries : length ns % entryStride ≡ 0
+  whole-entries = counts-right types ns (h .counts) .2
 
   pub here-end : length ns ≤ i → badSchema (schemaOf types ns) ≡ none
   unfolding entriesOf badEntry
   here-end l =
-      let a = h .five in
-      let z : length ns / 5 - e ≡ 0 = omega (arith, h .inside) in
-      h .rest ∙ ap (λ (n : ℕ). badEntry types (ownerOf last) (numberOf last) e (entriesOf n (drop (5 * e) ns))) z
+      let a = h .begins in
+      let z : length ns / entryStride - e ≡ 0 = omega (arith, h .inside) in
+      h .rest ∙ ap (λ (n : ℕ). badEntry types (ownerOf last) (numberOf last) e (entriesOf n (drop (entryStride * e) ns))) z
 
   module _ (l : i < length ns) where
-    pub here-five : i + 4 < length ns
-    here-five = omega (arith, h .five, whole-fives)
+    pub here-whole : i + childColumn < length ns
+    here-whole = omega (arith, h .begins, whole-entries)
 
     module _ {f : Five} (at : f ≡ fiveAt ns i) where
       first : entry f ≡ firstEntry (drop i ns)
@@ -231,26 +233,26 @@ module _ {types : ℕ} {ns : List ℕ} {i e last : ℕ} (h : Here types ns i e l
       -- entry e by its place among all
       pub here-entry : getD (entriesIn ns) e noEntry ≡ entry f
       here-entry =
-          let a = h .five in
-          let w = whole-fives in
-          entry-at (length ns / 5) ns e (omega arith) ∙ ap (λ (n : ℕ). firstEntry (drop n ns)) (sym a) ∙ sym first
+          let a = h .begins in
+          let w = whole-entries in
+          entry-at (length ns / entryStride) ns e (omega arith) ∙ ap (λ (n : ℕ). firstEntry (drop n ns)) (sym a) ∙ sym first
 
-      -- and those behind it
+      -- and those after it
       others : List Entry
-      others = entriesOf (length ns / 5 - (e + 1)) (drop (5 * (e + 1)) ns)
+      others = entriesOf (length ns / entryStride - (e + 1)) (drop (entryStride * (e + 1)) ns)
 
-      here-cons : entriesOf (length ns / 5 - e) (drop (5 * e) ns) ≡ entry f ∷ others
+      here-cons : entriesOf (length ns / entryStride - e) (drop (entryStride * e) ns) ≡ entry f ∷ others
       unfolding others
       here-cons =
-          let a = h .five in
-          let w = whole-fives in
-          let k : length ns / 5 - e ≡ suc (length ns / 5 - (e + 1)) = omega arith in
-          let d : 5 * e + 5 ≡ 5 * (e + 1) = omega arith in
-          ap (λ (n : ℕ). entriesOf n (drop (5 * e) ns)) k
-          ∙ entries-step (length ns / 5 - (e + 1)) (drop (5 * e) ns)
-          ∙ ap₂ (λ (x : Entry) (xs : List ℕ). x ∷ entriesOf (length ns / 5 - (e + 1)) xs)
+          let a = h .begins in
+          let w = whole-entries in
+          let k : length ns / entryStride - e ≡ suc (length ns / entryStride - (e + 1)) = omega arith in
+          let d : entryStride * e + entryStride ≡ entryStride * (e + 1) = omega arith in
+          ap (λ (n : ℕ). entriesOf n (drop (entryStride * e) ns)) k
+          ∙ entries-step (length ns / entryStride - (e + 1)) (drop (entryStride * e) ns)
+          ∙ ap₂ (λ (x : Entry) (xs : List ℕ). x ∷ entriesOf (length ns / entryStride - (e + 1)) xs)
           (ap (λ (n : ℕ). firstEntry (drop n ns)) (sym a) ∙ sym first)
-          (drop-drop 5 (5 * e) ns ∙ ap (λ (n : ℕ). drop n ns) d)
+          (drop-drop entryStride (entryStride * e) ns ∙ ap (λ (n : ℕ). drop n ns) d)
 
       here-rest : badSchema (schemaOf types ns) ≡ badEntry types (ownerOf last) (numberOf last) e (entry f ∷ others)
       here-rest = h .rest ∙ ap (badEntry types (ownerOf last) (numberOf last) e) here-cons
@@ -263,15 +265,15 @@ module _ {types : ℕ} {ns : List ℕ} {i e last : ℕ} (h : Here types ns i e l
           pub here-good : (goodEntry types (entry f) ≡ true) × (key ≡ rank (entry f))
           here-good = let g = next-good types last (entry f) (h .low) (λ z. there (is ∙ z)) in (g .0, is ∙ g .1)
 
-          pub here-next : Here types ns (i + 5) (e + 1) key
+          pub here-next : Here types ns (i + entryStride) (e + 1) key
           unfolding others
           here-next =
-              let a = h .five in
-              let l = here-five in
+              let a = h .begins in
+              let l = here-whole in
               let k = here-good .1 in
               record {
                 counts = h .counts;
-                five = omega arith;
+                begins = omega arith;
                 inside = omega arith;
                 low = omega arith;
                 rest =

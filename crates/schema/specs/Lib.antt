@@ -1,3 +1,4 @@
+pub mod Layout
 pub mod Search
 pub mod Tables
 pub mod Told

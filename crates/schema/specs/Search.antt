@@ -1,13 +1,15 @@
 -- A search by halves. What is searched is any function from places to numbers, so that the same is said of the numbers of a schema and of
 -- the keys of its tables. Assumes nothing: these are definitions.
-use Prim.Native.Nat.{ℕ, zero, suc, _+_, _*_, _/_, _^_}
+use Prim.Native.Nat.{ℕ, zero, suc, _+_, _*_, _/_}
 use mathlib.Core.Bool.{not}
 use mathlib.Core.List.{List}
 use mathlib.Core.Option.{Option, none, some}
 use lib.ListN.{length, getD}
 use lib.Dec.{ltb, eqb}
+use Rattle.spec.specs.Names.{entryNumberColumn}
 use Rattle.spec.specs.Base.{if_then_else_}
 use Rattle.spec.specs.Schema.{entryStride}
+use Rattle.schema.specs.Layout.{ownerUnit}
 
 -- The place between lo and hi where `at` is `key`, and `lost` where none is found. k is no less than hi - lo.
 unfoldable pub seek : ℕ → (at : ℕ → ℕ) → (lost key lo hi : ℕ) → ℕ
@@ -20,11 +22,11 @@ seek (suc k) at lost key lo hi =
     if eqb (at mid) key then mid else
     if ltb (at mid) key then above else below
 
--- ---- among the numbers of a schema, five to an entry, of any length
+-- ---- among the numbers of a schema, `entryStride` to an entry, of any length
 
 -- owner and number of the entry at a place, as one number
 abbrev pub ownerNumber : List ℕ → ℕ → ℕ
-ownerNumber ns i = getD ns (i * entryStride) 0 * 2 ^ 32 + getD ns (i * entryStride + 1) 0
+ownerNumber ns i = getD ns (i * entryStride) 0 * ownerUnit + getD ns (i * entryStride + entryNumberColumn) 0
 
 -- a place below the count, or none
 abbrev pub within : ℕ → ℕ → Option ℕ
@@ -33,4 +35,4 @@ within count i = if ltb i count then some i else none
 unfoldable pub findIn : List ℕ → (owner number : ℕ) → Option ℕ
 findIn ns owner number =
     let count = length ns / entryStride in
-    within count (seek count (ownerNumber ns) count (owner * 2 ^ 32 + number) 0 count)
+    within count (seek count (ownerNumber ns) count (owner * ownerUnit + number) 0 count)

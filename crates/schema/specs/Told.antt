@@ -3,6 +3,7 @@ use Prim.Native.Nat.{ℕ, _+_}
 use mathlib.Core.List.{List}
 use mathlib.Core.Option.{Option, none, some}
 use lib.ListN.{getD}
+use Rattle.spec.specs.Names.{childColumn, entryKindColumn, entryNumberColumn, repeatedColumn}
 use Rattle.spec.specs.Schema.{Says, entryOf}
 use Rattle.spec.specs.declared.Entry.{Entry}
 use Rattle.schema.specs.declared.Five.{Five}
@@ -17,12 +18,12 @@ abbrev pub entry : Five → Entry
 entry f = entryOf (f .owner) (f .number) (f .kind) (f .repeated) (f .child)
 
 abbrev pub fiveAt : List ℕ → ℕ → Five
-fiveAt ns i = record { owner = getD ns i 0; number = getD ns (i + 1) 0; kind = getD ns (i + 2) 0; repeated = getD ns (i + 3) 0; child = getD ns (i + 4) 0 }
+fiveAt ns i = record { owner = getD ns i 0; number = getD ns (i + entryNumberColumn) 0; kind = getD ns (i + entryKindColumn) 0; repeated = getD ns (i + repeatedColumn) 0; child = getD ns (i + childColumn) 0 }
 
 -- the place of the first bad entry
-abbrev pub told : Verdict → Option ℕ
-told Valid = none
-told (Bad i) = some i
+abbrev pub badPlace : Verdict → Option ℕ
+badPlace Valid = none
+badPlace (Bad i) = some i
 
 abbrev pub place : Place → Option ℕ
 place (At i) = some i

@@ -4,11 +4,57 @@ ghost use mathlib.Core.Path.{_≡_};
 ghost use Prim.Native.Nat.{_+_, _^_, _<_};
 ghost use lib.Dec.{eqb};
 ghost use lib.ListN.{length, set};
+ghost use Rattle.spec.specs.Names.{childColumn, delimitedWire, mostTypes};
 ghost use Rattle.spec.specs.Schema.{goodEntry, badSchema, schemaOf};
+ghost use Rattle.schema.specs.Layout.{keyCount, notFound};
 ghost use Rattle.schema.specs.Search.{seek, findIn};
 ghost use Rattle.schema.specs.Tables.{counted, nextKey, innerIn, noted, soundOf, keysWith, infoWith, keyAt, entryFor, unknown, typed, tableSays};
-ghost use Rattle.schema.specs.Told.{entry, fiveAt, told, place, said};
+ghost use Rattle.schema.specs.Told.{entry, fiveAt, badPlace, place, said};
+
+pub mod layout;
+
+use crate::layout::GUESSED_TAGS;
+use crate::layout::GUESSES;
+use crate::layout::INFO;
+use crate::layout::INNERS_AT;
+use crate::layout::KEYS;
+use crate::layout::KINDS_AT;
+use crate::layout::MAY_PACK;
+use crate::layout::MOST_NUMBERS;
+use crate::layout::NOT_FOUND;
+use crate::layout::OWNER_UNIT;
+use spec::columns::ENTRY_CHILD;
+use spec::columns::ENTRY_KIND;
+use spec::columns::ENTRY_NUMBER;
+use spec::columns::ENTRY_REPEATED;
+use spec::columns::ENTRY_STRIDE;
+use spec::kinds;
+use spec::kinds32;
+use spec::limits::LARGEST_NUMBER;
+use spec::limits::MOST_TYPES;
+use spec::wire_types;
 use wire::wire_format;
+
+// Kinds as numbers of an entry: those that are tested, and the last of descriptor.proto.
+const ENTRY_GROUP: u32 = kinds32::GROUP;
+
+const ENTRY_MESSAGE: u32 = kinds32::MESSAGE;
+
+const LAST_KIND: u32 = kinds32::SINT64;
+
+// Kinds as bytes of the tables.
+const MESSAGE: u8 = kinds::MESSAGE as u8;
+
+const PACKED_HEAD: u8 = kinds::PACKED_HEAD as u8;
+
+// A wire type as the rest of a tag.
+const DELIMITED: u32 = wire_types::DELIMITED as u32;
+
+// The field numbers below this one have guesses.
+const GUESSED_NUMBERS: u32 = GUESSES as u32;
+
+// What the tables say of a field that may be packed, before it is a byte.
+const PACKED_MARK: u32 = MAY_PACK as u32;
 
 // The numbers of an entry.
 struct Five {
@@ -45,26 +91,26 @@ fn counts_ok(types: u32, count: usize) -> bool
     if types == 0 {
         return false;
     }
-    if 32 < types {
+    if MOST_TYPES < types {
         return false;
     }
-    if 1280 < count {
+    if MOST_NUMBERS < count {
         return false;
     }
-    count % 5 == 0
+    count % ENTRY_STRIDE == 0
 }
 
 // The numbers from place i on.
 fn five_at(numbers: &[u32], i: usize) -> Five
-    requires { ⌜ i + 4 < length (now numbers) ⌝ }
+    requires { ⌜ i + childColumn < length (now numbers) ⌝ }
     ensures { λ r. ⌜ r ≡ fiveAt (now (numbers .entry)) i ⌝ }
 {
     Five {
         owner: numbers[i],
-        number: numbers[i + 1],
-        kind: numbers[i + 2],
-        repeated: numbers[i + 3],
-        child: numbers[i + 4],
+        number: numbers[i + ENTRY_NUMBER],
+        kind: numbers[i + ENTRY_KIND],
+        repeated: numbers[i + ENTRY_REPEATED],
+        child: numbers[i + ENTRY_CHILD],
     }
 }
 
@@ -77,16 +123,16 @@ fn entry_ok(types: u32, f: Five) -> bool
     if f.number == 0 {
         return false;
     }
-    if 536870911 < f.number {
+    if LARGEST_NUMBER < f.number {
         return false;
     }
     if f.kind == 0 {
         return false;
     }
-    if f.kind == 10 {
+    if f.kind == ENTRY_GROUP {
         return false;
     }
-    if 18 < f.kind {
+    if LAST_KIND < f.kind {
         return false;
     }
     if 1 < f.repeated {
@@ -96,20 +142,20 @@ fn entry_ok(types: u32, f: Five) -> bool
     if f.child == 0 {
         return true;
     }
-    if f.kind == 11 {
+    if f.kind == ENTRY_MESSAGE {
         return f.child < types;
     }
     false
 }
 
-// The key of an entry without its wire type, where it is good and stands behind the one whose key is `last`; else 0.
+// The key of an entry without its wire type, where it is good and stands after the one whose key is `last`; else 0.
 fn next_key(types: u32, last: u64, f: Five) -> u64
     ensures { λ r. ⌜ r ≡ nextKey types last (entry f) ⌝ }
 {
     if !entry_ok(types, f) {
         return 0;
     }
-    let key = f.owner as u64 * 4294967296 + f.number as u64 * 8;
+    let key = f.owner as u64 * OWNER_UNIT + f.number as u64 * 8;
     if key <= last {
         return 0;
     }
@@ -118,7 +164,7 @@ fn next_key(types: u32, last: u64, f: Five) -> u64
 
 // Whether a schema is valid.
 pub fn check(types: u32, numbers: &[u32]) -> Verdict
-    ensures { λ r. ⌜ told r ≡ badSchema (schemaOf types (now (numbers .entry))) ⌝ }
+    ensures { λ r. ⌜ badPlace r ≡ badSchema (schemaOf types (now (numbers .entry))) ⌝ }
 {
     if !counts_ok(types, numbers.len()) {
         return Verdict::Bad(0);
@@ -133,7 +179,7 @@ pub fn check(types: u32, numbers: &[u32]) -> Verdict
             return Verdict::Bad(e);
         }
         last = key;
-        i += 5;
+        i += ENTRY_STRIDE;
         e += 1;
     }
     Verdict::Valid
@@ -145,14 +191,14 @@ pub fn check(types: u32, numbers: &[u32]) -> Verdict
 pub fn find(numbers: &[u32], owner: u32, number: u32) -> Place
     ensures { λ r. ⌜ place r ≡ findIn (now (numbers .entry)) owner number ⌝ }
 {
-    let key = owner as u64 * 4294967296 + number as u64;
+    let key = owner as u64 * OWNER_UNIT + number as u64;
     let mut lo: usize = 0;
-    let mut hi: usize = numbers.len() / 5;
+    let mut hi: usize = numbers.len() / ENTRY_STRIDE;
     while lo < hi {
         let mid = (lo + hi) / 2;
-        let o = numbers[mid * 5];
-        let n = numbers[mid * 5 + 1];
-        let here = o as u64 * 4294967296 + n as u64;
+        let o = numbers[mid * ENTRY_STRIDE];
+        let n = numbers[mid * ENTRY_STRIDE + ENTRY_NUMBER];
+        let here = o as u64 * OWNER_UNIT + n as u64;
         if here == key {
             return Place::At(mid);
         }
@@ -167,34 +213,34 @@ pub fn find(numbers: &[u32], owner: u32, number: u32) -> Place
 
 // ---- the tables
 
-// What is noted beside the kind: 255 where the field may be packed, and else the child type, which only kinds of wire type 2 have.
+// What is noted beside the kind: MAY_PACK where the field may be packed, and else the child type, which only kinds of wire type 2 have.
 fn inner_of(w: u8, repeated: u32, child: u32) -> u8
-    requires { ⌜ (repeated < 2) × (child < 256) × ((w ≡ 2 → ⊥) → child ≡ 0) ⌝ }
+    requires { ⌜ (repeated < 2) × (child < 256) × ((w ≡ delimitedWire → ⊥) → child ≡ 0) ⌝ }
     ensures { λ r. ⌜ r ≡ innerIn w (eqb repeated 1) child ⌝ }
 {
-    if w == 2 {
+    if w == wire_types::DELIMITED {
         return child as u8;
     }
-    (repeated * 255) as u8
+    (repeated * PACKED_MARK) as u8
 }
 
 // Entry e is noted, whose rank is `key` and whose wire type is w.
-fn note(e: usize, f: Five, key: u64, w: u8, keys: &mut [u64; 256], info: &mut [u8; 1024])
-    requires { ⌜ (e < 256) × (f .owner < 32) × (f .kind < 256) × (f .repeated < 2) × (f .child < 256) × ((w ≡ 2 → ⊥) → f .child ≡ 0) × (key < 2 ^ 63) ⌝ }
+fn note(e: usize, f: Five, key: u64, w: u8, keys: &mut [u64; KEYS], info: &mut [u8; INFO])
+    requires { ⌜ (e < keyCount) × (f .owner < mostTypes) × (f .kind < 256) × (f .repeated < 2) × (f .child < 256) × ((w ≡ delimitedWire → ⊥) → f .child ≡ 0) × (key < 2 ^ 63) ⌝ }
     ensures { λ _. ⌜ (now (keys .exit) ≡ set (now (keys .entry)) e (key + w))
         × (now (info .exit) ≡ noted e (f .owner) (f .number) (f .kind) (innerIn w (eqb (f .repeated) 1) (f .child)) (now (info .entry))) ⌝ }
 {
     keys[e] = key + w as u64;
-    info[512 + e] = f.kind as u8;
-    info[768 + e] = inner_of(w, f.repeated, f.child);
-    if f.number < 16 {
-        info[f.owner as usize * 16 + f.number as usize] = e as u8;
+    info[KINDS_AT + e] = f.kind as u8;
+    info[INNERS_AT + e] = inner_of(w, f.repeated, f.child);
+    if f.number < GUESSED_NUMBERS {
+        info[f.owner as usize * GUESSES + f.number as usize] = e as u8;
     }
 }
 
 // The tables of a schema; of the entries before the first bad one where it is not valid.
-pub fn tables(types: u32, numbers: &[u32], keys: &mut [u64; 256], info: &mut [u8; 1024]) -> Verdict
-    ensures { λ r. ⌜ (told r ≡ badSchema (schemaOf types (now (numbers .entry))))
+pub fn tables(types: u32, numbers: &[u32], keys: &mut [u64; KEYS], info: &mut [u8; INFO]) -> Verdict
+    ensures { λ r. ⌜ (badPlace r ≡ badSchema (schemaOf types (now (numbers .entry))))
         × (now (keys .exit) ≡ keysWith 0 (soundOf (schemaOf types (now (numbers .entry)))) (now (keys .entry)))
         × (now (info .exit) ≡ infoWith 0 (soundOf (schemaOf types (now (numbers .entry)))) (now (info .entry))) ⌝ }
 {
@@ -213,7 +259,7 @@ pub fn tables(types: u32, numbers: &[u32], keys: &mut [u64; 256], info: &mut [u8
         }
         last = key;
         note(e, f, key, wires[f.kind as usize], keys, info);
-        i += 5;
+        i += ENTRY_STRIDE;
         e += 1;
     }
     Verdict::Valid
@@ -221,12 +267,12 @@ pub fn tables(types: u32, numbers: &[u32], keys: &mut [u64; 256], info: &mut [u8
 
 // ---- asking them
 
-// The place of an entry whose key without its wire type is `key`, or 256.
-fn search(keys: &[u64; 256], key: u64) -> usize
-    ensures { λ r. ⌜ r ≡ seek 256 (keyAt (now (keys .entry))) 256 key 0 256 ⌝ }
+// The place of an entry whose key without its wire type is `key`, or NOT_FOUND.
+fn search(keys: &[u64; KEYS], key: u64) -> usize
+    ensures { λ r. ⌜ r ≡ seek keyCount (keyAt (now (keys .entry))) notFound key 0 keyCount ⌝ }
 {
     let mut lo: usize = 0;
-    let mut hi: usize = 256;
+    let mut hi: usize = KEYS;
     while lo < hi {
         let mid = (lo + hi) / 2;
         let here = keys[mid] / 8;
@@ -239,11 +285,20 @@ fn search(keys: &[u64; 256], key: u64) -> usize
             hi = mid;
         }
     }
-    256
+    NOT_FOUND
 }
 
 // The kinds of fields that no schema says, by wire type.
-const UNKNOWN_KINDS: [u8; 8] = [21, 22, 23, 25, 26, 24, 0, 0];
+const UNKNOWN_KINDS: [u8; 8] = [
+    kinds::UNKNOWN_VARINT as u8,
+    kinds::UNKNOWN_FIXED64 as u8,
+    kinds::UNKNOWN_BYTES as u8,
+    kinds::GROUP_START as u8,
+    kinds::GROUP_END as u8,
+    kinds::UNKNOWN_FIXED32 as u8,
+    0,
+    0,
+];
 
 fn unknown(tag: u32) -> Said
     ensures { λ r. ⌜ said r ≡ unknown tag ⌝ }
@@ -256,22 +311,22 @@ fn unknown(tag: u32) -> Said
 }
 
 // What entry i says of a tag that has its number.
-fn typed(keys: &[u64; 256], info: &[u8; 1024], i: usize, key: u64, tag: u32) -> Said
-    requires { ⌜ i < 256 ⌝ }
+fn typed(keys: &[u64; KEYS], info: &[u8; INFO], i: usize, key: u64, tag: u32) -> Said
+    requires { ⌜ i < keyCount ⌝ }
     ensures { λ r. ⌜ said r ≡ typed (now (keys .entry)) (now (info .entry)) i key tag ⌝ }
 {
-    let kind = info[512 + i];
-    let inner = info[768 + i];
+    let kind = info[KINDS_AT + i];
+    let inner = info[INNERS_AT + i];
     if keys[i] == key {
-        if kind == 11 {
+        if kind == MESSAGE {
             return Said { kind, inner };
         }
         return Said { kind, inner: 0 };
     }
-    if tag % 8 == 2 {
-        if inner == 255 {
+    if tag % 8 == DELIMITED {
+        if inner == MAY_PACK {
             return Said {
-                kind: 20,
+                kind: PACKED_HEAD,
                 inner: kind,
             };
         }
@@ -286,15 +341,15 @@ fn index(byte: u8) -> usize
     byte as usize
 }
 
-// The entry of a tag in a message of this type, or 256: the guess where it is right, and else by search. A guess is right by type and number
+// The entry of a tag in a message of this type, or NOT_FOUND: the guess where it is right, and else by search. A guess is right by type and number
 // alone: a packed field has another wire type than its entry, and no search is needed for it.
-fn entry_for(keys: &[u64; 256], info: &[u8; 1024], ty: u32, tag: u32) -> usize
+fn entry_for(keys: &[u64; KEYS], info: &[u8; INFO], ty: u32, tag: u32) -> usize
     ensures { λ r. ⌜ r ≡ entryFor (now (keys .entry)) (now (info .entry)) ty tag ⌝ }
 {
-    let key = ty as u64 * 4294967296 + tag as u64;
-    if tag < 128 {
-        if ty < 32 {
-            let guess = index(info[ty as usize * 16 + tag as usize / 8]);
+    let key = ty as u64 * OWNER_UNIT + tag as u64;
+    if tag < GUESSED_TAGS {
+        if ty < MOST_TYPES {
+            let guess = index(info[ty as usize * GUESSES + tag as usize / 8]);
             if keys[guess] / 8 == key / 8 {
                 return guess;
             }
@@ -304,12 +359,12 @@ fn entry_for(keys: &[u64; 256], info: &[u8; 1024], ty: u32, tag: u32) -> usize
 }
 
 // What the tables say of a tag in a message of this type.
-pub fn says(keys: &[u64; 256], info: &[u8; 1024], ty: u32, tag: u32) -> Said
+pub fn says(keys: &[u64; KEYS], info: &[u8; INFO], ty: u32, tag: u32) -> Said
     ensures { λ r. ⌜ said r ≡ tableSays (now (keys .entry)) (now (info .entry)) ty tag ⌝ }
 {
     let i = entry_for(keys, info, ty, tag);
-    if i < 256 {
-        let key = ty as u64 * 4294967296 + tag as u64;
+    if i < KEYS {
+        let key = ty as u64 * OWNER_UNIT + tag as u64;
         return typed(keys, info, i, key, tag);
     }
     unknown(tag)

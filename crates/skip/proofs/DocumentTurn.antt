@@ -10,6 +10,7 @@ use lib.ListN.{length, drop, getD, set, length-drop, length-set, drop-of-length-
 use lib.Seq.{getD-set-same, getD-set-other}
 use lib.Dec.{eqb}
 use borrow.Author.Tests.{le-leb, lt-leb, le-ltb, eq-eqb, ne-eqb}
+use Rattle.spec.specs.Names.{endGroupWire, mostLevels, startGroupWire}
 use Rattle.spec.specs.Base.{limit, Read, Took, No, longer}
 use Rattle.spec.specs.Varint.{tag}
 use Rattle.spec.specs.Skip.{plain}
@@ -52,11 +53,11 @@ abbrev pub run : List ℕ → Bool
 run s = isRun (length s) [] s
 
 pub record Here (s numbers : List ℕ) (n at : ℕ) : Type 0 where
-  pub room : length numbers ≡ 100
-  pub few : n ≤ 100
+  pub room : length numbers ≡ mostLevels
+  pub few : n ≤ mostLevels
   pub rest : run s ≡ walk (opened numbers n) (drop at s)
 
-pub start : (s numbers : List ℕ) → length numbers ≡ 100 → Here s numbers 0 0
+pub start : (s numbers : List ℕ) → length numbers ≡ mostLevels → Here s numbers 0 0
 unfolding opened
 start s numbers r = record { room = r; few = omega arith; rest = refl }
 
@@ -95,8 +96,8 @@ module _ {s numbers : List ℕ} {n at : ℕ} (h : Here s numbers n at) where
     unfolding goOn
     stopped e = sym (turned Stop e)
 
-    -- a group is opened, where fewer than 100 are open
-    pub opens : t % 8 ≡ 3 → n < 100 → Here s (set numbers n (t / 8)) (n + 1) next
+    -- a group is opened, where fewer than `mostLevels` are open
+    pub opens : t % 8 ≡ startGroupWire → n < mostLevels → Here s (set numbers n (t / 8)) (n + 1) next
     unfolding goOn
     opens w l = record {
       room = length-set numbers n (t / 8) ∙ h .room;
@@ -105,12 +106,12 @@ module _ {s numbers : List ℕ} {n at : ℕ} (h : Here s numbers n at) where
           ∙ ap₂ walk (sym (opened-more numbers (t / 8) n (omega (arith, h .room)))) behind-tag;
     }
 
-    pub too-many : t % 8 ≡ 3 → 100 ≤ n → false ≡ run s
+    pub too-many : t % 8 ≡ startGroupWire → mostLevels ≤ n → false ≡ run s
     unfolding step
-    too-many w l = stopped (rw (eq-eqb (t % 8) 3 w, length-opened numbers n, le-ltb n 100 l) refl)
+    too-many w l = stopped (rw (eq-eqb (t % 8) startGroupWire w, length-opened numbers n, le-ltb n mostLevels l) refl)
 
     -- the innermost group is closed, where one is open
-    pub closes : t % 8 ≡ 4 → (n ≡ 0 → ⊥) → Here s numbers (n - 1) next
+    pub closes : t % 8 ≡ endGroupWire → (n ≡ 0 → ⊥) → Here s numbers (n - 1) next
     unfolding goOn
     closes w l = record {
       room = h .room;
@@ -121,12 +122,12 @@ module _ {s numbers : List ℕ} {n at : ℕ} (h : Here s numbers n at) where
           ∙ ap (walk (opened numbers (n - 1))) behind-tag;
     }
 
-    pub none-open : t % 8 ≡ 4 → n ≡ 0 → false ≡ run s
+    pub none-open : t % 8 ≡ endGroupWire → n ≡ 0 → false ≡ run s
     unfolding step closed opened
-    none-open w z = stopped (rw (ne-eqb (t % 8) 3 (λ e. omega arith), eq-eqb (t % 8) 4 w, z) refl)
+    none-open w z = stopped (rw (ne-eqb (t % 8) startGroupWire (λ e. omega arith), eq-eqb (t % 8) endGroupWire w, z) refl)
 
     -- a value that is no group's
-    valued : (x : Read) → (t % 8 ≡ 3 → ⊥) → (t % 8 ≡ 4 → ⊥) → plain (t % 8) (drop next s) ≡ x
+    valued : (x : Read) → (t % 8 ≡ startGroupWire → ⊥) → (t % 8 ≡ endGroupWire → ⊥) → plain (t % 8) (drop next s) ≡ x
         → step (opened numbers n) (drop at s) (Took t (next - at)) ≡ passed (opened numbers n) (longer (next - at) x)
     valued x a b e =
         step-value (opened numbers n) [] (drop at s) t (next - at) a b
@@ -150,7 +151,7 @@ module _ {s numbers : List ℕ} {n at : ℕ} (h : Here s numbers n at) where
               },
             )
 
-    pub lost : (k : ℕ) → (t % 8 ≡ 3 → ⊥) → (t % 8 ≡ 4 → ⊥) → Refused k ≡ behind next (plain (t % 8) (drop next s)) → false ≡ run s
+    pub lost : (k : ℕ) → (t % 8 ≡ startGroupWire → ⊥) → (t % 8 ≡ endGroupWire → ⊥) → Refused k ≡ behind next (plain (t % 8) (drop next s)) → false ≡ run s
     unfolding passed longer
     lost k a b f = stopped (valued (No k) a b (refused-of next k _ f))
 

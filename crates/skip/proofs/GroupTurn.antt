@@ -6,6 +6,7 @@ use mathlib.Core.Bool.{Bool, true, false}
 use mathlib.Core.Logic.{_⊎_, inl, inr, ⊎-elim}
 use mathlib.Core.List.{List, [], _∷_}
 use lib.ListN.{length, drop, length-drop, drop-of-length-le}
+use Rattle.spec.specs.Names.{endGroupWire, endsEarly, startGroupWire}
 use Rattle.spec.specs.Base.{Read, Took, No}
 use Rattle.spec.specs.Varint.{tag}
 use Rattle.spec.specs.Skip.{plain, skipField, skipGroup, innerGroup}
@@ -27,7 +28,7 @@ pub record Here (e : Read) (level : ℕ) (s : List ℕ) (from at : ℕ) : Type 0
   pub rest : groupFrom e level s from ≡ groupFrom e level s at
 
 -- a value was skipped, so it is no group's and no end of one
-pub no-value : (at q w : ℕ) (u : List ℕ) → (w ≡ 3) ⊎ (w ≡ 4) → To q ≡ behind at (plain w u) → ⊥
+pub no-value : (at q w : ℕ) (u : List ℕ) → (w ≡ startGroupWire) ⊎ (w ≡ endGroupWire) → To q ≡ behind at (plain w u) → ⊥
 no-value at q w u g f =
     let o = plain-other u w (λ e. ⊎-elim (λ x. omega arith) (λ x. omega arith) g) (λ e. ⊎-elim (λ x. omega arith) (λ x. omega arith) g)
     (λ e. ⊎-elim (λ x. omega arith) (λ x. omega arith) g) (λ e. ⊎-elim (λ x. omega arith) (λ x. omega arith) g) in
@@ -53,7 +54,7 @@ module _ {e : Read} {level : ℕ} {s : List ℕ} {from at : ℕ} (h : Here e lev
     pub bounds : Placed (top 4 15) s at t next
     bounds = tag-placed s at t next r
 
-    pub closes : t % 8 ≡ 4 → To next ≡ groupFrom e level s from
+    pub closes : t % 8 ≡ endGroupWire → To next ≡ groupFrom e level s from
     unfolding behind
     closes w =
         let b = bounds in
@@ -65,7 +66,7 @@ module _ {e : Read} {level : ℕ} {s : List ℕ} {from at : ℕ} (h : Here e lev
     behind-tag = let b = bounds in drop-to at next s (omega arith)
 
     -- the field behind the tag was skipped
-    module _ (w : t % 8 ≡ 4 → ⊥) (p : Past) (f : p ≡ behind next (skipField innerGroup level (t % 8) (drop next s))) where
+    module _ (w : t % 8 ≡ endGroupWire → ⊥) (p : Past) (f : p ≡ behind next (skipField innerGroup level (t % 8) (drop next s))) where
       pub lost : (k : ℕ) → p ≡ Refused k → p ≡ groupFrom e level s from
       lost k z =
           let g = refused-of next k (skipField innerGroup level (t % 8) (drop next s)) (sym z ∙ f) in
@@ -91,17 +92,17 @@ module _ {e : Read} {level : ℕ} {s : List ℕ} {from at : ℕ} (h : Here e lev
 
     -- and so was a value that is no group's
     module _ (p : Past) (f : p ≡ behind next (plain (t % 8) (drop next s))) where
-      pub lost-value : (t % 8 ≡ 3 → ⊥) → (t % 8 ≡ 4 → ⊥) → (k : ℕ) → p ≡ Refused k → p ≡ groupFrom e level s from
+      pub lost-value : (t % 8 ≡ startGroupWire → ⊥) → (t % 8 ≡ endGroupWire → ⊥) → (k : ℕ) → p ≡ Refused k → p ≡ groupFrom e level s from
       lost-value a b k z = lost b p (f ∙ ap (behind next) (sym (no-group innerGroup level (drop next s) (t % 8) a))) k z
 
       pub value : (q : ℕ) → p ≡ To q → (next ≤ q) × Here e level s from q
       value q z =
-          let never : (t % 8 ≡ 3) ⊎ (t % 8 ≡ 4) → ⊥ = λ w. no-value next q (t % 8) (drop next s) w (sym z ∙ f) in
+          let never : (t % 8 ≡ startGroupWire) ⊎ (t % 8 ≡ endGroupWire) → ⊥ = λ w. no-value next q (t % 8) (drop next s) w (sym z ∙ f) in
           onward (λ w. never (inr w)) p (f ∙ ap (behind next) (sym (no-group innerGroup level (drop next s) (t % 8) (λ w. never (inl w))))) q z
 
 -- the end of the bytes, in the outermost group of an unknown field and in any other
 module _ {level : ℕ} {s : List ℕ} {from at : ℕ} {outer : Bool} (h : Here (atEnd outer) level s from at) (l : length s ≤ at) where
-  pub ends-refused : outer ≡ true → Refused 1 ≡ groupFrom (atEnd outer) level s from
+  pub ends-refused : outer ≡ true → Refused endsEarly ≡ groupFrom (atEnd outer) level s from
   unfolding behind
   ends-refused o = ap (λ (b : Bool). behind at (atEnd b)) (sym o) ∙ finish h l
 

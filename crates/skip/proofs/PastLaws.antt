@@ -10,6 +10,7 @@ use mathlib.Core.List.{List, [], _∷_}
 use lib.ListN.{length, drop, getD, length-drop}
 use lib.Seq.{drop-cons, drop-drop}
 use borrow.Author.Tests.{le-leb, lt-leb}
+use Rattle.spec.specs.Names.{badTag, endsEarly}
 use Rattle.spec.specs.Base.{Read, Took, No, longer, require, _>>=_, digit}
 use Rattle.spec.specs.Varint.{varint, varint32, fixed, tag, goodTag}
 use Rattle.spec.specs.Skip.{content}
@@ -58,7 +59,7 @@ fixed-ends zero s h = ends
 fixed-ends (suc n) [] h = absurd (omega arith)
 fixed-ends (suc n) (b ∷ s) h = ends-digit 256 b (fixed-ends n s (omega arith))
 
-pub fixed-short : (n : ℕ) (s : List ℕ) → length s < n → fixed n s ≡ No 1
+pub fixed-short : (n : ℕ) (s : List ℕ) → length s < n → fixed n s ≡ No endsEarly
 unfolding fixed digit
 fixed-short zero s h = absurd (omega arith)
 fixed-short (suc n) [] h = refl
@@ -71,7 +72,7 @@ module _ (len : List ℕ → Read) (s : List ℕ) where
     unfolding content _>>=_ longer
     content-ends h = rw (e, le-leb (n + m) (length s) h) ends
 
-    pub content-short : length s < n + m → content len s ≡ No 1
+    pub content-short : length s < n + m → content len s ≡ No endsEarly
     unfolding content _>>=_ longer
     content-short h = rw (e, lt-leb (n + m) (length s) h) refl
 
@@ -91,7 +92,7 @@ module _ (s : List ℕ) where
     unfolding tag require
     tag-good g = rw (e, g) refl
 
-    pub tag-bad : goodTag v ≡ false → tag s ≡ No 3
+    pub tag-bad : goodTag v ≡ false → tag s ≡ No badTag
     unfolding tag require
     tag-bad g = rw (e, g) refl
 
@@ -100,7 +101,7 @@ module _ (s : List ℕ) where
   unfolding tag require
   tag-varint {t} {n} e = go (varint32 s) e
     where
-      go : (r : Read) → Took t n ≡ require 3 goodTag r → Took t n ≡ r
+      go : (r : Read) → Took t n ≡ require badTag goodTag r → Took t n ≡ r
       go (Took v m) e =
           chosen (λ x. Took t n ≡ x → Took t n ≡ Took v m) (goodTag v) (λ g q. q) (λ g q. let z : _≡_ {A = ℕ} 0 1 = cc in absurd (omega arith)) e
       go (No k) e = e
@@ -149,5 +150,5 @@ module _ (at m next : ℕ) (s : List ℕ) (e : Took m (next - at) ≡ varint32 (
       let q : at + (next - at + m) ≡ next + m = omega arith in
       rw (← q) (ends-behind at (next - at + m) (content-ends varint32 (drop at s) (sym e) (rw length-drop (omega arith))))
 
-  pub content-cut : length s < next + m → Refused 1 ≡ behind at (content varint32 (drop at s))
+  pub content-cut : length s < next + m → Refused endsEarly ≡ behind at (content varint32 (drop at s))
   content-cut h = let b = length-placed in refused-behind at (content-short varint32 (drop at s) (sym e) (rw length-drop (omega arith)))

@@ -7,6 +7,7 @@ use mathlib.Core.Logic.{inl}
 use mathlib.Core.List.{List, [], _∷_}
 use lib.ListN.{length, drop, length-drop}
 use lib.Dec.{eqb}
+use Rattle.spec.specs.Names.{endGroupWire, endsEarly}
 use Rattle.spec.specs.Base.{limit, Read, Took, No, refusal, taken, longer, _>>=_}
 use Rattle.spec.specs.Varint.{tag, goodTag}
 use Rattle.spec.specs.Skip.{plain, skipField, skipGroup, innerGroup, outerGroup, skipFieldForTag, readUnknownOrSkipGroup}
@@ -41,7 +42,7 @@ unfolding skipGroup
 bare-group zero b level s = b
 bare-group (suc k) b level [] = b
 bare-group (suc k) b level (x ∷ s) =
-    bare-next (tag (x ∷ s)) λ t n. either-way Bare (eqb (t % 8) 4) bare (bare-next _ λ v m. bare-group k b level (drop (n + m) (x ∷ s)))
+    bare-next (tag (x ∷ s)) λ t n. either-way Bare (eqb (t % 8) endGroupWire) bare (bare-next _ λ v m. bare-group k b level (drop (n + m) (x ∷ s)))
 
 past-behind : (at : ℕ) {r : Read} → Bare r → past at (behind at r) ≡ r
 unfolding behind
@@ -69,7 +70,7 @@ unfolding refusal taken behind
 answer-past p (Took v n) e q = let f = rw e at q in (f .0, omega arith)
 answer-past p (No k) e q = rw e at q
 
--- ---- 11, then 3, then what the field says
+-- ---- too many bytes, then a bad tag, then what the field says
 
 module _ {t : ℕ} {s : List ℕ} {k : ℕ} (c : Checked t s k) where
   pub checked-skip : (level : ℕ) → 0 < k → skipFieldForTag t level s ≡ No k
@@ -122,11 +123,11 @@ module _ (t level : ℕ) (s : List ℕ) (x y : Skipped) where
 pub takes-outer : (level : ℕ) (s : List ℕ) → Takes 1 (length s) (outerGroup level s)
 takes-outer level [] = rw outer-end none
 takes-outer level (b ∷ s) =
-    rw (group-step (No 1) level b s)
+    rw (group-step (No endsEarly) level b s)
     (takes-next (takes-tag (b ∷ s)) λ t n h j.
-    either-way (Takes 0 (length (b ∷ s) - n)) (eqb (t % 8) 4) (took {n = 0} (omega arith) (omega arith))
+    either-way (Takes 0 (length (b ∷ s) - n)) (eqb (t % 8) endGroupWire) (took {n = 0} (omega arith) (omega arith))
     (takes-next (takes-weaker (omega arith) (omega (arith, length-drop n (b ∷ s))) (takes-field level (t % 8) (drop n (b ∷ s))))
-    λ v m h′ j′. takes-weaker (omega arith) (omega (arith, length-drop (n + m) (b ∷ s))) (takes-skipGroup (length (drop (n + m) (b ∷ s))) (No 1) none level (drop (n + m) (b ∷ s)))))
+    λ v m h′ j′. takes-weaker (omega arith) (omega (arith, length-drop (n + m) (b ∷ s))) (takes-skipGroup (length (drop (n + m) (b ∷ s))) (No endsEarly) none level (drop (n + m) (b ∷ s)))))
   where
     takes-field : (l w : ℕ) (u : List ℕ) → Takes 0 (length u) (skipField innerGroup l w u)
     takes-field l w u = takes-skipField innerGroup l w u (takes-skipGroup (length u) (Took 0 0) (took {n = 0} (omega arith) (omega arith)) (l + 1) u)

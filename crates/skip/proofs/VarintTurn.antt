@@ -6,6 +6,7 @@ use mathlib.Core.List.{List, []}
 use lib.ListN.{length, drop, getD, drop-of-length-le}
 use lib.Seq.{drop-cons}
 use borrow.Author.Tests.{le-leb, lt-leb}
+use Rattle.spec.specs.Names.{badVarint, endsEarly}
 use Rattle.spec.specs.Base.{No}
 use Rattle.spec.specs.Varint.{varint, varint64}
 use Rattle.skip.specs.declared.field.Past.the-variants.{To, Refused}
@@ -20,13 +21,13 @@ pub record Along (s : List ℕ) (at n : ℕ) : Type 0 where
 pub begin : (s : List ℕ) (at : ℕ) → Along s at 0
 begin s at = let q : at + 0 ≡ at = omega arith in record { few = omega arith; rest = rw q refl }
 
-pub no-byte : (k last : ℕ) → varint k last [] ≡ No 1
+pub no-byte : (k last : ℕ) → varint k last [] ≡ No endsEarly
 unfolding varint
 no-byte zero last = refl
 no-byte (suc k) last = refl
 
 module _ {s : List ℕ} {at n : ℕ} (h : Along s at n) where
-  pub ended : length s ≤ at + n → Refused 1 ≡ behind at (varint64 (drop at s))
+  pub ended : length s ≤ at + n → Refused endsEarly ≡ behind at (varint64 (drop at s))
   ended l = refused-behind (at + n) (ap (varint (9 - n) 1) (drop-of-length-le s l) ∙ no-byte (9 - n) 1) ∙ sym (h .rest)
 
   module _ (l : at + n < length s) where
@@ -52,7 +53,7 @@ module _ {s : List ℕ} {at n : ℕ} (h : Along s at n) where
       unfolding varint behind
       ends-last b = sym (h .rest ∙ rw (none-left, drop-cons s (at + n) 0, le-leb (getD s (at + n) 0) 1 b) refl)
 
-      pub bad-last : 1 < getD s (at + n) 0 → Refused 2 ≡ behind at (varint64 (drop at s))
+      pub bad-last : 1 < getD s (at + n) 0 → Refused badVarint ≡ behind at (varint64 (drop at s))
       unfolding varint behind
       bad-last b = sym (h .rest ∙ rw (none-left, drop-cons s (at + n) 0, lt-leb (getD s (at + n) 0) 1 b) refl)
 

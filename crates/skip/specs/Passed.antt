@@ -2,6 +2,7 @@
 -- Assumes nothing: these are definitions.
 use Prim.Native.Nat.{ℕ, _+_, _-_}
 use mathlib.Core.Bool.{Bool, true, false}
+use Rattle.spec.specs.Names.{endsEarly}
 use Rattle.spec.specs.Base.{Read, Took, No}
 use Rattle.skip.specs.declared.field.Past.{Past}
 use Rattle.skip.specs.declared.field.Past.the-variants.{To, Refused}
@@ -18,5 +19,5 @@ behind at (No k) = Refused k
 
 -- what the end of the bytes means: it is refused in the outermost group of an unknown field, and closes any other
 abbrev pub atEnd : Bool → Read
-atEnd true = No 1
+atEnd true = No endsEarly
 atEnd false = Took 0 0

@@ -7,13 +7,18 @@ use crate::field::Past;
 use crate::field::past_plain;
 use crate::field::quick_value;
 use crate::field::tag_at;
+use crate::wire_types64;
+use spec::limits;
 use wire::found::Found;
+
+// The most groups that are open.
+const MOST_LEVELS: usize = limits::MOST_LEVELS as usize;
 
 // One pass. The numbers of the groups that are open are kept in the order in which they were opened.
 fn is_run(s: &[u8]) -> bool
     ensures { λ r. ⌜ r ≡ isRun (length (now (s .entry))) [] (now (s .entry)) ⌝ }
 {
-    let mut numbers: [u32; 100] = [0; 100];
+    let mut numbers: [u32; MOST_LEVELS] = [0; MOST_LEVELS];
     let mut n: usize = 0;
     let mut at: usize = 0;
     while at < s.len() {
@@ -26,15 +31,15 @@ fn is_run(s: &[u8]) -> bool
             at = q;
         } else {
             match w {
-                3 => {
-                    if 100 <= n {
+                wire_types64::START_GROUP => {
+                    if MOST_LEVELS <= n {
                         return false;
                     }
                     numbers[n] = (value / 8) as u32;
                     n = n + 1;
                     at = next;
                 }
-                4 => {
+                wire_types64::END_GROUP => {
                     if n == 0 {
                         return false;
                     }
@@ -57,7 +62,7 @@ fn is_run(s: &[u8]) -> bool
 pub fn is_document(s: &[u8]) -> bool
     ensures { λ r. ⌜ r ≡ isDocument (now (s .entry)) ⌝ }
 {
-    if 0x7fff_ffff < s.len() {
+    if limits::MOST_BYTES < s.len() {
         return false;
     }
     is_run(s)

@@ -5,10 +5,16 @@ ghost use lib.ListN.{length, drop};
 ghost use Rattle.spec.specs.Varint.{varint32, varint64, fixed, tag};
 ghost use Rattle.spec.specs.Skip.{content, plain};
 ghost use Rattle.skip.specs.declared.field.Past.the-variants.{To};
-ghost use Rattle.wire.specs.Answers.{told};
+ghost use Rattle.wire.specs.Answers.{asRead};
 ghost use Rattle.skip.specs.Passed.{behind};
+use crate::wire_types64;
+use spec::refusals;
 use wire::found::Found;
+use wire::varint;
 use wire::varint::decode::decode_varint32;
+
+// The largest tenth byte of a varint.
+const LAST_OF_64: u8 = varint::LAST_OF_64 as u8;
 
 // What skipping at a position of a slice comes to: the position behind what was skipped, or the number of the refusal.
 pub enum Past {
@@ -18,37 +24,37 @@ pub enum Past {
 
 // The tag at a position. Most have one byte: those are read in place.
 pub(crate) fn tag_at(s: &[u8], at: usize) -> Found
-    ensures { λ r. ⌜ told at r ≡ tag (drop at (now (s .entry))) ⌝ }
+    ensures { λ r. ⌜ asRead at r ≡ tag (drop at (now (s .entry))) ⌝ }
 {
     if s.len() <= at {
-        return Found::Refused(1);
+        return Found::Refused(refusals::ENDS_EARLY);
     }
     let b = s[at] as u64;
     if 128 <= b {
         return long_tag(s, at);
     }
-    if 5 < b % 8 {
-        return Found::Refused(3);
+    if wire_types64::FIXED32 < b % 8 {
+        return Found::Refused(refusals::BAD_TAG);
     }
     if b < 8 {
-        return Found::Refused(3);
+        return Found::Refused(refusals::BAD_TAG);
     }
     let next = at + 1;
     Found::Value { value: b, next }
 }
 
 fn long_tag(s: &[u8], at: usize) -> Found
-    ensures { λ r. ⌜ told at r ≡ tag (drop at (now (s .entry))) ⌝ }
+    ensures { λ r. ⌜ asRead at r ≡ tag (drop at (now (s .entry))) ⌝ }
 {
     let f = decode_varint32(s, at);
     let Found::Value { value, next: _ } = f else {
         return f;
     };
-    if 5 < value % 8 {
-        return Found::Refused(3);
+    if wire_types64::FIXED32 < value % 8 {
+        return Found::Refused(refusals::BAD_TAG);
     }
     if value < 8 {
-        return Found::Refused(3);
+        return Found::Refused(refusals::BAD_TAG);
     }
     f
 }
@@ -104,15 +110,15 @@ pub(crate) fn quick_value(s: &[u8], at: usize, w: u64) -> usize
     ensures { λ r. ⌜ (at < r → To r ≡ behind at (plain w (drop at (now (s .entry))))) ⌝ }
 {
     match w {
-        0 => quick_varint(s, at),
-        1 => {
+        wire_types64::VARINT => quick_varint(s, at),
+        wire_types64::FIXED64 => {
             if s.len() - at < 8 {
                 return at;
             }
             at + 8
         }
-        2 => quick_bytes(s, at),
-        5 => {
+        wire_types64::DELIMITED => quick_bytes(s, at),
+        wire_types64::FIXED32 => {
             if s.len() - at < 4 {
                 return at;
             }
@@ -131,9 +137,9 @@ fn past_varint(s: &[u8], at: usize) -> Past
 {
     let left = s.len() - at;
     let mut n = 0;
-    while n < 9 {
+    while n < varint::MORE_OF_64 {
         if left <= n {
-            return Past::Refused(1);
+            return Past::Refused(refusals::ENDS_EARLY);
         }
         if s[at + n] < 128 {
             return Past::To(at + n + 1);
@@ -141,10 +147,10 @@ fn past_varint(s: &[u8], at: usize) -> Past
         n = n + 1;
     }
     if left <= n {
-        return Past::Refused(1);
+        return Past::Refused(refusals::ENDS_EARLY);
     }
-    if 1 < s[at + n] {
-        return Past::Refused(2);
+    if LAST_OF_64 < s[at + n] {
+        return Past::Refused(refusals::BAD_VARINT);
     }
     Past::To(at + n + 1)
 }
@@ -154,7 +160,7 @@ fn past_fixed(s: &[u8], at: usize, n: usize) -> Past
     ensures { λ r. ⌜ r ≡ behind at (fixed n (drop at (now (s .entry)))) ⌝ }
 {
     if s.len() - at < n {
-        return Past::Refused(1);
+        return Past::Refused(refusals::ENDS_EARLY);
     }
     Past::To(at + n)
 }
@@ -166,7 +172,7 @@ fn past_bytes(s: &[u8], at: usize) -> Past
         Found::Value { value, next } => {
             let n = value as usize;
             if s.len() - next < n {
-                return Past::Refused(1);
+                return Past::Refused(refusals::ENDS_EARLY);
             }
             Past::To(next + n)
         }
@@ -179,10 +185,10 @@ pub(crate) fn past_plain(s: &[u8], at: usize, w: u64) -> Past
     ensures { λ r. ⌜ r ≡ behind at (plain w (drop at (now (s .entry)))) ⌝ }
 {
     match w {
-        0 => past_varint(s, at),
-        1 => past_fixed(s, at, 8),
-        2 => past_bytes(s, at),
-        5 => past_fixed(s, at, 4),
-        _ => Past::Refused(4),
+        wire_types64::VARINT => past_varint(s, at),
+        wire_types64::FIXED64 => past_fixed(s, at, 8),
+        wire_types64::DELIMITED => past_bytes(s, at),
+        wire_types64::FIXED32 => past_fixed(s, at, 4),
+        _ => Past::Refused(refusals::NO_GROUP_OPEN),
     }
 }

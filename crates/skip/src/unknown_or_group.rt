@@ -10,7 +10,14 @@ use crate::field::Past;
 use crate::field::past_plain;
 use crate::field::quick_value;
 use crate::field::tag_at;
+use crate::wire_types64;
+use spec::limits;
+use spec::refusals;
+use spec::wire_types;
 use wire::found::Found;
+
+// The largest wire type, at a tag's width.
+const FIXED32: u32 = wire_types::FIXED32 as u32;
 
 // What a skip comes to: the refusal's number, 0 for none, and the bytes used, 0 on refusal.
 pub struct Skipped {
@@ -34,14 +41,14 @@ fn skip_group(s: &[u8], from: usize, level: u32, outer: bool) -> Past
                     at = q;
                 } else {
                     match w {
-                        3 => {
+                        wire_types64::START_GROUP => {
                             let p = skip_field(s, next, w, level);
                             let Past::To(e) = p else {
                                 return p;
                             };
                             at = e;
                         }
-                        4 => return Past::To(next),
+                        wire_types64::END_GROUP => return Past::To(next),
                         _ => {
                             let p = past_plain(s, next, w);
                             let Past::To(e) = p else {
@@ -56,19 +63,19 @@ fn skip_group(s: &[u8], from: usize, level: u32, outer: bool) -> Past
         }
     }
     if outer {
-        return Past::Refused(1);
+        return Past::Refused(refusals::ENDS_EARLY);
     }
     Past::To(at)
 }
 
-// Skips the value at `at` of a field of wire type w. A group is counted: it is entered below level 100.
+// Skips the value at `at` of a field of wire type w. A group is counted: it is entered below level MOST_LEVELS.
 fn skip_field(s: &[u8], at: usize, w: u64, level: u32) -> Past
     requires { ⌜ at ≤ length (now s) ⌝ }
     ensures { λ r. ⌜ r ≡ behind at (skipField innerGroup level w (drop at (now (s .entry)))) ⌝ }
 {
-    if w == 3 {
-        if 100 <= level {
-            return Past::Refused(7);
+    if w == wire_types64::START_GROUP {
+        if limits::MOST_LEVELS <= level {
+            return Past::Refused(refusals::TOO_DEEP);
         }
         return skip_group(s, at, level + 1, false);
     }
@@ -95,20 +102,20 @@ fn used_of(p: Past) -> Skipped
     }
 }
 
-// Before all else: 11 for more bytes than may be read, then 3 for a bad tag; 0 where neither is so.
+// Before all else: the refusal of more bytes than may be read, then that of a bad tag; 0 where neither is so.
 fn checked(tag: u32, s: &[u8]) -> u32
     ensures { λ r. ⌜ Checked tag (now (s .entry)) r ⌝ }
 {
-    if 0x7fff_ffff < s.len() {
-        return 11;
+    if limits::MOST_BYTES < s.len() {
+        return refusals::TOO_LARGE;
     }
-    if 5 < tag % 8 {
-        return 3;
+    if FIXED32 < tag % 8 {
+        return refusals::BAD_TAG;
     }
     if 8 <= tag {
         return 0;
     }
-    3
+    refusals::BAD_TAG
 }
 
 // Skips the field behind a tag. Every group counts, and the end of the bytes closes all open groups.
@@ -136,7 +143,7 @@ pub fn read_unknown_or_skip_group(tag: u32, s: &[u8], level: u32) -> Skipped
         return Skipped { number, used: 0 };
     }
     let w = (tag % 8) as u64;
-    if w == 3 {
+    if w == wire_types64::START_GROUP {
         return used_of(skip_group(s, 0, level, true));
     }
     used_of(past_plain(s, 0, w))

@@ -1,11 +1,12 @@
--- The schemas A and B of the user's rules, and the cases that the rules mark to be proved, as one list under one statement.
+-- The schemas A and B of the user's rules, and the cases that the rules mark to be proved, as one list under one statement; the numbers of the rules' tables.
 -- Assumes nothing.
 use Prim.Native.Nat.{ℕ}
 use mathlib.Core.Path.{_≡_, refl}
 use mathlib.Core.Bool.{Bool, true, false}
 use mathlib.Core.List.{List, [], _∷_, _++_, map}
 use lib.ListN.{replicate}
-use Rattle.spec.specs.Base.{Read, Took, No, meaning, require, longer, _>>=_, digit}
+use Rattle.spec.specs.Names.{badTag, badVarint, boolKind, bytesKind, delimitedWire, doubleKind, endGroupWire, endsEarly, enumKind, fixed32Kind, fixed32Wire, fixed64Kind, fixed64Wire, floatKind, groupKind, int32Kind, int64Kind, invalidList, invalidSchema, largestNumber, messageKind, mostEntries, mostLevels, mostTypes, noGroupOpen, noRoom, notUtf8, outOfRange, outputShort, packedHead, sfixed32Kind, sfixed64Kind, sint32Kind, sint64Kind, startGroupWire, stringKind, tooDeep, tooLarge, uint32Kind, uint64Kind, unknownBytes, unknownFixed32, unknownFixed64, unknownVarint, varintWire}
+use Rattle.spec.specs.Base.{Read, Took, No, meaning, require, longer, _>>=_, digit, limited}
 use Rattle.spec.specs.Varint.{varint, unzigzag, fixed, tag}
 use Rattle.spec.specs.Utf8.{lead, followers, behind, char, chars, validPrefix}
 use Rattle.spec.specs.Kind.{kindWires, ownWires, wires, wire, shapes, shape, isScalar, extend, scalar}
@@ -89,3 +90,27 @@ cases =
 pub all-right : map (λ (c : Case). c .is) cases ≡ map (λ (c : Case). c .should) cases
 unfolding cases schemaA schemaB meaning require longer _>>=_ digit varint unzigzag fixed tag lead followers behind char chars validPrefix kindWires ownWires wires wire shapes shape isScalar extend scalar goodEntry badEntry badSchema lookup unknownKind kindOf says saysOf content plain skipField skipGroup skipFieldForTag given shaped field used _followed-by_ element elements contents records fields read within refusedOr reading number place listed numbers
 all-right = refl
+
+-- ---- the numbers that the rules give to the names of specs/Names
+
+pub refusals-are :
+    endsEarly ∷ badVarint ∷ badTag ∷ noGroupOpen ∷ outOfRange ∷ notUtf8 ∷ tooDeep ∷ noRoom ∷ invalidSchema ∷ invalidList ∷ tooLarge ∷ outputShort ∷ []
+    ≡ 1 ∷ 2 ∷ 3 ∷ 4 ∷ 5 ∷ 6 ∷ 7 ∷ 8 ∷ 9 ∷ 10 ∷ 11 ∷ 12 ∷ []
+refusals-are = refl
+
+pub kinds-are :
+    doubleKind ∷ floatKind ∷ int64Kind ∷ uint64Kind ∷ int32Kind ∷ fixed64Kind ∷ fixed32Kind ∷ boolKind ∷ stringKind ∷ groupKind ∷ messageKind ∷ bytesKind
+    ∷ uint32Kind ∷ enumKind ∷ sfixed32Kind ∷ sfixed64Kind ∷ sint32Kind ∷ sint64Kind ∷ packedHead ∷ unknownVarint ∷ unknownFixed64 ∷ unknownBytes ∷ unknownFixed32 ∷ []
+    ≡ 1 ∷ 2 ∷ 3 ∷ 4 ∷ 5 ∷ 6 ∷ 7 ∷ 8 ∷ 9 ∷ 10 ∷ 11 ∷ 12 ∷ 13 ∷ 14 ∷ 15 ∷ 16 ∷ 17 ∷ 18 ∷ 20 ∷ 21 ∷ 22 ∷ 23 ∷ 24 ∷ []
+kinds-are = refl
+
+pub wires-are : varintWire ∷ fixed64Wire ∷ delimitedWire ∷ startGroupWire ∷ endGroupWire ∷ fixed32Wire ∷ [] ≡ 0 ∷ 1 ∷ 2 ∷ 3 ∷ 4 ∷ 5 ∷ []
+wires-are = refl
+
+pub limits-are : largestNumber ∷ mostTypes ∷ mostEntries ∷ mostLevels ∷ [] ≡ 536870911 ∷ 32 ∷ 256 ∷ 100 ∷ []
+limits-are = refl
+
+-- the largest size that may be read or written, and one more
+pub limit-is : limited 2147483647 ∷ limited 2147483648 ∷ [] ≡ Took 2147483647 0 ∷ No 11 ∷ []
+unfolding limited
+limit-is = refl

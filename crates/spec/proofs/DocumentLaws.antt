@@ -9,6 +9,7 @@ use lib.ListN.{length, take, drop, length-drop, take-append-drop}
 use lib.Seq.{drop-drop, drop-append-seam}
 use lib.Dec.{leb, ltb, eqb}
 use borrow.Author.Tests.{ltb-true, lt-ltb, eqb-true, eq-eqb, ne-eqb}
+use Rattle.spec.specs.Names.{endGroupWire, mostLevels, noGroupOpen, startGroupWire}
 use Rattle.spec.specs.Base.{if_then_else_, limit, Read, Took, No, longer, require}
 use Rattle.spec.specs.Varint.{tag, varint}
 use Rattle.spec.specs.Skip.{plain}
@@ -52,8 +53,8 @@ unfolding step
 goes-step o s none = stops
 goes-step o s (took {v = t} {n = n} h j) =
     let P : Step → Type 0 = Goes (length s) in
-    either P (eqb (t % 8) 3) (either P (ltb (length o) 100) (goes h j) stops)
-    (either P (eqb (t % 8) 4) (goes-closed o n (length s) h j)
+    either P (eqb (t % 8) startGroupWire) (either P (ltb (length o) mostLevels) (goes h j) stops)
+    (either P (eqb (t % 8) endGroupWire) (goes-closed o n (length s) h j)
     (goes-passed o h (takes-behind n (takes-weaker (omega arith) (omega (arith, length-drop n s)) (takes-plain (t % 8) (drop n s))) j)))
 
 goOn-cong : {most : ℕ} {x : Step} {p q : List ℕ → ℕ → Bool} → Goes most x → ((o : List ℕ) (n : ℕ) → 1 ≤ n → n ≤ most → p o n ≡ q o n) → goOn x p ≡ goOn x q
@@ -90,7 +91,7 @@ walk-step o (b ∷ s) t n e =
 -- bytes that end the open groups, one after the other, and then run on; k groups may still be opened
 data Rest : ℕ → List ℕ → List ℕ → Type 0 where
   here : {k : ℕ} {s : List ℕ} → Run k s → Rest k [] s
-  up : {k x m : ℕ} {o r e s : List ℕ} → Run k r → IsTag m 4 e → Rest (suc k) o s → Rest k (x ∷ o) (r ++ (e ++ s))
+  up : {k x m : ℕ} {o r e s : List ℕ} → Run k r → IsTag m endGroupWire e → Rest (suc k) o s → Rest k (x ∷ o) (r ++ (e ++ s))
 
 rest-field : {k n w : ℕ} {o a v s : List ℕ} → IsTag n w a → IsValue w v → Rest k o s → Rest k o (a ++ (v ++ s))
 rest-field t i (here r) = here (field t i r)
@@ -98,7 +99,7 @@ rest-field {k} {a = a} {v = v} t i (up {x = x} {o = o} {r = r} {e = e} {s = s} r
     subst (Rest k (x ∷ o)) (append-assoc a (v ++ r) (e ++ s) ∙ ap (λ (y : List ℕ). a ++ y) (append-assoc v r (e ++ s)))
     (up (field t i run) f rest)
 
-rest-group : {k n x : ℕ} {o a s : List ℕ} → IsTag n 3 a → Rest k (x ∷ o) s → Rest (suc k) o (a ++ s)
+rest-group : {k n x : ℕ} {o a s : List ℕ} → IsTag n startGroupWire a → Rest k (x ∷ o) s → Rest (suc k) o (a ++ s)
 rest-group t (up run f (here r)) = here (group t run f r)
 rest-group {k} {a = a} t (up {r = r} {e = e} run f (up {x = y} {o = o} {r = r′} {e = e′} {s = s} run′ f′ rest)) =
     subst (Rest (suc k) (y ∷ o))
@@ -106,7 +107,7 @@ rest-group {k} {a = a} t (up {r = r} {e = e} run f (up {x = y} {o = o} {r = r′
     ∙ ap (λ (z : List ℕ). a ++ z) (append-assoc r (e ++ r′) (e′ ++ s) ∙ ap (λ (z : List ℕ). r ++ z) (append-assoc e r′ (e′ ++ s))))
     (up (group t run f run′) f′ rest)
 
-rest-end : {k m x : ℕ} {o e s : List ℕ} → IsTag m 4 e → Rest (suc k) o s → Rest k (x ∷ o) (e ++ s)
+rest-end : {k m x : ℕ} {o e s : List ℕ} → IsTag m endGroupWire e → Rest (suc k) o s → Rest k (x ∷ o) (e ++ s)
 rest-end f rest = up empty f rest
 
 taken-tag : (s : List ℕ) (t n : ℕ) → tag s ≡ Took t n → (w : ℕ) → t % 8 ≡ w → IsTag (t / 8) w (take n s)
@@ -128,25 +129,25 @@ when P false f g p = g refl p
 rest-as : {k k′ : ℕ} {o s s′ : List ℕ} → k ≡ k′ → s ≡ s′ → Rest k o s → Rest k′ o s′
 rest-as {k} {k′} {o} {s} {s′} p q r = subst (λ (j : ℕ). Rest j o s′) p (subst (Rest k o) q r)
 
-nothing-left : (o : List ℕ) → isNil o ≡ true → Rest (100 - length o) o []
+nothing-left : (o : List ℕ) → isNil o ≡ true → Rest (mostLevels - length o) o []
 nothing-left [] e = here empty
 nothing-left (x ∷ o) e = absurd (false≢true e)
 
 -- one step of the walk over s, where the rest of it is known to be sound
 module _ (f : ℕ) (s : List ℕ) (enough : length s ≤ suc f)
-    (ih : (p u : List ℕ) → length u ≤ f → length p ≤ 100 → isRun f p u ≡ true → Rest (100 - length p) p u) where
+    (ih : (p u : List ℕ) → length u ≤ f → length p ≤ mostLevels → isRun f p u ≡ true → Rest (mostLevels - length p) p u) where
   abbrev next : List ℕ → ℕ → Bool
   next p n = isRun f p (drop n s)
 
-  sound-end : (o : List ℕ) (t n : ℕ) → 1 ≤ n → length o ≤ 100 → tag s ≡ Took t n → t % 8 ≡ 4 → goOn (closed o n) next ≡ true → Rest (100 - length o) o s
+  sound-end : (o : List ℕ) (t n : ℕ) → 1 ≤ n → length o ≤ mostLevels → tag s ≡ Took t n → t % 8 ≡ endGroupWire → goOn (closed o n) next ≡ true → Rest (mostLevels - length o) o s
   unfolding goOn closed
   sound-end [] t n h l e w k = absurd (false≢true k)
   sound-end (x ∷ o) t n h l e w k =
       rest-as refl (take-append-drop n s)
-      (rest-end (taken-tag s t n e 4 w) (rest-as (omega arith) refl (ih o (drop n s) (omega (arith, length-drop n s)) (omega arith) k)))
+      (rest-end (taken-tag s t n e endGroupWire w) (rest-as (omega arith) refl (ih o (drop n s) (omega (arith, length-drop n s)) (omega arith) k)))
 
-  sound-value : (o : List ℕ) (t n : ℕ) → 1 ≤ n → length o ≤ 100 → tag s ≡ Took t n → (r : Read) → plain (t % 8) (drop n s) ≡ r
-      → goOn (passed o (longer n r)) next ≡ true → Rest (100 - length o) o s
+  sound-value : (o : List ℕ) (t n : ℕ) → 1 ≤ n → length o ≤ mostLevels → tag s ≡ Took t n → (r : Read) → plain (t % 8) (drop n s) ≡ r
+      → goOn (passed o (longer n r)) next ≡ true → Rest (mostLevels - length o) o s
   unfolding goOn passed longer
   sound-value o t n h l e (No j) p k = absurd (false≢true k)
   sound-value o t n h l e (Took v m) p k =
@@ -155,21 +156,21 @@ module _ (f : ℕ) (s : List ℕ) (enough : length s ≤ suc f)
       (rest-field (taken-tag s t n e (t % 8) refl) (taken-value (t % 8) (drop n s) v m p)
       (ih o (drop (n + m) s) (omega (arith, length-drop (n + m) s)) l k))
 
-  sound-step : (o : List ℕ) → length o ≤ 100 → (r : Read) → tag s ≡ r → Takes 1 (length s) r → goOn (step o s r) next ≡ true → Rest (100 - length o) o s
+  sound-step : (o : List ℕ) → length o ≤ mostLevels → (r : Read) → tag s ≡ r → Takes 1 (length s) r → goOn (step o s r) next ≡ true → Rest (mostLevels - length o) o s
   unfolding goOn step
   sound-step o l (No j) e t k = absurd (false≢true k)
   sound-step o l (Took t n) e (took h j) k =
       let P : Step → Type 0 = λ x. goOn x next ≡ true in
-      when P (eqb (t % 8) 3)
-      (λ c. when P (ltb (length o) 100)
-      (λ d k. rest-as (omega (arith, ltb-true (length o) 100 d)) (take-append-drop n s)
-      (rest-group (taken-tag s t n e 3 (eqb-true (t % 8) 3 c)) (ih (t / 8 ∷ o) (drop n s) (omega (arith, length-drop n s)) (omega (arith, ltb-true (length o) 100 d)) k)))
+      when P (eqb (t % 8) startGroupWire)
+      (λ c. when P (ltb (length o) mostLevels)
+      (λ d k. rest-as (omega (arith, ltb-true (length o) mostLevels d)) (take-append-drop n s)
+      (rest-group (taken-tag s t n e startGroupWire (eqb-true (t % 8) startGroupWire c)) (ih (t / 8 ∷ o) (drop n s) (omega (arith, length-drop n s)) (omega (arith, ltb-true (length o) mostLevels d)) k)))
       (λ d k. absurd (false≢true k)))
-      (λ c. when P (eqb (t % 8) 4)
-      (λ d. sound-end o t n h l e (eqb-true (t % 8) 4 d))
+      (λ c. when P (eqb (t % 8) endGroupWire)
+      (λ d. sound-end o t n h l e (eqb-true (t % 8) endGroupWire d))
       (λ d. sound-value o t n h l e (plain (t % 8) (drop n s)) refl)) k
 
-sound : (f : ℕ) (o s : List ℕ) → length s ≤ f → length o ≤ 100 → isRun f o s ≡ true → Rest (100 - length o) o s
+sound : (f : ℕ) (o s : List ℕ) → length s ≤ f → length o ≤ mostLevels → isRun f o s ≡ true → Rest (mostLevels - length o) o s
 unfolding isRun
 sound zero o [] h l e = nothing-left o e
 sound zero o (b ∷ s) h l e = absurd (omega arith)
@@ -180,36 +181,36 @@ sound (suc f) o (b ∷ s) h l e =
 -- ---- a run is accepted
 
 module _ (o a x : List ℕ) where
-  pub step-start : (t n : ℕ) → t % 8 ≡ 3 → length o < 100 → step o x (Took t n) ≡ Go (t / 8 ∷ o) n
+  pub step-start : (t n : ℕ) → t % 8 ≡ startGroupWire → length o < mostLevels → step o x (Took t n) ≡ Go (t / 8 ∷ o) n
   unfolding step
-  step-start t n h l = simp (eq-eqb (t % 8) 3 h, lt-ltb (length o) 100 l)
+  step-start t n h l = simp (eq-eqb (t % 8) startGroupWire h, lt-ltb (length o) mostLevels l)
 
-  pub step-end : (y t n : ℕ) → t % 8 ≡ 4 → step (y ∷ o) x (Took t n) ≡ Go o n
+  pub step-end : (y t n : ℕ) → t % 8 ≡ endGroupWire → step (y ∷ o) x (Took t n) ≡ Go o n
   unfolding step closed
-  step-end y t n h = simp (ne-eqb (t % 8) 3 (λ q. omega arith), eq-eqb (t % 8) 4 h)
+  step-end y t n h = simp (ne-eqb (t % 8) startGroupWire (λ q. omega arith), eq-eqb (t % 8) endGroupWire h)
 
-  pub step-value : (t n : ℕ) → (t % 8 ≡ 3 → ⊥) → (t % 8 ≡ 4 → ⊥) → step o x (Took t n) ≡ passed o (longer n (plain (t % 8) (drop n x)))
+  pub step-value : (t n : ℕ) → (t % 8 ≡ startGroupWire → ⊥) → (t % 8 ≡ endGroupWire → ⊥) → step o x (Took t n) ≡ passed o (longer n (plain (t % 8) (drop n x)))
   unfolding step
-  step-value t n p q = simp (ne-eqb (t % 8) 3 p, ne-eqb (t % 8) 4 q)
+  step-value t n p q = simp (ne-eqb (t % 8) startGroupWire p, ne-eqb (t % 8) endGroupWire q)
 
 tag-front : {n w : ℕ} {a : List ℕ} (x : List ℕ) (i : IsTag n w a) → tag (a ++ x) ≡ Took (i .value) (length a)
 tag-front {a = a} x i = front tag again-tag (λ u. takes-weaker (omega arith) (omega arith) (takes-tag u)) a x (i .value) (i .reads)
 
-walk-start : {n : ℕ} {a : List ℕ} (o x : List ℕ) → IsTag n 3 a → length o < 100 → walk o (a ++ x) ≡ walk (n ∷ o) x
+walk-start : {n : ℕ} {a : List ℕ} (o x : List ℕ) → IsTag n startGroupWire a → length o < mostLevels → walk o (a ++ x) ≡ walk (n ∷ o) x
 unfolding goOn
 walk-start {n} {a} o x i l =
     walk-step o (a ++ x) (i .value) (length a) (tag-front x i)
     ∙ ap (λ (y : Step). goOn y (λ p m. walk p (drop m (a ++ x)))) (step-start o a (a ++ x) (i .value) (length a) (i .wire-is) l)
     ∙ ap₂ (λ (y : ℕ) (z : List ℕ). walk (y ∷ o) z) (i .number-is) (drop-append-seam a x)
 
-walk-end : {m : ℕ} {e : List ℕ} (y : ℕ) (o x : List ℕ) → IsTag m 4 e → walk (y ∷ o) (e ++ x) ≡ walk o x
+walk-end : {m : ℕ} {e : List ℕ} (y : ℕ) (o x : List ℕ) → IsTag m endGroupWire e → walk (y ∷ o) (e ++ x) ≡ walk o x
 unfolding goOn
 walk-end {m} {e} y o x i =
     walk-step (y ∷ o) (e ++ x) (i .value) (length e) (tag-front x i)
     ∙ ap (λ (z : Step). goOn z (λ p m. walk p (drop m (e ++ x)))) (step-end o e (e ++ x) y (i .value) (length e) (i .wire-is))
     ∙ ap (walk o) (drop-append-seam e x)
 
-no-value : {w : ℕ} {v : List ℕ} (g : ℕ) → IsValue w v → plain g v ≡ No 4 → w ≡ g → ⊥
+no-value : {w : ℕ} {v : List ℕ} (g : ℕ) → IsValue w v → plain g v ≡ No noGroupOpen → w ≡ g → ⊥
 no-value {w} {v} g i p q = let r : plain w v ≡ Took (i .value) (length v) = i .reads in let z : _≡_ {A = ℕ} 0 1 = cc in omega arith
 
 walk-field : {n w : ℕ} {a v : List ℕ} (o x : List ℕ) → IsTag n w a → IsValue w v → walk o (a ++ (v ++ x)) ≡ walk o x
@@ -221,11 +222,11 @@ walk-field {n} {w} {a} {v} o x i j =
     ap₂ plain (i .wire-is) (drop-append-seam a (v ++ x)) ∙ front (plain w) (again-plain w) (takes-plain w) v x (j .value) (j .reads) in
     walk-step o s t (length a) (tag-front (v ++ x) i)
     ∙ ap (λ (y : Step). goOn y (λ p m. walk p (drop m s)))
-    (step-value o a s t (length a) (λ q. no-value 3 j refl (sym (i .wire-is) ∙ q)) (λ q. no-value 4 j refl (sym (i .wire-is) ∙ q))
+    (step-value o a s t (length a) (λ q. no-value startGroupWire j refl (sym (i .wire-is) ∙ q)) (λ q. no-value endGroupWire j refl (sym (i .wire-is) ∙ q))
     ∙ ap (λ (r : Read). passed o (longer (length a) r)) reads)
     ∙ ap (walk o) (sym (drop-drop (length v) (length a) s) ∙ ap (drop (length v)) (drop-append-seam a (v ++ x)) ∙ drop-append-seam v x)
 
-complete : {k : ℕ} {s : List ℕ} → Run k s → (o u : List ℕ) → length o + k ≤ 100 → walk o (s ++ u) ≡ walk o u
+complete : {k : ℕ} {s : List ℕ} → Run k s → (o u : List ℕ) → length o + k ≤ mostLevels → walk o (s ++ u) ≡ walk o u
 complete empty o u h = refl
 complete (field {a = a} {v = v} {s = s} t i r) o u h =
     ap (walk o) (append-assoc a (v ++ s) u ∙ ap (λ (y : List ℕ). a ++ y) (append-assoc v s u))

@@ -8,6 +8,7 @@ use mathlib.Core.List.{List, _∷_}
 use lib.ListN.{length, drop}
 use lib.Dec.{leb, eqb}
 use borrow.Author.Tests.{leb-true, leb-false, le-leb, eq-eqb, ne-eqb}
+use Rattle.spec.specs.Names.{badVarint, delimitedWire, endGroupWire, endsEarly, fixed32Wire, fixed64Wire, messageKind, mostLevels, noGroupOpen, notUtf8, packedHead, startGroupWire, tooDeep, varintWire, groupEnd, groupStart, unknownBytes, unknownFixed32, unknownFixed64, unknownVarint}
 use Rattle.spec.specs.Base.{if_then_else_, part, Read, Took, No, longer, _>>=_, digit}
 use Rattle.spec.specs.Varint.{varint, varint32, varint64, fixed, tag}
 use Rattle.spec.specs.Utf8.{utf8}
@@ -42,20 +43,20 @@ scalar-wire (one sfixed32) h e = omega arith
 scalar-wire (one fixed64) h e = omega arith
 
 -- a repeated entry of a kind that is one number takes wire type 2 as packed too
-pub kind-packed : (e : Entry) → e .repeated ≡ true → isScalar (shape (e .kind)) ≡ true → kindOf e 2 ≡ 20
+pub kind-packed : (e : Entry) → e .repeated ≡ true → isScalar (shape (e .kind)) ≡ true → kindOf e delimitedWire ≡ packedHead
 unfolding kindOf
 kind-packed e r c = simp (ne-eqb 2 (wire (e .kind)) (λ w. scalar-wire (shape (e .kind)) c (w ∙ wire-shape (e .kind))), r, c)
 
 -- all else is unknown
-pub kind-unknown : (e : Entry) (w : ℕ) → (w ≡ wire (e .kind) → ⊥) → (e .repeated && isScalar (shape (e .kind)) && eqb w 2) ≡ false → kindOf e w ≡ unknownKind w
+pub kind-unknown : (e : Entry) (w : ℕ) → (w ≡ wire (e .kind) → ⊥) → (e .repeated && isScalar (shape (e .kind)) && eqb w delimitedWire) ≡ false → kindOf e w ≡ unknownKind w
 unfolding kindOf
 kind-unknown e w h p = simp (ne-eqb w (wire (e .kind)) h, p)
 
-pub kind-lacking : (e : Entry) (w : ℕ) → e .kind ≡ 0 → w ≤ 5 → kindOf e w ≡ unknownKind w
+pub kind-lacking : (e : Entry) (w : ℕ) → e .kind ≡ 0 → w ≤ fixed32Wire → kindOf e w ≡ unknownKind w
 unfolding wire wires shape shapes isScalar
 kind-lacking e w k h = kind-unknown e w (λ p. omega (arith, p ∙ ap wire k)) (go (e .repeated) _ (ap (λ (x : ℕ). isScalar (shape x)) k))
   where
-    go : (a b : Bool) → b ≡ false → (a && b && eqb w 2) ≡ false
+    go : (a b : Bool) → b ≡ false → (a && b && eqb w delimitedWire) ≡ false
     go a true p = absurd (false≢true (sym p))
     go true false p = refl
     go false false p = refl
@@ -73,12 +74,12 @@ given-no f e = ap (λ (r : Read). given r f) e
 
 module _ (depth inner m kind n : ℕ) (s : List ℕ) where
   -- a message head stands below depth 100, whatever is behind its tag
-  pub message-too-deep : 100 ≤ depth → shaped (other message) depth inner m kind n s ≡ Fault 7 0
+  pub message-too-deep : mostLevels ≤ depth → shaped (other message) depth inner m kind n s ≡ Fault tooDeep 0
   unfolding shaped
   message-too-deep h = if-so (leb _ depth) _ (λ e. omega (arith, leb-false _ depth e))
 
   -- the length of a message and of a packed field is a varint64; a packed field's head may stand at every depth
-  pub message-head : depth < 100 → shaped (other message) depth inner m kind n s ≡ given (content varint64 s) λ a z. Message m inner (n + a) (n + z)
+  pub message-head : depth < mostLevels → shaped (other message) depth inner m kind n s ≡ given (content varint64 s) λ a z. Message m inner (n + a) (n + z)
   unfolding shaped
   message-head h = if-not (leb _ depth) _ (λ e. omega (arith, leb-true _ depth e))
 
@@ -87,7 +88,7 @@ module _ (depth inner m kind n : ℕ) (s : List ℕ) where
   packed-head = refl
 
   -- that of a string and of bytes, which an unknown content is too, is a varint32; only a string is checked
-  pub string-value : shaped (other string) depth inner m kind n s ≡ given (content varint32 s) λ a z. if utf8 (part a z s) then Value m kind 0 (n + a) (n + z) else Fault 6 0
+  pub string-value : shaped (other string) depth inner m kind n s ≡ given (content varint32 s) λ a z. if utf8 (part a z s) then Value m kind 0 (n + a) (n + z) else Fault notUtf8 0
   unfolding shaped
   string-value = refl
 
@@ -104,21 +105,21 @@ module _ (s : List ℕ) where
   unfolding content varint digit longer _>>=_
   six-64 = simp (le-leb 6 (length (zeroInSix s)) (omega arith))
 
-  six-32 : content varint32 (zeroInSix s) ≡ No 2
+  six-32 : content varint32 (zeroInSix s) ≡ No badVarint
   unfolding content varint digit longer _>>=_
   six-32 = refl
 
   module _ (depth inner m kind n : ℕ) where
-    pub message-six : depth < 100 → shaped (other message) depth inner m kind n (zeroInSix s) ≡ Message m inner (n + 6) (n + 6)
+    pub message-six : depth < mostLevels → shaped (other message) depth inner m kind n (zeroInSix s) ≡ Message m inner (n + 6) (n + 6)
     message-six h = message-head depth inner m kind n (zeroInSix s) h ∙ given-took _ six-64
 
     pub packed-six : shaped (other packed) depth inner m kind n (zeroInSix s) ≡ Packed m inner (n + 6) (n + 6)
     packed-six = packed-head depth inner m kind n (zeroInSix s) ∙ given-took _ six-64
 
-    pub string-six : shaped (other string) depth inner m kind n (zeroInSix s) ≡ Fault 2 0
+    pub string-six : shaped (other string) depth inner m kind n (zeroInSix s) ≡ Fault badVarint 0
     string-six = string-value depth inner m kind n (zeroInSix s) ∙ given-no _ six-32
 
-    pub bytes-six : shaped (other bytes) depth inner m kind n (zeroInSix s) ≡ Fault 2 0
+    pub bytes-six : shaped (other bytes) depth inner m kind n (zeroInSix s) ≡ Fault badVarint 0
     bytes-six = bytes-value depth inner m kind n (zeroInSix s) ∙ given-no _ six-32
 
 -- ---- the field at the front of some bytes, by its tag
@@ -140,24 +141,24 @@ module _ (sch : Schema) (depth type : ℕ) (s : List ℕ) (t n : ℕ) (reads : t
   typed-field w = field-kind (e .kind) (kind-typed e (t % 8) w)
 
   -- a message head at depth 100 is refused 7, whatever follows its tag
-  message-kind : e .kind ≡ 11 → t % 8 ≡ 2 → kindOf e (t % 8) ≡ 11
+  message-kind : e .kind ≡ messageKind → t % 8 ≡ delimitedWire → kindOf e (t % 8) ≡ messageKind
   unfolding wire wires
   message-kind k w = kind-typed e (t % 8) (w ∙ ap wire (sym k)) ∙ k
 
-  pub message-refused : e .kind ≡ 11 → t % 8 ≡ 2 → 100 ≤ depth → field (says sch) depth type s ≡ Fault 7 0
+  pub message-refused : e .kind ≡ messageKind → t % 8 ≡ delimitedWire → mostLevels ≤ depth → field (says sch) depth type s ≡ Fault tooDeep 0
   unfolding shape shapes
-  message-refused k w h = field-kind 11 (message-kind k w) ∙ message-too-deep depth (e .child) (t / 8) 11 n (drop n s) h
+  message-refused k w h = field-kind messageKind (message-kind k w) ∙ message-too-deep depth (e .child) (t / 8) messageKind n (drop n s) h
 
-  pub message-field : e .kind ≡ 11 → t % 8 ≡ 2 → depth < 100
+  pub message-field : e .kind ≡ messageKind → t % 8 ≡ delimitedWire → depth < mostLevels
       → field (says sch) depth type s ≡ given (content varint64 (drop n s)) λ a z. Message (t / 8) (e .child) (n + a) (n + z)
   unfolding shape shapes
-  message-field k w h = field-kind 11 (message-kind k w) ∙ message-head depth (e .child) (t / 8) 11 n (drop n s) h
+  message-field k w h = field-kind messageKind (message-kind k w) ∙ message-head depth (e .child) (t / 8) messageKind n (drop n s) h
 
   -- a packed head may stand at every depth
-  pub packed-field : e .repeated ≡ true → isScalar (shape (e .kind)) ≡ true → t % 8 ≡ 2
+  pub packed-field : e .repeated ≡ true → isScalar (shape (e .kind)) ≡ true → t % 8 ≡ delimitedWire
       → field (says sch) depth type s ≡ given (content varint64 (drop n s)) λ a z. Packed (t / 8) (e .kind) (n + a) (n + z)
   unfolding shape shapes
-  packed-field r c w = field-kind 20 (ap (kindOf e) w ∙ kind-packed e r c) ∙ packed-head depth (e .kind) (t / 8) 20 n (drop n s)
+  packed-field r c w = field-kind packedHead (ap (kindOf e) w ∙ kind-packed e r c) ∙ packed-head depth (e .kind) (t / 8) packedHead n (drop n s)
 
   -- ---- an unknown field, by its wire type: it has no entry, or one that `kind-unknown` says
 
@@ -169,46 +170,46 @@ module _ (sch : Schema) (depth type : ℕ) (s : List ℕ) (t n : ℕ) (reads : t
     unknown-is w h = unknown ∙ ap unknownKind h
 
     -- a varint as it stands: zigzag is not undone
-    pub unknown-varint : t % 8 ≡ 0 → field (says sch) depth type s ≡ given (varint64 (drop n s)) λ v l. Value (t / 8) 21 v n (n + l)
+    pub unknown-varint : t % 8 ≡ varintWire → field (says sch) depth type s ≡ given (varint64 (drop n s)) λ v l. Value (t / 8) unknownVarint v n (n + l)
     unfolding unknownKind shape shapes shaped scalar
-    unknown-varint w = field-kind 21 (unknown-is 0 w)
+    unknown-varint w = field-kind unknownVarint (unknown-is varintWire w)
 
-    pub unknown-fixed64 : t % 8 ≡ 1 → field (says sch) depth type s ≡ given (fixed 8 (drop n s)) λ v l. Value (t / 8) 22 v n (n + l)
+    pub unknown-fixed64 : t % 8 ≡ fixed64Wire → field (says sch) depth type s ≡ given (fixed 8 (drop n s)) λ v l. Value (t / 8) unknownFixed64 v n (n + l)
     unfolding unknownKind shape shapes shaped scalar
-    unknown-fixed64 w = field-kind 22 (unknown-is 1 w)
+    unknown-fixed64 w = field-kind unknownFixed64 (unknown-is fixed64Wire w)
 
     -- a content as it stands: it is not checked for UTF-8
-    pub unknown-bytes : t % 8 ≡ 2 → field (says sch) depth type s ≡ given (content varint32 (drop n s)) λ a z. Value (t / 8) 23 0 (n + a) (n + z)
+    pub unknown-bytes : t % 8 ≡ delimitedWire → field (says sch) depth type s ≡ given (content varint32 (drop n s)) λ a z. Value (t / 8) unknownBytes 0 (n + a) (n + z)
     unfolding unknownKind shape shapes shaped
-    unknown-bytes w = field-kind 23 (unknown-is 2 w)
+    unknown-bytes w = field-kind unknownBytes (unknown-is delimitedWire w)
 
-    pub unknown-fixed32 : t % 8 ≡ 5 → field (says sch) depth type s ≡ given (fixed 4 (drop n s)) λ v l. Value (t / 8) 24 v n (n + l)
+    pub unknown-fixed32 : t % 8 ≡ fixed32Wire → field (says sch) depth type s ≡ given (fixed 4 (drop n s)) λ v l. Value (t / 8) unknownFixed32 v n (n + l)
     unfolding unknownKind shape shapes shaped scalar
-    unknown-fixed32 w = field-kind 24 (unknown-is 5 w)
+    unknown-fixed32 w = field-kind unknownFixed32 (unknown-is fixed32Wire w)
 
-    pub unknown-end : t % 8 ≡ 4 → field (says sch) depth type s ≡ Fault 4 0
+    pub unknown-end : t % 8 ≡ endGroupWire → field (says sch) depth type s ≡ Fault noGroupOpen 0
     unfolding unknownKind shape shapes shaped
-    unknown-end w = field-kind 26 (unknown-is 4 w)
+    unknown-end w = field-kind groupEnd (unknown-is endGroupWire w)
 
-    pub unknown-group : t % 8 ≡ 3 → field (says sch) depth type s ≡ given (outerGroup depth (drop n s)) λ v l. Dropped (t / 8) (n + l)
+    pub unknown-group : t % 8 ≡ startGroupWire → field (says sch) depth type s ≡ given (outerGroup depth (drop n s)) λ v l. Dropped (t / 8) (n + l)
     unfolding unknownKind shape shapes shaped
-    unknown-group w = field-kind 25 (unknown-is 3 w)
+    unknown-group w = field-kind groupStart (unknown-is startGroupWire w)
 
     -- The outermost group is not counted: an empty one is taken at every depth, and so at 100, where one more in it is refused 7.
-    pub group-dropped : (u m : ℕ) → t % 8 ≡ 3 → tag (drop n s) ≡ Took u m → u % 8 ≡ 4 → field (says sch) depth type s ≡ Dropped (t / 8) (n + m)
-    group-dropped u m w r c = unknown-group w ∙ given-took _ (group-closes (No 1) depth (drop n s) u m r c)
+    pub group-dropped : (u m : ℕ) → t % 8 ≡ startGroupWire → tag (drop n s) ≡ Took u m → u % 8 ≡ endGroupWire → field (says sch) depth type s ≡ Dropped (t / 8) (n + m)
+    group-dropped u m w r c = unknown-group w ∙ given-took _ (group-closes (No endsEarly) depth (drop n s) u m r c)
 
-    pub group-in-group : (u m : ℕ) → t % 8 ≡ 3 → tag (drop n s) ≡ Took u m → u % 8 ≡ 3 → 100 ≤ depth → field (says sch) depth type s ≡ Fault 7 0
+    pub group-in-group : (u m : ℕ) → t % 8 ≡ startGroupWire → tag (drop n s) ≡ Took u m → u % 8 ≡ startGroupWire → mostLevels ≤ depth → field (says sch) depth type s ≡ Fault tooDeep 0
     group-in-group u m w r c h =
         unknown-group w
-        ∙ given-no _ (group-field-refused (No 1) depth (drop n s) u m 7 r (λ x. omega arith)
+        ∙ given-no _ (group-field-refused (No endsEarly) depth (drop n s) u m tooDeep r (λ x. omega arith)
         (ap (λ (x : ℕ). skipField innerGroup depth x (drop m (drop n s))) c ∙ group-too-deep innerGroup depth (drop m (drop n s)) h))
 
 -- ---- the records of a packed field: its elements stand one deeper than the head, and with none there is no head
 
 module _ (inner : ℕ → ℕ → List ℕ → Reading) (depth at : ℕ) (s : List ℕ) (m kind a z : ℕ) where
   pub packed-records : a < z → records inner depth at s (Packed m kind a z)
-      ≡ row depth m 20 0 (at + a) (at + z) at then contents (shape kind) (depth + 1) m kind at (at + a) (part a z s)
+      ≡ row depth m packedHead 0 (at + a) (at + z) at then contents (shape kind) (depth + 1) m kind at (at + a) (part a z s)
   unfolding records
   packed-records h = simp (ne-eqb a z (λ e. omega arith))
 

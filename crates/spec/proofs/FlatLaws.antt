@@ -8,6 +8,7 @@ use mathlib.Core.List.{List, [], _∷_, _++_, map}
 use lib.ListN.{length, take, drop, length-map, length-drop}
 use lib.Dec.{leb, ltb, eqb}
 use borrow.Author.Tests.{lt-ltb, le-ltb}
+use Rattle.spec.specs.Names.{invalidList, messageKind, mostLevels, notUtf8, packedHead, stringKind, tooDeep}
 use Rattle.spec.specs.Base.{if_then_else_, part}
 use Rattle.spec.specs.Utf8.{utf8}
 use Rattle.spec.specs.Kind.{Shape, one, other, string, bytes, message, packed, startGroup, endGroup, nothing, shape}
@@ -96,7 +97,7 @@ bytes-untagged (suc k) tags payload [] = refl
 bytes-untagged (suc k) tags payload (r ∷ rs) =
     let n : ℕ = deeper (r .depth) rs in
     let x : Shape = shape (r .kind) in
-    let inTags : Bool = not (eqb (r .kind) 20) in
+    let inTags : Bool = not (eqb (r .kind) packedHead) in
     ap₂ (λ (m : ℕ) (t : List ℕ). t ++ body x payload (untagged r) (bytesOf k inTags payload (take m (map untagged rs))) ++ bytesOf k tags payload (drop m (map untagged rs)))
     (deeper-untagged (r .depth) rs) (tag-untagged tags r)
     ∙ ap₂ (λ (a b : List Record). tagOf tags r ++ body x payload (untagged r) (bytesOf k inTags payload a) ++ bytesOf k tags payload b) (take-map n rs) (drop-map n rs)
@@ -134,8 +135,8 @@ module _ (sch : Schema) (payload : List ℕ) where
   unfolding recordFault
   fault-untagged [] r rs = refl
   fault-untagged (here ∷ out) r rs =
-      let late : ℕ = if eqb (r .kind) 11 && leb 100 (r .depth) then 7 else if eqb (r .kind) 9 && not (utf8 (part (r .start) (r .stop) payload)) then 6 else 0 in
-      let test : Bool → Bool → Bool → ℕ = λ a b c. if not a then 10 else if not b then 10 else if eqb (r .kind) 20 && not c then 10 else late in
+      let late : ℕ = if eqb (r .kind) messageKind && leb mostLevels (r .depth) then tooDeep else if eqb (r .kind) stringKind && not (utf8 (part (r .start) (r .stop) payload)) then notUtf8 else 0 in
+      let test : Bool → Bool → Bool → ℕ = λ a b c. if not a then invalidList else if not b then invalidList else if eqb (r .kind) packedHead && not c then invalidList else late in
       ap₂ (λ (a b : Bool). test a b (nextDeeper (untagged r) (map untagged rs))) (expected-untagged here r) (fitting-untagged (shape (r .kind)) r)
       ∙ ap (test (expected sch here r) (fitting (shape (r .kind)) payload r)) (next-untagged r rs)
 

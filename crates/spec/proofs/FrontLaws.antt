@@ -10,6 +10,7 @@ use lib.ListN.{length, take, drop, length-append, length-take, length-drop, drop
 use lib.Seq.{take-add, length-take-le, take-length, take-append-le, drop-append-le, drop-at, drop-drop}
 use lib.Dec.{leb, ltb, eqb}
 use borrow.Author.Tests.{leb-true, le-leb}
+use Rattle.spec.specs.Names.{badVarint, delimitedWire, endGroupWire, endsEarly, fixed32Wire, fixed64Wire, mostLevels, noGroupOpen, notUtf8, startGroupWire, tooDeep, varintWire}
 use Rattle.spec.specs.Base.{if_then_else_, part, Read, Took, No, refusal, meaning, require, longer, _>>=_, digit}
 use Rattle.spec.specs.Varint.{varint, fixed, tag, varint32, varint64}
 use Rattle.spec.specs.Utf8.{utf8}
@@ -50,7 +51,7 @@ pub again-varint : (k last : ℕ) (s u : List ℕ) → Again (varint k last) s u
 unfolding varint digit
 again-varint k last [] u = not-read
 again-varint zero last (b ∷ s) u =
-    chosen (Again (varint zero last) (b ∷ s) u) (leb b last) (λ t. again (ap (λ (c : Bool). if c then Took b 1 else No 2) t)) (λ t. not-read)
+    chosen (Again (varint zero last) (b ∷ s) u) (leb b last) (λ t. again (ap (λ (c : Bool). if c then Took b 1 else No badVarint) t)) (λ t. not-read)
 again-varint (suc k) last (b ∷ s) u =
     chosen (Again (varint (suc k) last) (b ∷ s) u) (ltb b 128)
     (λ t. again (ap (λ (c : Bool). if c then Took b 1 else digit 128 (b % 128) (varint k last u)) t))
@@ -100,7 +101,7 @@ unfolding content _>>=_ longer
 content-found k last s = go (varint k last s) (λ t. again-varint k last s t)
   where
     go : (r : Read) → ((t : List ℕ) → Again (varint k last) s t r)
-        → Found (content (varint k last)) s (r >>= λ m n. if leb (n + m) (length s) then Took n m else No 1)
+        → Found (content (varint k last)) s (r >>= λ m n. if leb (n + m) (length s) then Took n m else No endsEarly)
     go (No j) f = not-found
     go (Took m n) f =
         chosen (λ (x : Read). Found (content (varint k last)) s (longer n x)) (leb (n + m) (length s))
@@ -108,8 +109,8 @@ content-found k last s = go (varint k last s) (λ t. again-varint k last s t)
         let h : n + m ≤ length s = leb-true (n + m) (length s) t in
         found h λ y l.
         let x : List ℕ = take n s ++ y in
-        ap (λ (r : Read). r >>= λ m n. if leb (n + m) (length x) then Took n m else No 1) (again-read (f y))
-        ∙ ap (λ (c : Bool). longer n (if c then Took n m else No 1))
+        ap (λ (r : Read). r >>= λ m n. if leb (n + m) (length x) then Took n m else No endsEarly) (again-read (f y))
+        ∙ ap (λ (c : Bool). longer n (if c then Took n m else No endsEarly))
         (le-leb (n + m) (length x) (omega (arith, length-append (take n s) y, length-take-le n s (omega arith)))))
         (λ t. not-found)
 
@@ -125,10 +126,10 @@ again-content k last s u = again-found _ s u (content-found k last s)
 pub again-plain : (w : ℕ) (s u : List ℕ) → Again (plain w) s u (plain w s)
 unfolding plain
 again-plain w s u =
-    again-choice s u (eqb w 0) varint64 _ (again-varint _ _ s u)
-    (again-choice s u (eqb w 1) (fixed 8) _ (again-fixed _ s u)
-    (again-choice s u (eqb w 2) (content varint32) _ (again-content _ _ s u)
-    (again-choice s u (eqb w 5) (fixed 4) (λ x. No 4) (again-fixed _ s u) not-read)))
+    again-choice s u (eqb w varintWire) varint64 _ (again-varint _ _ s u)
+    (again-choice s u (eqb w fixed64Wire) (fixed 8) _ (again-fixed _ s u)
+    (again-choice s u (eqb w delimitedWire) (content varint32) _ (again-content _ _ s u)
+    (again-choice s u (eqb w fixed32Wire) (fixed 4) (λ x. No noGroupOpen) (again-fixed _ s u) not-read)))
 
 -- ---- groups
 
@@ -144,7 +145,7 @@ abbrev inGroup : Read → ℕ → List ℕ → Read
 inGroup atEnd level s = skipGroup (length s) atEnd level s
 
 abbrev behindTag : Read → (level t : ℕ) → List ℕ → Read
-behindTag atEnd level t s = if eqb (t % 8) 4 then Took 0 0 else (skipField innerGroup level (t % 8) s >>= λ v m. inGroup atEnd level (drop m s))
+behindTag atEnd level t s = if eqb (t % 8) endGroupWire then Took 0 0 else (skipField innerGroup level (t % 8) s >>= λ v m. inGroup atEnd level (drop m s))
 
 inGroup-step : (atEnd : Read) (level : ℕ) (s : List ℕ) → 1 ≤ length s
     → inGroup atEnd level s ≡ (tag s >>= λ t n. behindTag atEnd level t (drop n s))
@@ -197,7 +198,7 @@ closed-field : (level w : ℕ) (s : List ℕ) → Closed (Took 0 0) (innerGroup 
     → Closed (Took 0 0) (skipField innerGroup level w) s (skipField innerGroup level w s)
 unfolding skipField
 closed-field level w s f =
-    closed-choice (Took 0 0) s (eqb w 3) _ _ (closed-choice (Took 0 0) s (leb 100 level) (λ x. No 7) _ not-closed f)
+    closed-choice (Took 0 0) s (eqb w startGroupWire) _ _ (closed-choice (Took 0 0) s (leb mostLevels level) (λ x. No tooDeep) _ not-closed f)
     (closed-again (Took 0 0) (plain w s) (again-plain w s))
 
 takes-field : (level w : ℕ) (s : List ℕ) → Takes 0 (length s) (skipField innerGroup level w s)
@@ -220,7 +221,7 @@ closed-tag s some shorter atEnd level = rw (inGroup-step atEnd level s some) (go
         (λ y. inGroup-step atEnd level (take n s ++ y) (omega (arith, length-append (take n s) y, length-take-le n s j))
         ∙ ap (λ (r : Read). r >>= λ t i. behindTag atEnd level t (drop i (take n s ++ y))) (again-read (f y))
         ∙ ap (λ (x : List ℕ). longer n (behindTag atEnd level t x)) (drop-at (take n s) y n (length-take-le n s j)))
-        (closed-choice atEnd rest (eqb (t % 8) 4) (λ x. Took 0 0) _ (by-tag λ u. refl)
+        (closed-choice atEnd rest (eqb (t % 8) endGroupWire) (λ x. Took 0 0) _ (by-tag λ u. refl)
         (closed-next atEnd (skipField innerGroup level (t % 8)) level rest (takes-field level (t % 8) rest)
         (closed-field level (t % 8) rest (shorter rest less (Took 0 0) (level + 1)))
         (λ m. shorter (drop m rest) (omega (arith, length-drop m rest)) atEnd level)))
@@ -239,9 +240,9 @@ group-closed atEnd level s = closed-upTo (length s) s (omega arith) atEnd level
 
 pub again-outerGroup : (level : ℕ) (s u : List ℕ) → Again (outerGroup level) s u (outerGroup level s)
 unfolding refusal
-again-outerGroup level s u = go (group-closed (No 1) level s)
+again-outerGroup level s u = go (group-closed (No endsEarly) level s)
   where
-    go : {r : Read} → Closed (No 1) (outerGroup level) s r → Again (outerGroup level) s u r
+    go : {r : Read} → Closed (No endsEarly) (outerGroup level) s r → Again (outerGroup level) s u r
     go (by-tag e) = again (e u)
     go (by-end e h) = absurd (omega arith)
     go not-closed = not-read
@@ -287,13 +288,13 @@ module _ (n : ℕ) (s u : List ℕ) where
   kept-given p f h not-read = faulty
 
   kept-string : (p : List ℕ → Read) (good : List ℕ → Bool) (f : ℕ → ℕ → Field) → ((a z : ℕ) → used (f a z) ≡ n + z) → {r : Read} → Found p s r
-      → Kept n (λ x. given (p x) λ a z. if good (part a z x) then f a z else Fault 6 0) s u (given r λ a z. if good (part a z s) then f a z else Fault 6 0)
+      → Kept n (λ x. given (p x) λ a z. if good (part a z x) then f a z else Fault notUtf8 0) s u (given r λ a z. if good (part a z s) then f a z else Fault notUtf8 0)
   unfolding given
   kept-string p good f h (found {a} {m} j reads) =
       chosen (Kept n _ s u) (good (part a (a + m) s))
       (λ t. kept (a + m) (h a (a + m))
-      (ap (λ (r : Read). given r λ b z. if good (part b z (take (a + m) s ++ u)) then f b z else Fault 6 0) (again-read (again-found p s u (found {a = a} {m = m} j reads)))
-      ∙ ap (λ (b : Bool). if b then f a (a + m) else Fault 6 0) (ap good (part-front a (a + m) (a + m) s u (omega arith) (omega arith) j) ∙ t)))
+      (ap (λ (r : Read). given r λ b z. if good (part b z (take (a + m) s ++ u)) then f b z else Fault notUtf8 0) (again-read (again-found p s u (found {a = a} {m = m} j reads)))
+      ∙ ap (λ (b : Bool). if b then f a (a + m) else Fault notUtf8 0) (ap good (part-front a (a + m) (a + m) s u (omega arith) (omega arith) j) ∙ t)))
       (λ t. faulty)
   kept-string p good f h not-found = faulty
 
@@ -319,7 +320,7 @@ shaped-kept (one c) depth inner m kind n s u = kept-given n s u _ _ (λ v l. ref
 shaped-kept (other string) depth inner m kind n s u = kept-string n s u _ utf8 _ (λ a z. refl) (content-found _ _ s)
 shaped-kept (other bytes) depth inner m kind n s u = kept-given n s u _ _ (λ a z. refl) (again-content _ _ s u)
 shaped-kept (other message) depth inner m kind n s u =
-    lower-or-not depth 100
+    lower-or-not depth mostLevels
     (λ c. kept-same n s u _ _ (λ x. message-head depth inner m kind n x c) (kept-given n s u _ _ (λ a z. refl) (again-content _ _ s u)))
     (λ c. subst (Kept n _ s u) (sym (message-too-deep depth inner m kind n s c)) faulty)
 shaped-kept (other packed) depth inner m kind n s u = kept-given n s u _ _ (λ a z. refl) (again-content _ _ s u)
@@ -372,7 +373,7 @@ shaped-of (one c) depth inner m k n s = of-given _ _ λ v l. of-value
 shaped-of (other string) depth inner m k n s = of-given _ _ λ a z. either-way (Of k) (utf8 (part a z s)) of-value of-fault
 shaped-of (other bytes) depth inner m k n s = of-given _ _ λ a z. of-value
 shaped-of (other message) depth inner m k n s =
-    lower-or-not depth 100
+    lower-or-not depth mostLevels
     (λ c. subst (Of k) (sym (message-head depth inner m k n s c)) (of-given _ _ λ a z. of-message))
     (λ c. subst (Of k) (sym (message-too-deep depth inner m k n s c)) of-fault)
 shaped-of (other packed) depth inner m k n s = of-given _ _ λ a z. of-packed

@@ -8,6 +8,7 @@ use mathlib.Core.List.{List, _++_, map}
 use lib.ListN.{length, getD, List·getD-map}
 use lib.Dec.{leb, ltb}
 use borrow.Author.Tests.{lt-ltb, le-ltb, ltb-true, leb-true}
+use Rattle.spec.specs.Names.{outOfRange, endGroupWire, fixed32Wire, noWire, startGroupWire}
 use Rattle.spec.specs.Base.{if_then_else_, Took, No, meaning, require}
 use Rattle.spec.specs.Varint.{varint64, varint32, encode, zigzag, unzigzag}
 use Rattle.spec.specs.Kind.{Scalar, int32, uint32, uint64, bool, sint32, sint64, fixed32, sfixed32, fixed64, Shape, one, other, string, bytes, message, packed, startGroup, endGroup, nothing, wires, wire, shapes, shape, signed32, extend, scalar, encoded, fits}
@@ -54,7 +55,7 @@ read32 v s h = varint-shortest 4 9 15 v s (omega arith) (omega arith) h
 pub scalar-encoded : (c : Scalar) (v : ℕ) (s : List ℕ) → fits c v ≡ true → scalar c (encoded c v ++ s) ≡ Took v (length (encoded c v))
 unfolding scalar encoded fits meaning require
 scalar-encoded int32 v s h =
-    ap (require 5 signed32) (read64 v s (signed-below (signed-of v h))) ∙ ap (λ (b : Bool). if b then Took v (length (encode v)) else No 5) h
+    ap (require outOfRange signed32) (read64 v s (signed-below (signed-of v h))) ∙ ap (λ (b : Bool). if b then Took v (length (encode v)) else No outOfRange) h
 scalar-encoded uint32 v s h = read32 v s (ltb-true v (2 ^ 32) h)
 scalar-encoded uint64 v s h = read64 v s (ltb-true v (2 ^ 64) h)
 scalar-encoded bool v s h =
@@ -79,8 +80,8 @@ wireOne uint64 = 0
 wireOne bool = 0
 wireOne sint32 = 0
 wireOne sint64 = 0
-wireOne fixed32 = 5
-wireOne sfixed32 = 5
+wireOne fixed32 = fixed32Wire
+wireOne sfixed32 = fixed32Wire
 wireOne fixed64 = 1
 
 unfoldable pub wireOf : Shape → ℕ
@@ -89,9 +90,9 @@ wireOf (other string) = 2
 wireOf (other bytes) = 2
 wireOf (other message) = 2
 wireOf (other packed) = 2
-wireOf (other startGroup) = 3
-wireOf (other endGroup) = 4
-wireOf (other nothing) = 7
+wireOf (other startGroup) = startGroupWire
+wireOf (other endGroup) = endGroupWire
+wireOf (other nothing) = noWire
 
 tables : map wireOf shapes ≡ wires
 unfolding wires shapes wireOf wireOne
@@ -99,4 +100,4 @@ tables = refl
 
 pub wire-shape : (k : ℕ) → wire k ≡ wireOf (shape k)
 unfolding wire shape wireOf
-wire-shape k = ap (λ (ws : List ℕ). getD ws k 7) (sym tables) ∙ List·getD-map wireOf shapes k (other nothing)
+wire-shape k = ap (λ (ws : List ℕ). getD ws k noWire) (sym tables) ∙ List·getD-map wireOf shapes k (other nothing)

@@ -9,7 +9,8 @@ use lib.ListN.{length, take, drop, getD, length-append}
 use lib.Seq.{take-append-seam, drop-append-seam}
 use lib.Dec.{leb, eqb}
 use borrow.Author.Tests.{leb-true, leb-false, eqb-true, lt-ltb, le-ltb, eq-eqb}
-use Rattle.spec.specs.Base.{if_then_else_, between, part}
+use Rattle.spec.specs.Names.{fixed32Wire, largestNumber, messageKind, mostLevels, packedHead, stringKind, delimitedWire, invalidList, sint64Kind, unknownBytes}
+use Rattle.spec.specs.Base.{if_then_else_, between, part, limit}
 use Rattle.spec.specs.Utf8.{utf8}
 use Rattle.spec.specs.Kind.{Scalar, Shape, Special, one, other, string, bytes, message, packed, startGroup, endGroup, nothing, shapes, shape, wire, isScalar, encoded, fits}
 use mathlib.Core.Option.{none}
@@ -87,17 +88,17 @@ isString startGroup = false
 isString endGroup = false
 isString nothing = false
 
-pub kind-9 : (k : ℕ) → shape k ≡ other string → k ≡ 9
+pub is-string-kind : (k : ℕ) → shape k ≡ other string → k ≡ stringKind
 unfolding shape only isSpecial isString
-kind-9 k e = omega (arith, only-at (isSpecial isString) 9 refl shapes 0 k refl (ap (isSpecial isString) e))
+is-string-kind k e = omega (arith, only-at (isSpecial isString) stringKind refl shapes 0 k refl (ap (isSpecial isString) e))
 
-pub kind-11 : (k : ℕ) → shape k ≡ other message → k ≡ 11
+pub is-message-kind : (k : ℕ) → shape k ≡ other message → k ≡ messageKind
 unfolding shape only isSpecial isMessage
-kind-11 k e = omega (arith, only-at (isSpecial isMessage) 11 refl shapes 0 k refl (ap (isSpecial isMessage) e))
+is-message-kind k e = omega (arith, only-at (isSpecial isMessage) messageKind refl shapes 0 k refl (ap (isSpecial isMessage) e))
 
-pub kind-20 : (k : ℕ) → shape k ≡ other packed → k ≡ 20
+pub is-packed-head : (k : ℕ) → shape k ≡ other packed → k ≡ packedHead
 unfolding shape only isSpecial isPacked
-kind-20 k e = omega (arith, only-at (isSpecial isPacked) 20 refl shapes 0 k refl (ap (isSpecial isPacked) e))
+is-packed-head k e = omega (arith, only-at (isSpecial isPacked) packedHead refl shapes 0 k refl (ap (isSpecial isPacked) e))
 
 -- ---- depths
 
@@ -132,11 +133,11 @@ deeper-run d ys (over-cons {r} {rs} h a) l =
 -- the bytes of a record, of those in it and of those behind it
 pub bytes-run : (tags : Bool) (payload : List ℕ) (r : Record) (xs ys : List Record) → Over (r .depth + 1) xs → Low (r .depth + 1) ys
     → bytesIn tags payload (r ∷ (xs ++ ys))
-    ≡ tagOf tags r ++ body (shape (r .kind)) payload r (bytesIn (not (eqb (r .kind) 20)) payload xs) ++ bytesIn tags payload ys
+    ≡ tagOf tags r ++ body (shape (r .kind)) payload r (bytesIn (not (eqb (r .kind) packedHead)) payload xs) ++ bytesIn tags payload ys
 bytes-run tags payload r xs ys o l =
     let n : deeper (r .depth) (xs ++ ys) ≡ length xs = deeper-run (r .depth) ys o l in
     bytes-cons tags payload r (xs ++ ys)
-    ∙ ap₂ (λ (x y : List Record). tagOf tags r ++ body (shape (r .kind)) payload r (bytesIn (not (eqb (r .kind) 20)) payload x) ++ bytesIn tags payload y)
+    ∙ ap₂ (λ (x y : List Record). tagOf tags r ++ body (shape (r .kind)) payload r (bytesIn (not (eqb (r .kind) packedHead)) payload x) ++ bytesIn tags payload y)
     (ap (λ (k : ℕ). take k (xs ++ ys)) n ∙ take-append-seam xs ys) (ap (λ (k : ℕ). drop k (xs ++ ys)) n ∙ drop-append-seam xs ys)
 
 -- ---- what a record without fault says
@@ -145,43 +146,43 @@ module _ (sch : Schema) (payload : List ℕ) where
   pub record Sound (here : Place) (r : Record) (rs : List Record) : Type 0 where
     is-expected : expected sch here r ≡ true
     pub is-fitting : fitting (shape (r .kind)) payload r ≡ true
-    followed : eqb (r .kind) 20 ≡ true → nextDeeper r rs ≡ true
-    shallow : eqb (r .kind) 11 ≡ true → r .depth < 100
-    is-text : eqb (r .kind) 9 ≡ true → utf8 (part (r .start) (r .stop) payload) ≡ true
+    followed : eqb (r .kind) packedHead ≡ true → nextDeeper r rs ≡ true
+    shallow : eqb (r .kind) messageKind ≡ true → r .depth < mostLevels
+    is-text : eqb (r .kind) stringKind ≡ true → utf8 (part (r .start) (r .stop) payload) ≡ true
 
   pub sound-record : (here : Place) (out : List Place) (r : Record) (rs : List Record) → recordFault sch payload (here ∷ out) r rs ≡ 0 → Sound here r rs
   unfolding recordFault
   sound-record here out r rs e =
       let a = pass (expected sch here r) 9 _ e in
       let b = pass (fitting (shape (r .kind)) payload r) 9 _ (a .1) in
-      let c = pass-not (eqb (r .kind) 20 && not (nextDeeper r rs)) 9 _ (b .1) in
-      let d = pass-not (eqb (r .kind) 11 && leb 100 (r .depth)) 6 _ (c .1) in
-      let f = pass-not (eqb (r .kind) 9 && not (utf8 (part (r .start) (r .stop) payload))) 5 0 (d .1) in
+      let c = pass-not (eqb (r .kind) packedHead && not (nextDeeper r rs)) 9 _ (b .1) in
+      let d = pass-not (eqb (r .kind) messageKind && leb mostLevels (r .depth)) 6 _ (c .1) in
+      let f = pass-not (eqb (r .kind) stringKind && not (utf8 (part (r .start) (r .stop) payload))) 5 0 (d .1) in
       record {
         is-expected = a .0;
         is-fitting = b .0;
-        followed = not-both (eqb (r .kind) 20) (nextDeeper r rs) (c .0);
-        shallow = λ p. leb-false 100 (r .depth) (ap (λ (x : Bool). x && leb 100 (r .depth)) (sym p) ∙ d .0);
-        is-text = not-both (eqb (r .kind) 9) (utf8 (part (r .start) (r .stop) payload)) (f .0);
+        followed = not-both (eqb (r .kind) packedHead) (nextDeeper r rs) (c .0);
+        shallow = λ p. leb-false mostLevels (r .depth) (ap (λ (x : Bool). x && leb mostLevels (r .depth)) (sym p) ∙ d .0);
+        is-text = not-both (eqb (r .kind) stringKind) (utf8 (part (r .start) (r .stop) payload)) (f .0);
       }
 
-  or-small : (w : ℕ) → recorded w ≡ true → w ≤ 5
-  or-small w e = go (leb w 2) (eqb w 5) refl refl e
+  or-small : (w : ℕ) → recorded w ≡ true → w ≤ fixed32Wire
+  or-small w e = go (leb w delimitedWire) (eqb w fixed32Wire) refl refl e
     where
-      go : (a b : Bool) → leb w 2 ≡ a → eqb w 5 ≡ b → (a || b) ≡ true → w ≤ 5
-      go true b p q h = omega (arith, leb-true w 2 p)
-      go false true p q h = omega (arith, eqb-true w 5 q)
+      go : (a b : Bool) → leb w delimitedWire ≡ a → eqb w fixed32Wire ≡ b → (a || b) ≡ true → w ≤ fixed32Wire
+      go true b p q h = omega (arith, leb-true w delimitedWire p)
+      go false true p q h = omega (arith, eqb-true w fixed32Wire q)
       go false false p q h = absurd (false≢true h)
 
   expects : (t : ℕ) (r : Record) → expected sch (Fields t) r ≡ true → Expected sch t r
   unfolding expected
   expects t r e =
-      let a = both (between 1 536870911 (r .number) && recorded (wire (r .kind))) _ e in
-      let b = both (between 1 536870911 (r .number)) (recorded (wire (r .kind))) (a .0) in
-      let c = both (leb 1 (r .number)) (leb (r .number) 536870911) (b .0) in
+      let a = both (between 1 largestNumber (r .number) && recorded (wire (r .kind))) _ e in
+      let b = both (between 1 largestNumber (r .number)) (recorded (wire (r .kind))) (a .0) in
+      let c = both (leb 1 (r .number)) (leb (r .number) largestNumber) (b .0) in
       record {
         low = leb-true 1 (r .number) (c .0);
-        high = leb-true (r .number) 536870911 (c .1);
+        high = leb-true (r .number) largestNumber (c .1);
         wired = or-small (wire (r .kind)) (b .1);
         reads = sym (eqb-true (r .kind) _ (a .1));
       }
@@ -223,7 +224,7 @@ module _ (sch : Schema) (payload : List ℕ) where
       lower-or-not (length out) (r .depth)
       (λ c.
       let f = ap (λ (here : List Place). orElse (recordFault sch payload here r rs) i (listFault sch payload (i + 1) (inside sch here r) rs)) (sym (around-too-deep p out (r .depth) c)) ∙ e in
-      let z : _≡_ {A = ℕ} 10 0 = first-fine 10 i (listFault sch payload (i + 1) (inside sch [] r) rs) f .0 in absurd (omega arith))
+      let z : _≡_ {A = ℕ} invalidList 0 = first-fine invalidList i (listFault sch payload (i + 1) (inside sch [] r) rs) f .0 in absurd (omega arith))
       (λ c.
       let same : r .depth ≡ length out = omega arith in
       let f = first-fine (recordFault sch payload (p ∷ out) r rs) i _
@@ -256,7 +257,7 @@ module _ (sch : Schema) (payload : List ℕ) where
 
   -- a record with none deeper behind it
   bytes-leaf : (tags : Bool) (r : Record) (ys : List Record) → Low (r .depth + 1) ys
-      → bytesIn tags payload (r ∷ ys) ≡ tagOf tags r ++ body (shape (r .kind)) payload r (bytesIn (not (eqb (r .kind) 20)) payload []) ++ bytesIn tags payload ys
+      → bytesIn tags payload (r ∷ ys) ≡ tagOf tags r ++ body (shape (r .kind)) payload r (bytesIn (not (eqb (r .kind) packedHead)) payload []) ++ bytesIn tags payload ys
   bytes-leaf tags r ys l = bytes-run tags payload r [] ys over-nil l
 
   one-more : (c : Scalar) (m k : ℕ) → shape k ≡ one c → (out : List Place) (r : Record) (rs : List Record) (i : ℕ) → length out ≤ r .depth
@@ -273,7 +274,7 @@ module _ (sch : Schema) (payload : List ℕ) where
       value dep (eqb-true (r .number) m (nk .0)) kin f (g .values) in
       let lo : Low (r .depth + 1) (g .xs) = subst (λ (d : ℕ). Low (d + 1) (g .xs)) (sym dep) (values-low (g .values)) in
       let b : bytesIn false payload (r ∷ g .xs) ≡ encoded c (r .value) ++ bytesIn false payload (g .xs) =
-      bytes-leaf false r (g .xs) lo ∙ ap (λ (x : Shape). body x payload r (bytesIn (not (eqb (r .kind) 20)) payload []) ++ bytesIn false payload (g .xs)) sh′ in
+      bytes-leaf false r (g .xs) lo ∙ ap (λ (x : Shape). body x payload r (bytesIn (not (eqb (r .kind) packedHead)) payload []) ++ bytesIn false payload (g .xs)) sh′ in
       record {
         xs = r ∷ g .xs;
         rest = g .rest;
@@ -307,7 +308,7 @@ module _ (sch : Schema) (payload : List ℕ) where
 
   -- r, with none in it, in front of what was grown behind it
   leaf : (t : ℕ) (out : List Place) (r : Record) (rs : List Record) → r .depth ≡ length out → (b : List ℕ)
-      → body (shape (r .kind)) payload r (bytesIn (not (eqb (r .kind) 20)) payload []) ≡ b
+      → body (shape (r .kind)) payload r (bytesIn (not (eqb (r .kind) packedHead)) payload []) ≡ b
       → ((g : Grown t out rs) → Tree sch payload t (length out) (r ∷ g .xs) (tagBytes r ++ b ++ bytesIn true payload (g .xs)))
       → Grown t out rs → Grown t out (r ∷ rs)
   leaf t out r rs dep b e tr g =
@@ -328,7 +329,7 @@ module _ (sch : Schema) (payload : List ℕ) where
 
   -- a head r, with the records xs in it, in front of what was grown behind them
   headed : (t : ℕ) (out : List Place) (r : Record) (xs rest : List Record) → r .depth ≡ length out → Over (length out + 1) xs → (i : List ℕ)
-      → body (shape (r .kind)) payload r (bytesIn (not (eqb (r .kind) 20)) payload xs) ≡ prefixed i
+      → body (shape (r .kind)) payload r (bytesIn (not (eqb (r .kind) packedHead)) payload xs) ≡ prefixed i
       → ((g : Grown t out rest) → Tree sch payload t (length out) (r ∷ (xs ++ g .xs)) (tagBytes r ++ prefixed i ++ bytesIn true payload (g .xs)))
       → Grown t out rest → Grown t out (r ∷ (xs ++ rest))
   headed t out r xs rest dep o i e tr g =
@@ -351,67 +352,67 @@ module _ (sch : Schema) (payload : List ℕ) where
 
   -- a record that is no head
   plain-record : (t : ℕ) (out : List Place) (r : Record) (rs : List Record) → r .depth ≡ length out → Sound (Fields t) r rs
-      → eqb (r .kind) 11 ≡ false → eqb (r .kind) 20 ≡ false → (x : Shape) → shape (r .kind) ≡ x → Grown t out rs → Grown t out (r ∷ rs)
+      → eqb (r .kind) messageKind ≡ false → eqb (r .kind) packedHead ≡ false → (x : Shape) → shape (r .kind) ≡ x → Grown t out rs → Grown t out (r ∷ rs)
   unfolding fitting body
   plain-record t out r rs dep ok no11 no20 (one c) sh g =
-      leaf t out r rs dep (encoded c (r .value)) (ap (λ (x : Shape). body x payload r (bytesIn (not (eqb (r .kind) 20)) payload [])) sh)
+      leaf t out r rs dep (encoded c (r .value)) (ap (λ (x : Shape). body x payload r (bytesIn (not (eqb (r .kind) packedHead)) payload [])) sh)
       (λ g. number c dep (expects t r (ok .is-expected)) sh (ap (λ (x : Shape). fitting x payload r) (sym sh) ∙ ok .is-fitting) (g .tree)) g
   plain-record t out r rs dep ok no11 no20 (other string) sh g =
       let fit : (eqb (r .value) 0 && lies payload r) ≡ true = ap (λ (x : Shape). fitting x payload r) (sym sh) ∙ ok .is-fitting in
-      leaf t out r rs dep (prefixed (part (r .start) (r .stop) payload)) (ap (λ (x : Shape). body x payload r (bytesIn (not (eqb (r .kind) 20)) payload [])) sh)
+      leaf t out r rs dep (prefixed (part (r .start) (r .stop) payload)) (ap (λ (x : Shape). body x payload r (bytesIn (not (eqb (r .kind) packedHead)) payload [])) sh)
       (λ g. text dep (expects t r (ok .is-expected)) sh (eqb-true (r .value) 0 (both (eqb (r .value) 0) (lies payload r) fit .0)) (both (eqb (r .value) 0) (lies payload r) fit .1)
-      (ok .is-text (eq-eqb (r .kind) 9 (kind-9 (r .kind) sh))) (g .tree)) g
+      (ok .is-text (eq-eqb (r .kind) stringKind (is-string-kind (r .kind) sh))) (g .tree)) g
   plain-record t out r rs dep ok no11 no20 (other bytes) sh g =
       let fit : (eqb (r .value) 0 && lies payload r) ≡ true = ap (λ (x : Shape). fitting x payload r) (sym sh) ∙ ok .is-fitting in
-      leaf t out r rs dep (prefixed (part (r .start) (r .stop) payload)) (ap (λ (x : Shape). body x payload r (bytesIn (not (eqb (r .kind) 20)) payload [])) sh)
+      leaf t out r rs dep (prefixed (part (r .start) (r .stop) payload)) (ap (λ (x : Shape). body x payload r (bytesIn (not (eqb (r .kind) packedHead)) payload [])) sh)
       (λ g. blob dep (expects t r (ok .is-expected)) sh (eqb-true (r .value) 0 (both (eqb (r .value) 0) (lies payload r) fit .0)) (both (eqb (r .value) 0) (lies payload r) fit .1) (g .tree)) g
-  plain-record t out r rs dep ok no11 no20 (other message) sh g = absurd (false≢true (sym no11 ∙ eq-eqb (r .kind) 11 (kind-11 (r .kind) sh)))
-  plain-record t out r rs dep ok no11 no20 (other packed) sh g = absurd (false≢true (sym no20 ∙ eq-eqb (r .kind) 20 (kind-20 (r .kind) sh)))
+  plain-record t out r rs dep ok no11 no20 (other message) sh g = absurd (false≢true (sym no11 ∙ eq-eqb (r .kind) messageKind (is-message-kind (r .kind) sh)))
+  plain-record t out r rs dep ok no11 no20 (other packed) sh g = absurd (false≢true (sym no20 ∙ eq-eqb (r .kind) packedHead (is-packed-head (r .kind) sh)))
   plain-record t out r rs dep ok no11 no20 (other startGroup) sh g = absurd (false≢true (ap (λ (x : Shape). fitting x payload r) (sym sh) ∙ ok .is-fitting))
   plain-record t out r rs dep ok no11 no20 (other endGroup) sh g = absurd (false≢true (ap (λ (x : Shape). fitting x payload r) (sym sh) ∙ ok .is-fitting))
   plain-record t out r rs dep ok no11 no20 (other nothing) sh g = absurd (false≢true (ap (λ (x : Shape). fitting x payload r) (sym sh) ∙ ok .is-fitting))
 
   -- ---- heads; in a valid schema no entry is of kind 20
 
-  module _ (kinds : (t n : ℕ) → lookup (sch .entries) t n .kind ≤ 18) where
+  module _ (kinds : (t n : ℕ) → lookup (sch .entries) t n .kind ≤ sint64Kind) where
     scalar-shape : (x : Shape) → isScalar x ≡ true → (c : Scalar) × (x ≡ one c)
     unfolding isScalar
     scalar-shape (one c) e = (c, refl)
     scalar-shape (other y) e = absurd (false≢true e)
 
-    packed-shape : (e : Entry) → e .kind ≤ 18 → kindOf e 2 ≡ 20 → (c : Scalar) × (shape (e .kind) ≡ one c)
+    packed-shape : (e : Entry) → e .kind ≤ sint64Kind → kindOf e delimitedWire ≡ packedHead → (c : Scalar) × (shape (e .kind) ≡ one c)
     unfolding kindOf unknownKind
     packed-shape e h p = go (eqb 2 (wire (e .kind))) (e .repeated) (isScalar (shape (e .kind))) refl p
       where
-        go : (a b c : Bool) → isScalar (shape (e .kind)) ≡ c → (if a then e .kind else if b && c && true then 20 else 23) ≡ 20 → (c : Scalar) × (shape (e .kind) ≡ one c)
+        go : (a b c : Bool) → isScalar (shape (e .kind)) ≡ c → (if a then e .kind else if b && c && true then packedHead else unknownBytes) ≡ packedHead → (c : Scalar) × (shape (e .kind) ≡ one c)
         go true b c q p = absurd (omega arith)
         go false true true q p = scalar-shape (shape (e .kind)) q
         go false true false q p = absurd (omega arith)
         go false false c q p = absurd (omega arith)
 
-    message-record : (t : ℕ) (out : List Place) (r : Record) (xs rest : List Record) → r .depth ≡ length out → Sound (Fields t) r (xs ++ rest) → r .kind ≡ 11
+    message-record : (t : ℕ) (out : List Place) (r : Record) (xs rest : List Record) → r .depth ≡ length out → Sound (Fields t) r (xs ++ rest) → r .kind ≡ messageKind
         → Over (length out + 1) xs → Tree sch payload (lookup (sch .entries) t (r .number) .child) (length out + 1) xs (bytesIn true payload xs)
         → Grown t out rest → Grown t out (r ∷ (xs ++ rest))
     unfolding fitting body shape
     message-record t out r xs rest dep ok kin o tr g =
         let val : r .value ≡ 0 = eqb-true (r .value) 0 (ap (λ (k : ℕ). fitting (shape k) payload r) (sym kin) ∙ ok .is-fitting) in
-        let deep : length out < 100 = omega (arith, ok .shallow (eq-eqb (r .kind) 11 kin)) in
+        let deep : length out < mostLevels = omega (arith, ok .shallow (eq-eqb (r .kind) messageKind kin)) in
         headed t out r xs rest dep o (bytesIn true payload xs)
-        (ap (λ (k : ℕ). body (shape k) payload r (bytesIn (not (eqb k 20)) payload xs)) kin)
+        (ap (λ (k : ℕ). body (shape k) payload r (bytesIn (not (eqb k packedHead)) payload xs)) kin)
         (λ g. inner dep (expects t r (ok .is-expected)) kin val deep tr (g .tree)) g
 
-    packed-record : (t : ℕ) (out : List Place) (r : Record) (xs rest : List Record) (c : Scalar) → r .depth ≡ length out → Sound (Fields t) r (xs ++ rest) → r .kind ≡ 20
+    packed-record : (t : ℕ) (out : List Place) (r : Record) (xs rest : List Record) (c : Scalar) → r .depth ≡ length out → Sound (Fields t) r (xs ++ rest) → r .kind ≡ packedHead
         → Over (length out + 1) xs → Low (length out + 1) rest → shape (lookup (sch .entries) t (r .number) .kind) ≡ one c
         → Values c (r .number) (lookup (sch .entries) t (r .number) .kind) (length out + 1) xs (bytesIn false payload xs)
         → Grown t out rest → Grown t out (r ∷ (xs ++ rest))
     unfolding fitting body shape
-    packed-record t out r [] [] c dep ok kin o lo sh vs g = absurd (false≢true (ok .followed (eq-eqb (r .kind) 20 kin)))
+    packed-record t out r [] [] c dep ok kin o lo sh vs g = absurd (false≢true (ok .followed (eq-eqb (r .kind) packedHead kin)))
     packed-record t out r [] (q ∷ rest) c dep ok kin o lo sh vs g =
-        absurd (omega (arith, eqb-true (q .depth) (r .depth + 1) (ok .followed (eq-eqb (r .kind) 20 kin))))
+        absurd (omega (arith, eqb-true (q .depth) (r .depth + 1) (ok .followed (eq-eqb (r .kind) packedHead kin))))
     packed-record t out r (q ∷ xs) rest c dep ok kin o lo sh vs g =
         let val : r .value ≡ 0 = eqb-true (r .value) 0 (ap (λ (k : ℕ). fitting (shape k) payload r) (sym kin) ∙ ok .is-fitting) in
         headed t out r (q ∷ xs) rest dep o (bytesIn false payload (q ∷ xs))
-        (ap (λ (k : ℕ). body (shape k) payload r (bytesIn (not (eqb k 20)) payload (q ∷ xs))) kin)
+        (ap (λ (k : ℕ). body (shape k) payload r (bytesIn (not (eqb k packedHead)) payload (q ∷ xs))) kin)
         (λ g. row-of c dep (expects t r (ok .is-expected)) kin val sh vs (omega arith) (g .tree)) g
 
     abbrev Ih : ℕ → Type 0
@@ -424,17 +425,17 @@ module _ (sch : Schema) (payload : List ℕ) where
         let e : Entry = lookup (sch .entries) t (r .number) in
         let next : Bool → Bool → List Place = λ a b. if a then Fields (e .child) ∷ Fields t ∷ out else if b then Elements (r .number) (e .kind) ∷ Fields t ∷ out else Fields t ∷ out in
         let plus : suc (length out) ≡ length out + 1 = omega arith in
-        by-test (eqb (r .kind) 11)
+        by-test (eqb (r .kind) messageKind)
         (λ p.
-        let g : Grown (e .child) (Fields t ∷ out) rs = ih rs h (e .child) (i + 1) (Fields t ∷ out) (ap (λ (a : Bool). listFault sch payload (i + 1) (next a (eqb (r .kind) 20)) rs) (sym p) ∙ later) in
+        let g : Grown (e .child) (Fields t ∷ out) rs = ih rs h (e .child) (i + 1) (Fields t ∷ out) (ap (λ (a : Bool). listFault sch payload (i + 1) (next a (eqb (r .kind) packedHead)) rs) (sym p) ∙ later) in
         let short : length (g .rest) ≤ f = omega (arith, ap length (g .is), length-append (g .xs) (g .rest)) in
         let k : Grown t out (g .rest) = ih (g .rest) short t (g .j) out (sym (left (g .j) (Fields (e .child)) (Fields t ∷ out) (g .rest) (g .low)) ∙ g .fine) in
         subst (Grown t out) (ap (_∷_ r) (sym (g .is)))
-        (message-record t out r (g .xs) (g .rest) dep (subst (Sound (Fields t) r) (g .is) ok) (eqb-true (r .kind) 11 p)
+        (message-record t out r (g .xs) (g .rest) dep (subst (Sound (Fields t) r) (g .is) ok) (eqb-true (r .kind) messageKind p)
         (subst (λ (d : ℕ). Over d (g .xs)) plus (g .over)) (subst (λ (d : ℕ). Tree sch payload (e .child) d (g .xs) (bytesIn true payload (g .xs))) plus (g .tree)) k))
-        (λ p. by-test (eqb (r .kind) 20)
+        (λ p. by-test (eqb (r .kind) packedHead)
         (λ q.
-        let kin : r .kind ≡ 20 = eqb-true (r .kind) 20 q in
+        let kin : r .kind ≡ packedHead = eqb-true (r .kind) packedHead q in
         let c = packed-shape e (kinds t (r .number)) (ap (λ (k : ℕ). kindOf e (wire k)) (sym kin) ∙ expects t r (ok .is-expected) .reads ∙ kin) in
         let g : GrownV (c .0) (r .number) (e .kind) (Fields t ∷ out) rs =
         growV (c .0) (r .number) (e .kind) (c .1) (Fields t ∷ out) rs (i + 1) (ap₂ (λ (a b : Bool). listFault sch payload (i + 1) (next a b) rs) (sym p) (sym q) ∙ later) in
@@ -477,7 +478,7 @@ module _ (sch : Schema) (payload : List ℕ) where
 -- ---- what is written reads back as the list: the same depths, numbers, kinds, values and contents, and no refusal
 
 pub round-trip : (sch : Schema) (payload : List ℕ) (rs : List Record) → badSchema sch ≡ none → listFault sch payload 0 (Fields 0 ∷ []) rs ≡ Fine
-    → length (written payload rs) ≤ 2147483647
+    → length (written payload rs) ≤ limit
     → (qs : List Record) × (read (says sch) 0 0 0 (written payload rs) ≡ after qs Done) × Alike (written payload rs) payload qs rs × Tree sch (written payload rs) 0 0 qs (written payload rs)
 round-trip sch payload rs valid fine small =
     back sch payload (written payload rs) (valid-tree sch payload (schema-kinds sch valid) rs fine) 0 (stands-self sch payload (written payload rs) (written payload rs)) small

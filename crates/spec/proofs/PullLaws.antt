@@ -9,7 +9,8 @@ use mathlib.Core.List.{List, [], _∷_}
 use lib.ListN.{length, drop, length-drop}
 use lib.Dec.{leb, ltb}
 use borrow.Author.Tests.{leb-true, leb-false, le-leb, lt-leb, ltb-true, ltb-false}
-use Rattle.spec.specs.Base.{if_then_else_, part, Read, Took, No, refusal, digit}
+use Rattle.spec.specs.Names.{badTag, mostLevels, tooDeep, tooLarge}
+use Rattle.spec.specs.Base.{if_then_else_, part, Read, Took, No, refusal, digit, limit}
 use Rattle.spec.specs.Varint.{varint, varint32, varint64}
 use Rattle.spec.specs.Utf8.{utf8}
 use Rattle.spec.specs.Skip.{content}
@@ -77,16 +78,16 @@ varint-refusal (suc k) last (b ∷ s) = either-way (λ (r : Read). refusal r ≤
     go (Took v n) h = omega arith
     go (No j) h = h
 
-pub raw-never-3 : (s : List ℕ) (at level p : ℕ) → stepAt s at level rawTag .said ≡ Refused 3 p → ⊥
+pub raw-never-3 : (s : List ℕ) (at level p : ℕ) → stepAt s at level rawTag .said ≡ Refused badTag p → ⊥
 unfolding moved refusal
 raw-never-3 s at level p e =
     lower-or-not at (length s)
     (λ c. go (varint32 (drop at s)) (varint-refusal 4 15 (drop at s)) (ap (λ (m : Moved). m .said) (sym (raw-tag s at level c)) ∙ e))
-    (λ c. let x : End ≡ Refused 3 p = ap (λ (m : Moved). m .said) (sym (raw-end s at level c)) ∙ e in let z : _≡_ {A = ℕ} 0 1 = cc in omega arith)
+    (λ c. let x : End ≡ Refused badTag p = ap (λ (m : Moved). m .said) (sym (raw-end s at level c)) ∙ e in let z : _≡_ {A = ℕ} 0 1 = cc in omega arith)
   where
-    go : (r : Read) → refusal r ≤ 2 → numbered at r .said ≡ Refused 3 p → ⊥
+    go : (r : Read) → refusal r ≤ 2 → numbered at r .said ≡ Refused badTag p → ⊥
     go (Took v n) h x = let z : _≡_ {A = ℕ} 0 1 = cc in omega arith
-    go (No k) h x = let z : k ≡ 3 = cc in omega arith
+    go (No k) h x = let z : k ≡ badTag = cc in omega arith
 
 -- ---- that every step is one
 
@@ -142,18 +143,18 @@ module _ (s : List ℕ) (at : ℕ) where
 
   -- ---- entering: 7 at level 100 or more, whatever the bytes are, and else the content behind a length
 
-  pub enter-too-deep : (level : ℕ) → 100 ≤ level → enterAt s at level ≡ says (Refused 7 at) at
+  pub enter-too-deep : (level : ℕ) → mostLevels ≤ level → enterAt s at level ≡ says (Refused tooDeep at) at
   unfolding enterAt
   enter-too-deep level h = if-so (leb _ level) _ (λ e. omega (arith, leb-false _ level e))
 
-  pub enter-content : (level : ℕ) → level < 100 → enterAt s at level ≡ bounded at (content varint64 (drop at s))
+  pub enter-content : (level : ℕ) → level < mostLevels → enterAt s at level ≡ bounded at (content varint64 (drop at s))
   unfolding enterAt
   enter-content level h = if-not (leb _ level) _ (λ e. omega (arith, leb-true _ level e))
 
   pub enter-step : (level : ℕ) → Step at 1 (length s - at) (enterAt s at level)
   enter-step level =
       let P : Moved → Type 0 = Step at 1 (length s - at) in
-      lower-or-not level 100
+      lower-or-not level mostLevels
       (λ c. subst P (sym (enter-content level c)) (content-step at (omega arith) (content-there _ (takes-varint _ _ (drop at s)))))
       (λ c. subst P (sym (enter-too-deep level c)) stays)
 
@@ -197,7 +198,7 @@ module _ (r : Reader) where
       (ap (λ (n : ℕ). reader (r .bytes) n (r .level)) (h .0), h .1)
 
   -- refused 7 before the length is read, whatever the bytes are
-  pub entered-too-deep : 100 ≤ r .level → entered r .said ≡ Refused 7 (r .at)
+  pub entered-too-deep : mostLevels ≤ r .level → entered r .said ≡ Refused tooDeep (r .at)
   unfolding entered
   entered-too-deep h = ap (λ (m : Moved). m .said) (enter-too-deep (r .bytes) (r .at) (r .level) h)
 
@@ -216,10 +217,10 @@ module _ (r : Reader) where
       (ap (innerOf r) e, ap (λ (n : ℕ). reader (r .bytes) n (r .level)) (h .3))
 
 -- a reader opens at position 0 and level 0, and over more bytes than may be read not at all
-pub opened-long : (s : List ℕ) → 2147483647 < length s → opened s ≡ record { number = 11; reader = reader [] 0 0 }
+pub opened-long : (s : List ℕ) → limit < length s → opened s ≡ record { number = tooLarge; reader = reader [] 0 0 }
 unfolding opened
 opened-long s h = if-so (ltb _ (length s)) _ (λ e. omega (arith, ltb-false _ (length s) e))
 
-pub opened-well : (s : List ℕ) → length s ≤ 2147483647 → opened s ≡ record { number = 0; reader = reader s 0 0 }
+pub opened-well : (s : List ℕ) → length s ≤ limit → opened s ≡ record { number = 0; reader = reader s 0 0 }
 unfolding opened
 opened-well s h = if-not (ltb _ (length s)) _ (λ e. omega (arith, ltb-true _ (length s) e))

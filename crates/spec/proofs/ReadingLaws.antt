@@ -5,6 +5,7 @@ use native.Mathlib.Omega.{arith}
 use mathlib.Core.Path.{_≡_, refl, sym, ap, ap₂, _∙_, subst}
 use mathlib.Core.List.{List, [], _∷_}
 use lib.ListN.{length, drop, length-drop, length-take}
+use Rattle.spec.specs.Names.{endsEarly, messageKind, mostLevels}
 use Rattle.spec.specs.Base.{part, Read, No}
 use Rattle.spec.specs.Utf8.{utf8}
 use Rattle.spec.specs.Kind.{Scalar, Shape, one, other, string, bytes, message, packed, startGroup, endGroup, nothing, shape, scalar}
@@ -62,13 +63,13 @@ shaped-sound (other string) depth inner m k n s most h j =
 shaped-sound (other bytes) depth inner m k n s most h j =
     sound-held (content-holds _ s (takes-varint _ _ s)) λ a z p o q. value-in (omega arith)
 shaped-sound (other message) depth inner m k n s most h j =
-    lower-or-not depth 100
+    lower-or-not depth mostLevels
     (λ c. subst (Sound most) (sym (message-head depth inner m k n s c)) (sound-held (content-holds _ s (takes-varint _ _ s)) λ a z p o q. message-in (omega arith)))
     (λ c. subst (Sound most) (sym (message-too-deep depth inner m k n s c)) is-fault)
 shaped-sound (other packed) depth inner m k n s most h j =
     sound-held (content-holds _ s (takes-varint _ _ s)) λ a z p o q. packed-in (omega arith)
 shaped-sound (other startGroup) depth inner m k n s most h j =
-    sound-given (takes-skipGroup (length s) (No 1) none depth s) λ v i p q. dropped-in (omega arith)
+    sound-given (takes-skipGroup (length s) (No endsEarly) none depth s) λ v i p q. dropped-in (omega arith)
 shaped-sound (other endGroup) depth inner m k n s most h j = is-fault
 shaped-sound (other nothing) depth inner m k n s most h j = is-fault
 
@@ -98,7 +99,7 @@ pub field-cong : {most : ℕ} (p q : Inner) (p′ q′ : Reading) (depth at : �
 unfolding records used
 field-cong p q p′ q′ depth at s (Value m k v a e) (is-value h) inner rest = ap (λ (r : Reading). (row depth m k v (at + a) (at + e) at then Done) followed-by r) (rest (omega arith) (omega arith))
 field-cong p q p′ q′ depth at s (Message m c a e) (is-message h) inner rest =
-    ap₂ (λ (i r : Reading). (row depth m 11 0 (at + a) (at + e) at then i) followed-by r)
+    ap₂ (λ (i r : Reading). (row depth m messageKind 0 (at + a) (at + e) at then i) followed-by r)
     (inner c (at + a) (part a e s) (omega (arith, length-part a e s))) (rest (omega arith) (omega arith))
 field-cong p q p′ q′ depth at s (Packed m k a e) (is-packed h) inner rest =
     ap (λ (r : Reading). records p depth at s (Packed m k a e) followed-by r) (rest (omega arith) (omega arith))

@@ -7,6 +7,7 @@ use mathlib.Core.Path.{_≡_, refl, sym, ap, _∙_}
 use mathlib.Core.List.{List, [], _∷_, _++_}
 use lib.ListN.{length, drop, length-append, length-drop}
 use lib.Seq.{drop-at}
+use Rattle.spec.specs.Names.{noRoom}
 use Rattle.spec.specs.Record.{Record, stride, numbers, stored}
 use Rattle.spec.specs.Reading.{Reading, Done, Refused, _then_, _followed-by_, within, number, place, listed, after, roomAfter}
 
@@ -54,7 +55,7 @@ within-after n [] q h = ap (λ (m : ℕ). within m q) (sym (sub-zero n))
 within-after zero (r ∷ rs) q h = absurd (not-suc-le-zero h)
 within-after (suc n) (r ∷ rs) q h = ap (_then_ r) (within-after n rs q (le-of-suc-le-suc h) ∙ ap (λ (m : ℕ). after rs (within m q)) (sym (suc-sub-suc n (length rs))))
 
-pub within-full : (rs : List Record) (r : Record) (q : Reading) → within (length rs) (after rs (r then q)) ≡ after rs (Refused 8 (r .tag))
+pub within-full : (rs : List Record) (r : Record) (q : Reading) → within (length rs) (after rs (r then q)) ≡ after rs (Refused noRoom (r .tag))
 unfolding after within
 within-full [] r q = refl
 within-full (x ∷ rs) r q = ap (_then_ x) (within-full rs r q)

@@ -9,7 +9,8 @@ use lib.ListN.{length, take, drop, length-append}
 use lib.Seq.{drop-append-seam, take-append-seam, drop-at}
 use lib.Dec.{eqb}
 use borrow.Author.Tests.{le-leb, ne-eqb}
-use Rattle.spec.specs.Base.{if_then_else_, part, Read, Took, require}
+use Rattle.spec.specs.Names.{largestNumber, messageKind, mostLevels, packedHead, fixed32Wire}
+use Rattle.spec.specs.Base.{if_then_else_, part, Read, Took, require, limit}
 use Rattle.spec.specs.Varint.{varint, encode, shortest, tag}
 use Rattle.spec.specs.Record.{Record, row}
 use Rattle.spec.proofs.VarintLaws.{lower-or-not, shortest-ends, shortest-goes-on}
@@ -101,8 +102,8 @@ read-at sch depth type at (b ∷ s) x e h =
 -- a record's number and kind are what reading gives in a message of type t
 pub record Expected (sch : Schema) (t : ℕ) (r : Record) : Type 0 where
   pub low : 1 ≤ r .number
-  pub high : r .number ≤ 536870911
-  pub wired : wire (r .kind) ≤ 5
+  pub high : r .number ≤ largestNumber
+  pub wired : wire (r .kind) ≤ fixed32Wire
   pub reads : kindOf (lookup (sch .entries) t (r .number)) (wire (r .kind)) ≡ r .kind
 
 -- another record of this number and kind
@@ -147,11 +148,11 @@ pub data Tree (sch : Schema) (payload : List ℕ) : (t d : ℕ) → List Record 
       → shape (r .kind) ≡ other bytes → r .value ≡ 0 → lies payload r ≡ true
       → Tree sch payload t d rs b → Tree sch payload t d (r ∷ rs) (tagBytes r ++ prefixed (part (r .start) (r .stop) payload) ++ b)
   inner : {t d : ℕ} {r : Record} {rs qs : List Record} {b i : List ℕ} → r .depth ≡ d → Expected sch t r
-      → r .kind ≡ 11 → r .value ≡ 0 → d < 100
+      → r .kind ≡ messageKind → r .value ≡ 0 → d < mostLevels
       → Tree sch payload (lookup (sch .entries) t (r .number) .child) (d + 1) qs i
       → Tree sch payload t d rs b → Tree sch payload t d (r ∷ (qs ++ rs)) (tagBytes r ++ prefixed i ++ b)
   row-of : {t d : ℕ} {r : Record} {rs qs : List Record} {b i : List ℕ} (c : Scalar) → r .depth ≡ d → Expected sch t r
-      → r .kind ≡ 20 → r .value ≡ 0 → shape (lookup (sch .entries) t (r .number) .kind) ≡ one c
+      → r .kind ≡ packedHead → r .value ≡ 0 → shape (lookup (sch .entries) t (r .number) .kind) ≡ one c
       → Values c (r .number) (lookup (sch .entries) t (r .number) .kind) (d + 1) qs i → 1 ≤ length qs
       → Tree sch payload t d rs b → Tree sch payload t d (r ∷ (qs ++ rs)) (tagBytes r ++ prefixed i ++ b)
 
@@ -192,13 +193,13 @@ encoded-pos c v h = go (subst (Takes 1 (length (encoded c v ++ []))) (scalar-enc
 not-content : {A : Type 0} {x : Shape} (y : Shape) → x ≡ y → hasContent y ≡ false → hasContent x ≡ true → A
 not-content y e h i = absurd (false≢true (sym h ∙ ap hasContent (sym e) ∙ i))
 
-pub shape-11 : shape 11 ≡ other message
+pub shape-message : shape messageKind ≡ other message
 unfolding shape
-shape-11 = refl
+shape-message = refl
 
-pub shape-20 : shape 20 ≡ other packed
+pub shape-packed : shape packedHead ≡ other packed
 unfolding shape
-shape-20 = refl
+shape-packed = refl
 
 module _ (sch : Schema) (payload s : List ℕ) where
   -- a content c of a record r, and what is read of it
@@ -337,7 +338,7 @@ module _ (sch : Schema) (payload s : List ℕ) where
 
   -- ---- the theorem
 
-  pub back : {t d : ℕ} {rs : List Record} {b : List ℕ} → Tree sch payload t d rs b → (at : ℕ) → Stands s at b → length b ≤ 2147483647 → Back sch payload s t d at rs b
+  pub back : {t d : ℕ} {rs : List Record} {b : List ℕ} → Tree sch payload t d rs b → (at : ℕ) → Stands s at b → length b ≤ limit → Back sch payload s t d at rs b
   unfolding after used records contents
   back {t} {d} no-field at h l = ([], read-nil (says sch) d t at, nothing-left, no-field)
   back {t} {d} (number {r = r} {rs = rs} {b = b} c dep ex sh f rest) at h l =
@@ -378,31 +379,31 @@ module _ (sch : Schema) (payload s : List ℕ) where
   back {t} {d} (inner {r = r} {rs = rs} {qs = qs} {b = b} {i = i} dep ex kin val deep in-it rest) at h l =
       let y : Entry = entryFor sch t r in
       let x : List ℕ = tagBytes r ++ prefixed i in
-      let small : length i ≤ 2147483647 = omega (arith, length-append x b, length-append (tagBytes r) (prefixed i), length-append (encode (length i)) i) in
+      let small : length i ≤ limit = omega (arith, length-append x b, length-append (tagBytes r) (prefixed i), length-append (encode (length i)) i) in
       let a : ℕ = length (tagBytes r) + from i in
       let z : ℕ = length (tagBytes r) + to i in
       let xs = back in-it (at + a) (inner-stands t d at r i b h) small in
       let ys = back rest (at + z) (rest-stands t d at r i b h) (omega (arith, length-append x b)) in
-      head-back t d at r i b (Message (r .number) (y .child) a z) 11 qs rs (xs .0) (ys .0)
-      (ap (field (says sch) d t) (append-assoc (tagBytes r) (prefixed i) b) ∙ field-is sch d t r (prefixed i ++ b) ex (other message) (ap shape kin ∙ shape-11) 11 kin
+      head-back t d at r i b (Message (r .number) (y .child) a z) messageKind qs rs (xs .0) (ys .0)
+      (ap (field (says sch) d t) (append-assoc (tagBytes r) (prefixed i) b) ∙ field-is sch d t r (prefixed i ++ b) ex (other message) (ap shape kin ∙ shape-message) messageKind kin
       ∙ message-written d (y .child) (r .number) (r .kind) (length (tagBytes r)) i b small deep)
-      refl (omega (arith, encode-pos 9 (r .number * 8 + wire (r .kind)))) dep kin val (ap hasContent shape-11)
-      (ap (_then_ (row d (r .number) 11 0 (at + a) (at + z) at)) (ap (read (says sch) (d + 1) (y .child) (at + a)) (inner-part t d at r i b) ∙ xs .1))
+      refl (omega (arith, encode-pos 9 (r .number * 8 + wire (r .kind)))) dep kin val (ap hasContent shape-message)
+      (ap (_then_ (row d (r .number) messageKind 0 (at + a) (at + z) at)) (ap (read (says sch) (d + 1) (y .child) (at + a)) (inner-part t d at r i b) ∙ xs .1))
       (xs .2) (ys .1) (ys .2) (inner refl (again ex) kin refl deep (xs .3) (ys .3))
   back {t} {d} (row-of {r = r} {rs = rs} {qs = qs} {b = b} {i = i} c dep ex kin val sh in-it some rest) at h l =
       let y : Entry = entryFor sch t r in
       let x : List ℕ = tagBytes r ++ prefixed i in
-      let small : length i ≤ 2147483647 = omega (arith, length-append x b, length-append (tagBytes r) (prefixed i), length-append (encode (length i)) i) in
+      let small : length i ≤ limit = omega (arith, length-append x b, length-append (tagBytes r) (prefixed i), length-append (encode (length i)) i) in
       let a : ℕ = length (tagBytes r) + from i in
       let z : ℕ = length (tagBytes r) + to i in
       let apart : eqb a z ≡ false = ne-eqb a z (λ (e : a ≡ z). omega (arith, e, length-append (encode (length i)) i, values-long in-it some)) in
       let xs = values-back sh in-it at (at + a) in
       let ys = back rest (at + z) (rest-stands t d at r i b h) (omega (arith, length-append x b)) in
-      let top : Record = row d (r .number) 20 0 (at + a) (at + z) at in
-      head-back t d at r i b (Packed (r .number) (y .kind) a z) 20 qs rs (xs .0) (ys .0)
-      (ap (field (says sch) d t) (append-assoc (tagBytes r) (prefixed i) b) ∙ field-is sch d t r (prefixed i ++ b) ex (other packed) (ap shape kin ∙ shape-20) 20 kin
+      let top : Record = row d (r .number) packedHead 0 (at + a) (at + z) at in
+      head-back t d at r i b (Packed (r .number) (y .kind) a z) packedHead qs rs (xs .0) (ys .0)
+      (ap (field (says sch) d t) (append-assoc (tagBytes r) (prefixed i) b) ∙ field-is sch d t r (prefixed i ++ b) ex (other packed) (ap shape kin ∙ shape-packed) packedHead kin
       ∙ packed-written d (y .kind) (r .number) (r .kind) (length (tagBytes r)) i b small)
-      refl (omega (arith, encode-pos 9 (r .number * 8 + wire (r .kind)))) dep kin val (ap hasContent shape-20)
+      refl (omega (arith, encode-pos 9 (r .number * 8 + wire (r .kind)))) dep kin val (ap hasContent shape-packed)
       (ap (λ (w : Bool). if w then Done else (top then contents (shape (y .kind)) (d + 1) (r .number) (y .kind) at (at + a) (part a z (x ++ b)))) apart
       ∙ ap (_then_ top)
       (ap (λ (w : Shape). contents w (d + 1) (r .number) (y .kind) at (at + a) (part a z (x ++ b))) sh

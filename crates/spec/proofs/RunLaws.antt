@@ -13,6 +13,7 @@ use lib.ListN.{length, take, drop, getD, length-append, length-drop, drop-of-len
 use lib.Seq.{take-append-seam, drop-append-seam, drop-drop, drop-nil, getD-drop}
 use lib.Dec.{leb, eqb}
 use borrow.Author.Tests.{le-leb, lt-leb, leb-true, leb-false}
+use Rattle.spec.specs.Names.{groupStart, largestNumber, messageKind, mostLevels, packedHead, allKinds, deepest, delimitedWire, groupEnd, kindColumn, numberColumn, recordKinds, startColumn, stopColumn, valueColumn}
 use Rattle.spec.specs.Base.{if_then_else_, part}
 use Rattle.spec.specs.Varint.{encode, tagSize}
 use Rattle.spec.specs.Kind.{Scalar, int32, uint32, uint64, bool, sint32, sint64, fixed32, sfixed32, fixed64, Shape, one, other, string, bytes, message, packed, startGroup, endGroup, nothing, shapes, shape, wire, encoded, fits}
@@ -25,9 +26,9 @@ use Rattle.spec.proofs.VarintLaws.{lower-or-not}
 use Rattle.spec.proofs.KindLaws.{wireOne, wireOf, wire-shape}
 use Rattle.spec.proofs.WritingLaws.{bytesIn}
 use Rattle.spec.proofs.FlatLaws.{records-nil, records-broken, records-cons}
-use Rattle.spec.proofs.RoundTrip.{hasContent, tagBytes, Values, no-value, value, Tree, no-field, number, text, blob, inner, row-of, shape-11, shape-20, encode-pos, encoded-pos}
+use Rattle.spec.proofs.RoundTrip.{hasContent, tagBytes, Values, no-value, value, Tree, no-field, number, text, blob, inner, row-of, shape-message, shape-packed, encode-pos, encoded-pos}
 use Rattle.spec.proofs.SchemaLaws.{schema-kinds}
-use Rattle.spec.proofs.ListLaws.{kind-11, kind-20, Over, over-nil, over-cons, Low, deeper-run, bytes-run, values-low, tree-low, valid-tree}
+use Rattle.spec.proofs.ListLaws.{is-message-kind, is-packed-head, Over, over-nil, over-cons, Low, deeper-run, bytes-run, values-low, tree-low, valid-tree}
 use Rattle.spec.proofs.TreeLaws.{low-append, low-weaker}
 use Rattle.spec.proofs.SizeLaws.{sizeIn, size-cons, size-written}
 
@@ -111,11 +112,11 @@ module _ (d e : ℕ) (deep : d ≤ e) where
 -- the size of a record, of those in it and of those behind it
 pub size-run : (tags : Bool) (r : Record) (xs ys : List Record) → Over (r .depth + 1) xs → Low (r .depth + 1) ys
     → sizeIn tags (r ∷ (xs ++ ys))
-    ≡ (if tags then tagSize (r .number) else 0) + bodySize (shape (r .kind)) r (sizeIn (not (eqb (r .kind) 20)) xs) + sizeIn tags ys
+    ≡ (if tags then tagSize (r .number) else 0) + bodySize (shape (r .kind)) r (sizeIn (not (eqb (r .kind) packedHead)) xs) + sizeIn tags ys
 size-run tags r xs ys o l =
     let n : deeper (r .depth) (xs ++ ys) ≡ length xs = deeper-run (r .depth) ys o l in
     size-cons tags r (xs ++ ys)
-    ∙ ap₂ (λ (x y : List Record). (if tags then tagSize (r .number) else 0) + bodySize (shape (r .kind)) r (sizeIn (not (eqb (r .kind) 20)) x) + sizeIn tags y)
+    ∙ ap₂ (λ (x y : List Record). (if tags then tagSize (r .number) else 0) + bodySize (shape (r .kind)) r (sizeIn (not (eqb (r .kind) packedHead)) x) + sizeIn tags y)
     (ap (λ (k : ℕ). take k (xs ++ ys)) n ∙ take-append-seam xs ys) (ap (λ (k : ℕ). drop k (xs ++ ys)) n ∙ drop-append-seam xs ys)
 
 -- a run's first record: the run in it, and the rest of the run
@@ -136,11 +137,11 @@ module _ (d : ℕ) (r : Record) (rs : List Record) (up : d ≤ r .depth) where
   front-length = omega (arith, ap length front-first, length-append in-it after)
 
   pub front-size : (tags : Bool) → sizeIn tags (front d (r ∷ rs))
-      ≡ (if tags then tagSize (r .number) else 0) + bodySize (shape (r .kind)) r (sizeIn (not (eqb (r .kind) 20)) in-it) + sizeIn tags after
+      ≡ (if tags then tagSize (r .number) else 0) + bodySize (shape (r .kind)) r (sizeIn (not (eqb (r .kind) packedHead)) in-it) + sizeIn tags after
   front-size tags = ap (sizeIn tags) front-first ∙ size-run tags r in-it after (front-over (r .depth + 1) rs) after-low
 
   pub front-bytes : (tags : Bool) (payload : List ℕ) → bytesIn tags payload (front d (r ∷ rs))
-      ≡ tagOf tags r ++ body (shape (r .kind)) payload r (bytesIn (not (eqb (r .kind) 20)) payload in-it) ++ bytesIn tags payload after
+      ≡ tagOf tags r ++ body (shape (r .kind)) payload r (bytesIn (not (eqb (r .kind) packedHead)) payload in-it) ++ bytesIn tags payload after
   front-bytes tags payload = ap (bytesIn tags payload) front-first ∙ bytes-run tags payload r in-it after (front-over (r .depth + 1) rs) after-low
 
 -- ---- what a pass may rely on
@@ -160,8 +161,8 @@ pub data Nested (r : Record) : List Record → Shape → Type 0 where
       → Row (r .depth + 1) (r .number) (q .kind) rs → Nested r (q ∷ rs) (other packed)
 
 pub record Fit (r : Record) (rs : List Record) : Type 0 where
-  pub small : r .number ≤ 536870911
-  pub shallow : r .depth ≤ 101
+  pub small : r .number ≤ largestNumber
+  pub shallow : r .depth ≤ deepest
   pub nested : Nested r rs (shape (r .kind))
 
 pub data Sane : List Record → Type 0 where
@@ -204,13 +205,13 @@ nested-record (a-bytes o l) = refl
 nested-record (a-message l) = refl
 nested-record (a-row sh dep num w) = refl
 
-no-record : (k : ℕ) → 25 ≤ k → has-record (shape k) ≡ false
+no-record : (k : ℕ) → recordKinds ≤ k → has-record (shape k) ≡ false
 unfolding has-record shape shapes
 no-record k h =
-    lower-or-not k 26
-    (λ l. let e : k ≡ 25 = omega arith in ap (λ (n : ℕ). has-record (shape n)) e)
-    (λ m. lower-or-not k 27
-    (λ l. let e : k ≡ 26 = omega arith in ap (λ (n : ℕ). has-record (shape n)) e)
+    lower-or-not k groupEnd
+    (λ l. let e : k ≡ groupStart = omega arith in ap (λ (n : ℕ). has-record (shape n)) e)
+    (λ m. lower-or-not k allKinds
+    (λ l. let e : k ≡ groupEnd = omega arith in ap (λ (n : ℕ). has-record (shape n)) e)
     (λ l. let past : length shapes ≤ k = omega arith in ap has-record (List·getD-eq-default shapes (other nothing) past)))
 
 -- what the tests of a pass show of a record: its wire type, and whether it is a head
@@ -237,8 +238,8 @@ pub record Content (r : Record) (rs : List Record) (x : Shape) : Type 0 where
   pub no-deeper : Low (r .depth + 1) rs
 
 module _ {r : Record} {rs : List Record} (f : Fit r rs) where
-  pub kind-small : r .kind < 25
-  kind-small = lower-or-not (r .kind) 25 (λ l. l) (λ l. absurd (false≢true (sym (no-record (r .kind) l) ∙ nested-record (f .nested))))
+  pub kind-small : r .kind < recordKinds
+  kind-small = lower-or-not (r .kind) groupStart (λ l. l) (λ l. absurd (false≢true (sym (no-record (r .kind) l) ∙ nested-record (f .nested))))
 
   pub is-number : wire (r .kind) ≢ 2 → Number r rs (shape (r .kind))
   unfolding wireOf
@@ -254,7 +255,7 @@ module _ {r : Record} {rs : List Record} (f : Fit r rs) where
       go (a-message l) e = other-wise (other message) e refl
       go (a-row sh dep num w) e = other-wise (other packed) e refl
 
-  pub is-content : wire (r .kind) ≡ 2 → r .kind ≢ 11 → r .kind ≢ 20 → Content r rs (shape (r .kind))
+  pub is-content : wire (r .kind) ≡ delimitedWire → r .kind ≢ messageKind → r .kind ≢ packedHead → Content r rs (shape (r .kind))
   unfolding wireOf
   is-content w no11 no20 = go (f .nested) refl
     where
@@ -262,21 +263,21 @@ module _ {r : Record} {rs : List Record} (f : Fit r rs) where
       go (a-scalar {c = c} fit l) e = absurd (wire-one c (sym (ap wireOf e) ∙ sym (wire-shape (r .kind)) ∙ w))
       go (a-string o l) e = record { is = refl; in-order = o; no-deeper = l }
       go (a-bytes o l) e = record { is = refl; in-order = o; no-deeper = l }
-      go (a-message l) e = absurd (no11 (kind-11 (r .kind) e))
-      go (a-row sh dep num q) e = absurd (no20 (kind-20 (r .kind) e))
+      go (a-message l) e = absurd (no11 (is-message-kind (r .kind) e))
+      go (a-row sh dep num q) e = absurd (no20 (is-packed-head (r .kind) e))
 
-  pub is-message : r .kind ≡ 11 → Low (r .depth + 1 + 1) rs
-  is-message k = go (subst (Nested r rs) (ap shape k ∙ shape-11) (f .nested))
+  pub is-message : r .kind ≡ messageKind → Low (r .depth + 1 + 1) rs
+  is-message k = go (subst (Nested r rs) (ap shape k ∙ shape-message) (f .nested))
     where
       go : Nested r rs (other message) → Low (r .depth + 1 + 1) rs
       go (a-message l) = l
 
-  pub is-row : r .kind ≡ 20 → Nested r rs (other packed)
-  is-row k = subst (Nested r rs) (ap shape k ∙ shape-20) (f .nested)
+  pub is-row : r .kind ≡ packedHead → Nested r rs (other packed)
+  is-row k = subst (Nested r rs) (ap shape k ∙ shape-packed) (f .nested)
 
 -- ---- a list without fault is sane: first by its nesting, in front of records that are
 
-joined : {r : Record} {rs : List Record} (x : Shape) → shape (r .kind) ≡ x → r .number ≤ 536870911 → r .depth ≤ 101 → Nested r rs x → Sane rs → Sane (r ∷ rs)
+joined : {r : Record} {rs : List Record} (x : Shape) → shape (r .kind) ≡ x → r .number ≤ largestNumber → r .depth ≤ deepest → Nested r rs x → Sane rs → Sane (r ∷ rs)
 joined {r} {rs} x e small deep n s = sane-cons (record { small = small; shallow = deep; nested = subst (Nested r rs) (sym e) n }) s
 
 values-row : {c : Scalar} {m k d : ℕ} {xs : List Record} {b : List ℕ} → Values c m k d xs b → (rest : List Record) → Low d rest → Row d m k (xs ++ rest)
@@ -284,50 +285,50 @@ values-row no-value rest lo = row-end lo
 values-row (value dep num kin f vs) rest lo = row-more dep num kin (values-row vs rest lo)
 
 module _ (sch : Schema) (payload : List ℕ) where
-  values-sane : {c : Scalar} {m k d : ℕ} {xs : List Record} {b : List ℕ} → shape k ≡ one c → Values c m k d xs b → m ≤ 536870911 → d ≤ 101
+  values-sane : {c : Scalar} {m k d : ℕ} {xs : List Record} {b : List ℕ} → shape k ≡ one c → Values c m k d xs b → m ≤ largestNumber → d ≤ deepest
       → (rest : List Record) → Low (d + 1) rest → Sane rest → Sane (xs ++ rest)
   values-sane sh no-value small deep rest lo s = s
   values-sane {c} {m} {k} {d} sh (value {r} {rs} dep num kin f vs) small deep rest lo s =
-      let few : r .number ≤ 536870911 = omega arith in
-      let low : r .depth ≤ 101 = omega arith in
+      let few : r .number ≤ largestNumber = omega arith in
+      let low : r .depth ≤ deepest = omega arith in
       let l : Low (r .depth + 1) (rs ++ rest) = subst (λ (e : ℕ). Low (e + 1) (rs ++ rest)) (sym dep) (low-append (d + 1) rs rest (values-low sch payload vs) lo) in
       joined (one c) (ap shape kin ∙ sh) few low (a-scalar f l) (values-sane sh vs small deep rest lo s)
 
   in-order : (r : Record) → lies payload r ≡ true → r .start ≤ r .stop
   in-order r h = leb-true (r .start) (r .stop) (both (leb (r .start) (r .stop)) (leb (r .stop) (length payload)) h .0)
 
-  tree-sane : {t d : ℕ} {xs : List Record} {b : List ℕ} → Tree sch payload t d xs b → d ≤ 100 → (rest : List Record) → Low (d + 1) rest → Sane rest → Sane (xs ++ rest)
+  tree-sane : {t d : ℕ} {xs : List Record} {b : List ℕ} → Tree sch payload t d xs b → d ≤ mostLevels → (rest : List Record) → Low (d + 1) rest → Sane rest → Sane (xs ++ rest)
   tree-sane no-field deep rest lo s = s
   tree-sane {d = d} (number {r = r} {rs = rs} c dep ex sh f tr) deep rest lo s =
-      let low : r .depth ≤ 101 = omega arith in
+      let low : r .depth ≤ deepest = omega arith in
       let l : Low (r .depth + 1) (rs ++ rest) = subst (λ (e : ℕ). Low (e + 1) (rs ++ rest)) (sym dep) (low-append (d + 1) rs rest (tree-low sch payload tr) lo) in
       joined (one c) sh (ex .high) low (a-scalar f l) (tree-sane tr deep rest lo s)
   tree-sane {d = d} (text {r = r} {rs = rs} dep ex sh val li u tr) deep rest lo s =
-      let low : r .depth ≤ 101 = omega arith in
+      let low : r .depth ≤ deepest = omega arith in
       let l : Low (r .depth + 1) (rs ++ rest) = subst (λ (e : ℕ). Low (e + 1) (rs ++ rest)) (sym dep) (low-append (d + 1) rs rest (tree-low sch payload tr) lo) in
       joined (other string) sh (ex .high) low (a-string (in-order r li) l) (tree-sane tr deep rest lo s)
   tree-sane {d = d} (blob {r = r} {rs = rs} dep ex sh val li tr) deep rest lo s =
-      let low : r .depth ≤ 101 = omega arith in
+      let low : r .depth ≤ deepest = omega arith in
       let l : Low (r .depth + 1) (rs ++ rest) = subst (λ (e : ℕ). Low (e + 1) (rs ++ rest)) (sym dep) (low-append (d + 1) rs rest (tree-low sch payload tr) lo) in
       joined (other bytes) sh (ex .high) low (a-bytes (in-order r li) l) (tree-sane tr deep rest lo s)
   tree-sane {d = d} (inner {r = r} {rs = rs} {qs = qs} dep ex kin val less in-it tr) deep rest lo s =
-      let low : r .depth ≤ 101 = omega arith in
+      let low : r .depth ≤ deepest = omega arith in
       let l : Low (d + 1 + 1) (rs ++ rest) = low-weaker (d + 1) (d + 1 + 1) (rs ++ rest) (omega arith) (low-append (d + 1) rs rest (tree-low sch payload tr) lo) in
       let m : Low (r .depth + 1 + 1) (qs ++ (rs ++ rest)) =
       subst (λ (e : ℕ). Low (e + 1 + 1) (qs ++ (rs ++ rest))) (sym dep) (low-append (d + 1 + 1) qs (rs ++ rest) (tree-low sch payload in-it) l) in
       subst (λ (x : List Record). Sane (r ∷ x)) (sym (append-assoc qs rs rest))
-      (joined (other message) (ap shape kin ∙ shape-11) (ex .high) low (a-message m)
+      (joined (other message) (ap shape kin ∙ shape-message) (ex .high) low (a-message m)
       (tree-sane in-it (omega arith) (rs ++ rest) l (tree-sane tr deep rest lo s)))
   tree-sane (row-of c dep ex kin val sh no-value long tr) deep rest lo s = absurd (omega arith)
   tree-sane {t} {d} (row-of {r = r} {rs = rs} c dep ex kin val sh (value {r = q} {rs = qs} dep′ num′ kin′ f vs) long tr) deep rest lo s =
-      let low : r .depth ≤ 101 = omega arith in
+      let low : r .depth ≤ deepest = omega arith in
       let one-down : q .depth ≡ r .depth + 1 = omega arith in
       let l : Low (d + 1) (rs ++ rest) = low-append (d + 1) rs rest (tree-low sch payload tr) lo in
       let w : Row (r .depth + 1) (r .number) (q .kind) (qs ++ (rs ++ rest)) =
       subst (λ (k : ℕ). Row (r .depth + 1) (r .number) k (qs ++ (rs ++ rest))) (sym kin′)
       (subst (λ (e : ℕ). Row (e + 1) (r .number) (lookup (sch .entries) t (r .number) .kind) (qs ++ (rs ++ rest))) (sym dep) (values-row vs (rs ++ rest) l)) in
       subst (λ (x : List Record). Sane (r ∷ q ∷ x)) (sym (append-assoc qs rs rest))
-      (joined (other packed) (ap shape kin ∙ shape-20) (ex .high) low (a-row (ap shape kin′ ∙ sh) one-down num′ w)
+      (joined (other packed) (ap shape kin ∙ shape-packed) (ex .high) low (a-row (ap shape kin′ ∙ sh) one-down num′ w)
       (values-sane sh (value dep′ num′ kin′ f vs) (ex .high) (omega arith) (rs ++ rest)
       (low-weaker (d + 1) (d + 1 + 1) (rs ++ rest) (omega arith) l) (tree-sane tr deep rest lo s)))
 
@@ -369,27 +370,27 @@ fine-passed sch payload rs valid fine =
 -- the record at b, and those from the next place on
 pub records-at : (ns : List ℕ) (b : ℕ) → b + stride ≤ length ns
     → recordsOf (drop b ns)
-    ≡ row (getD ns b 0) (getD ns (b + 1) 0) (getD ns (b + 2) 0) (getD ns (b + 3) 0) (getD ns (b + 4) 0) (getD ns (b + 5) 0) 0 ∷ recordsOf (drop (b + stride) ns)
+    ≡ row (getD ns b 0) (getD ns (b + numberColumn) 0) (getD ns (b + kindColumn) 0) (getD ns (b + valueColumn) 0) (getD ns (b + startColumn) 0) (getD ns (b + stopColumn) 0) 0 ∷ recordsOf (drop (b + stride) ns)
 records-at ns b h =
     let zeroth : getD (drop b ns) 0 0 ≡ getD ns b 0 = rw add-zero at (getD-drop b ns 0 0) in
     records-cons (drop b ns) (omega (arith, length-drop b ns))
-    ∙ rw (zeroth, getD-drop b ns 1 0, getD-drop b ns 2 0, getD-drop b ns 3 0, getD-drop b ns 4 0, getD-drop b ns 5 0, drop-drop stride b ns) refl
+    ∙ rw (zeroth, getD-drop b ns numberColumn 0, getD-drop b ns kindColumn 0, getD-drop b ns valueColumn 0, getD-drop b ns startColumn 0, getD-drop b ns stopColumn 0, drop-drop stride b ns) refl
 
-pub records-drop : (n : ℕ) (ns : List ℕ) → drop n (recordsOf ns) ≡ recordsOf (drop (6 * n) ns)
+pub records-drop : (n : ℕ) (ns : List ℕ) → drop n (recordsOf ns) ≡ recordsOf (drop (stride * n) ns)
 records-drop zero ns = refl
 records-drop (suc n) ns =
     lower-or-not (length ns) stride
     (λ l. lower-or-not 0 (length ns)
-    (λ p. ap (drop (suc n)) (records-broken ns p l) ∙ drop-nil n ∙ sym (ap recordsOf (drop-of-length-le ns {i = 6 * suc n} (omega arith)) ∙ records-nil))
+    (λ p. ap (drop (suc n)) (records-broken ns p l) ∙ drop-nil n ∙ sym (ap recordsOf (drop-of-length-le ns {i = stride * suc n} (omega arith)) ∙ records-nil))
     (λ p.
     let empty : ns ≡ [] = drop-of-length-le ns {i = 0} (omega arith) in
-    rw (empty, records-nil, drop-nil (suc n), drop-nil (6 * suc n), records-nil) refl))
+    rw (empty, records-nil, drop-nil (suc n), drop-nil (stride * suc n), records-nil) refl))
     (λ l.
-    let six : 6 + 6 * n ≡ 6 * suc n = omega arith in
-    ap (drop (suc n)) (records-cons ns l) ∙ records-drop n (drop stride ns) ∙ ap recordsOf (drop-drop (6 * n) 6 ns ∙ ap (λ (k : ℕ). drop k ns) six))
+    let one-more : stride + stride * n ≡ stride * suc n = omega arith in
+    ap (drop (suc n)) (records-cons ns l) ∙ records-drop n (drop stride ns) ∙ ap recordsOf (drop-drop (stride * n) stride ns ∙ ap (λ (k : ℕ). drop k ns) one-more))
 
--- six numbers make a record, and so does a rest of fewer
-pub records-count : (k : ℕ) (ns : List ℕ) → length ns ≤ k → (length ns ≤ 6 * length (recordsOf ns)) × (6 * length (recordsOf ns) ≤ length ns + 5)
+-- as many numbers as the stride says make a record, and so does a rest of fewer
+pub records-count : (k : ℕ) (ns : List ℕ) → length ns ≤ k → (length ns ≤ stride * length (recordsOf ns)) × (stride * length (recordsOf ns) < length ns + stride)
 records-count zero ns h =
     let empty : ns ≡ [] = drop-of-length-le ns {i = 0} (omega arith) in
     rw (empty, records-nil) (omega arith, omega arith)

@@ -11,8 +11,9 @@ use lib.ListN.{length, drop, getD}
 use lib.Seq.{drop-drop}
 use lib.Dec.{leb, ltb, eqb}
 use borrow.Author.Tests.{leb-true, le-ltb, ltb-true, eqb-true, eq-eqb, ne-eqb, eqb-false, not-true}
+use Rattle.spec.specs.Names.{groupKind, largestNumber, messageKind, sint64Kind, childColumn, doubleKind, entryKindColumn, entryNumberColumn, ownerColumn, repeatedColumn}
 use Rattle.spec.specs.Base.{if_then_else_, between}
-use Rattle.spec.specs.Schema.{Schema, rises, goodEntry, badEntry, badSchema, noEntry, lookup, placeOf, entryOf, entriesOf, schemaOf, bit, copied}
+use Rattle.spec.specs.Schema.{Schema, rises, goodEntry, badEntry, badSchema, noEntry, lookup, placeOf, entryOf, entriesOf, schemaOf, bit, copied, entryStride}
 use Rattle.spec.proofs.Laws.{both, both-true, by-test}
 use Rattle.spec.proofs.VarintLaws.{lower-or-not}
 use Rattle.spec.specs.declared.Entry.{Entry}
@@ -21,7 +22,7 @@ use Rattle.spec.specs.declared.Entry.{Entry}
 
 -- the entry at the front of some numbers
 abbrev pub firstEntry : List ℕ → Entry
-firstEntry ns = entryOf (getD ns 0 0) (getD ns 1 0) (getD ns 2 0) (getD ns 3 0) (getD ns 4 0)
+firstEntry ns = entryOf (getD ns ownerColumn 0) (getD ns entryNumberColumn 0) (getD ns entryKindColumn 0) (getD ns repeatedColumn 0) (getD ns childColumn 0)
 
 pub entry-back : (e : Entry) → entryOf (e .owner) (e .number) (e .kind) (bit (e .repeated)) (e .child) ≡ e
 unfolding entryOf
@@ -31,7 +32,7 @@ entry-back e = go (e .repeated)
     go true = refl
     go false = refl
 
-pub length-copied : (es : List Entry) → length (copied es) ≡ 5 * length es
+pub length-copied : (es : List Entry) → length (copied es) ≡ entryStride * length es
 unfolding copied
 length-copied [] = refl
 length-copied (e ∷ es) = omega (arith, length-copied es)
@@ -46,37 +47,37 @@ unfolding schemaOf
 schema-back types es =
     let l = length-copied es in
     ap₂ (λ (b : Bool) (k : ℕ). if b then record { types = types; entries = entriesOf k (copied es) } else record { types = 0; entries = [] })
-    (eq-eqb (length (copied es) % 5) 0 (omega arith)) (omega arith)
+    (eq-eqb (length (copied es) % entryStride) 0 (omega arith)) (omega arith)
     ∙ ap (λ (x : List Entry). record { types = types; entries = x }) (entries-back es)
 
 -- one entry of the numbers after the other
-pub entries-step : (k : ℕ) (ns : List ℕ) → entriesOf (suc k) ns ≡ firstEntry ns ∷ entriesOf k (drop 5 ns)
+pub entries-step : (k : ℕ) (ns : List ℕ) → entriesOf (suc k) ns ≡ firstEntry ns ∷ entriesOf k (drop entryStride ns)
 unfolding entriesOf
 entries-step k ns = refl
 
 pub length-entries : (k : ℕ) (ns : List ℕ) → length (entriesOf k ns) ≡ k
 unfolding entriesOf
 length-entries zero ns = refl
-length-entries (suc k) ns = ap suc (length-entries k (drop 5 ns))
+length-entries (suc k) ns = ap suc (length-entries k (drop entryStride ns))
 
 -- the entry at a place, and those from it on
-further : (i : ℕ) (ns : List ℕ) → drop (5 * i) (drop 5 ns) ≡ drop (5 * suc i) ns
-further i ns = let e : 5 + 5 * i ≡ 5 * suc i = omega arith in drop-drop (5 * i) 5 ns ∙ ap (λ (n : ℕ). drop n ns) e
+further : (i : ℕ) (ns : List ℕ) → drop (entryStride * i) (drop entryStride ns) ≡ drop (entryStride * suc i) ns
+further i ns = let e : entryStride + entryStride * i ≡ entryStride * suc i = omega arith in drop-drop (entryStride * i) entryStride ns ∙ ap (λ (n : ℕ). drop n ns) e
 
-pub entry-at : (k : ℕ) (ns : List ℕ) (i : ℕ) → i < k → getD (entriesOf k ns) i noEntry ≡ firstEntry (drop (5 * i) ns)
+pub entry-at : (k : ℕ) (ns : List ℕ) (i : ℕ) → i < k → getD (entriesOf k ns) i noEntry ≡ firstEntry (drop (entryStride * i) ns)
 unfolding entriesOf
 entry-at zero ns i h = absurd (omega arith)
 entry-at (suc k) ns zero h = refl
 entry-at (suc k) ns (suc i) h =
-    entry-at k (drop 5 ns) i (omega arith) ∙ ap firstEntry (further i ns)
+    entry-at k (drop entryStride ns) i (omega arith) ∙ ap firstEntry (further i ns)
 
-pub entries-from : (k : ℕ) (ns : List ℕ) (i : ℕ) → i ≤ k → drop i (entriesOf k ns) ≡ entriesOf (k - i) (drop (5 * i) ns)
+pub entries-from : (k : ℕ) (ns : List ℕ) (i : ℕ) → i ≤ k → drop i (entriesOf k ns) ≡ entriesOf (k - i) (drop (entryStride * i) ns)
 unfolding entriesOf
 entries-from k ns zero h = let e : k ≡ k - 0 = omega arith in ap (λ (n : ℕ). entriesOf n ns) e
 entries-from zero ns (suc i) h = absurd (omega arith)
 entries-from (suc k) ns (suc i) h =
     let e : k - i ≡ suc k - suc i = omega arith in
-    entries-from k (drop 5 ns) i (omega arith) ∙ ap₂ entriesOf e (further i ns)
+    entries-from k (drop entryStride ns) i (omega arith) ∙ ap₂ entriesOf e (further i ns)
 
 -- what is no entry is bad, and so are numbers whose `repeated` is 2 or more
 pub no-entry-bad : (types : ℕ) → goodEntry types noEntry ≡ false
@@ -94,11 +95,11 @@ repeated-bad types o n k r c h =
     ∙ no-entry-bad types
 
 -- a rest behind the whole entries is bad at 0
-pub rest-bad : (types : ℕ) (ns : List ℕ) → (length ns % 5 ≡ 0 → ⊥) → badSchema (schemaOf types ns) ≡ some 0
+pub rest-bad : (types : ℕ) (ns : List ℕ) → (length ns % entryStride ≡ 0 → ⊥) → badSchema (schemaOf types ns) ≡ some 0
 unfolding schemaOf badSchema
 rest-bad types ns h =
-    ap (λ (b : Bool). badSchema (if b then record { types = types; entries = entriesOf (length ns / 5) ns } else record { types = 0; entries = [] }))
-    (ne-eqb (length ns % 5) 0 h)
+    ap (λ (b : Bool). badSchema (if b then record { types = types; entries = entriesOf (length ns / entryStride) ns } else record { types = 0; entries = [] }))
+    (ne-eqb (length ns % entryStride) 0 h)
 
 -- ---- the place of an entry, and what is looked up
 
@@ -229,33 +230,33 @@ rises-before o n e h = go (ltb o (e .owner)) (eqb o (e .owner)) (ltb n (e .numbe
 pub record Good (types : ℕ) (e : Entry) : Type 0 where
   pub owned : e .owner < types
   pub number-from : 1 ≤ e .number
-  pub number-to : e .number ≤ 536870911
+  pub number-to : e .number ≤ largestNumber
   pub kind-from : 1 ≤ e .kind
-  pub kind-to : e .kind ≤ 18
-  pub no-group : e .kind ≡ 10 → ⊥
-  pub message-child : e .kind ≡ 11 → e .child < types
-  pub no-child : (e .kind ≡ 11 → ⊥) → e .child ≡ 0
+  pub kind-to : e .kind ≤ sint64Kind
+  pub no-group : e .kind ≡ groupKind → ⊥
+  pub message-child : e .kind ≡ messageKind → e .child < types
+  pub no-child : (e .kind ≡ messageKind → ⊥) → e .child ≡ 0
 
 pub good-entry : (types : ℕ) (e : Entry) → goodEntry types e ≡ true → Good types e
 unfolding goodEntry
 good-entry types e h =
-    let a = both (ltb (e .owner) types && between 1 536870911 (e .number) && between 1 18 (e .kind) && not (eqb (e .kind) 10)) _ h in
-    let b = both (ltb (e .owner) types && between 1 536870911 (e .number) && between 1 18 (e .kind)) _ (a .0) in
-    let c = both (ltb (e .owner) types && between 1 536870911 (e .number)) _ (b .0) in
+    let a = both (ltb (e .owner) types && between 1 largestNumber (e .number) && between doubleKind sint64Kind (e .kind) && not (eqb (e .kind) groupKind)) _ h in
+    let b = both (ltb (e .owner) types && between 1 largestNumber (e .number) && between doubleKind sint64Kind (e .kind)) _ (a .0) in
+    let c = both (ltb (e .owner) types && between 1 largestNumber (e .number)) _ (b .0) in
     let d = both (ltb (e .owner) types) _ (c .0) in
-    let n = both (leb 1 (e .number)) (leb (e .number) 536870911) (d .1) in
-    let k = both (leb 1 (e .kind)) (leb (e .kind) 18) (c .1) in
-    let child : (x : Bool) → eqb (e .kind) 11 ≡ x → (if x then ltb (e .child) types else eqb (e .child) 0) ≡ true =
+    let n = both (leb 1 (e .number)) (leb (e .number) largestNumber) (d .1) in
+    let k = both (leb 1 (e .kind)) (leb (e .kind) sint64Kind) (c .1) in
+    let child : (x : Bool) → eqb (e .kind) messageKind ≡ x → (if x then ltb (e .child) types else eqb (e .child) 0) ≡ true =
     λ x p. ap (λ (y : Bool). if y then ltb (e .child) types else eqb (e .child) 0) (sym p) ∙ a .1 in
     record {
       owned = ltb-true (e .owner) types (d .0);
       number-from = leb-true 1 (e .number) (n .0);
-      number-to = leb-true (e .number) 536870911 (n .1);
+      number-to = leb-true (e .number) largestNumber (n .1);
       kind-from = leb-true 1 (e .kind) (k .0);
-      kind-to = leb-true (e .kind) 18 (k .1);
-      no-group = eqb-false (e .kind) 10 (not-true (eqb (e .kind) 10) (b .1));
-      message-child = λ p. ltb-true (e .child) types (child true (eq-eqb (e .kind) 11 p));
-      no-child = λ p. eqb-true (e .child) 0 (child false (ne-eqb (e .kind) 11 p));
+      kind-to = leb-true (e .kind) sint64Kind (k .1);
+      no-group = eqb-false (e .kind) groupKind (not-true (eqb (e .kind) groupKind) (b .1));
+      message-child = λ p. ltb-true (e .child) types (child true (eq-eqb (e .kind) messageKind p));
+      no-child = λ p. eqb-true (e .child) 0 (child false (ne-eqb (e .kind) messageKind p));
     }
 
 -- an entry is passed, or is the first bad one
@@ -355,9 +356,9 @@ module _ (sch : Schema) (valid : badSchema sch ≡ none) where
       lower-or-not j i (λ c. before-not (below j c) (sym (is .0), sym (is .1))) (λ c. before-not (above j c l) is)
 
   -- what is looked up is of a kind of descriptor.proto, or none
-  pub schema-kinds : (t m : ℕ) → lookup (sch .entries) t m .kind ≤ 18
+  pub schema-kinds : (t m : ℕ) → lookup (sch .entries) t m .kind ≤ sint64Kind
   schema-kinds t m = go (place-of 0 (sch .entries) t m)
     where
-      go : {p : Option ℕ} → Placed 0 (sch .entries) t m p → lookup (sch .entries) t m .kind ≤ 18
-      go (placed i q l f is) = subst (λ (e : Entry). e .kind ≤ 18) (sym f) (good-entry (sch .types) (at sch i) (valid-good i l) .kind-to)
-      go (absent f) = subst (λ (e : Entry). e .kind ≤ 18) (sym f) (omega arith)
+      go : {p : Option ℕ} → Placed 0 (sch .entries) t m p → lookup (sch .entries) t m .kind ≤ sint64Kind
+      go (placed i q l f is) = subst (λ (e : Entry). e .kind ≤ sint64Kind) (sym f) (good-entry (sch .types) (at sch i) (valid-good i l) .kind-to)
+      go (absent f) = subst (λ (e : Entry). e .kind ≤ sint64Kind) (sym f) (omega arith)

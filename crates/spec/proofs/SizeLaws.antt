@@ -11,6 +11,7 @@ use lib.ListN.{length, take, drop, getD, length-append, length-take, length-drop
 use lib.Seq.{take-length, drop-length}
 use lib.Dec.{leb, ltb, eqb}
 use borrow.Author.Tests.{le-ltb, le-leb, lt-leb, leb-true, ltb-true, ltb-false}
+use Rattle.spec.specs.Names.{messageKind, mostLevels, outputShort, packedHead, stringKind, tooLarge, invalidList, invalidSchema, noWire, unknownFixed32, unknownVarint}
 use Rattle.spec.specs.Base.{if_then_else_, between, part, limit, Took, No, limited}
 use Rattle.spec.specs.Varint.{encode, tagSize, zigzag}
 use Rattle.spec.specs.Utf8.{utf8}
@@ -21,7 +22,7 @@ use Rattle.spec.specs.Sizes.{scalarSize, prefixedSize, valueSize, fieldS
 use Rattle.spec.specs.Writing.{prefixed, body, tagOf, bytesOf, written, Place, Fields, expected, lies, fitting, nextDeeper, around, inside, recordFault, Verdict, Fine, Faulty, orElse, listFault, schemaFirst, listCheck, Writing, Wrote, Failed, number, size, output, judged, sized, writing, sizing}
 use Rattle.spec.proofs.Laws.{both, either-way, chosen}
 use Rattle.spec.proofs.VarintLaws.{length-encode, size-one, size-ten, length-tag, length-little}
-use Rattle.spec.proofs.RoundTrip.{hasContent, shape-20}
+use Rattle.spec.proofs.RoundTrip.{hasContent, shape-packed}
 use Rattle.spec.proofs.ListLaws.{first-fine, sound-record}
 
 -- ---- a value, a content, a tag
@@ -47,7 +48,7 @@ low : List ℕ → Bool
 low [] = true
 low (w ∷ ws) = ltb w 8 && low ws
 
-low-at : (ws : List ℕ) (k : ℕ) → low ws ≡ true → getD ws k 7 < 8
+low-at : (ws : List ℕ) (k : ℕ) → low ws ≡ true → getD ws k noWire < 8
 unfolding low
 low-at [] k h = omega arith
 low-at (w ∷ ws) zero h = ltb-true w 8 (both (ltb w 8) (low ws) h .0)
@@ -76,7 +77,7 @@ size-enough (suc f) (suc g) tags (r ∷ rs) hf hg =
     let first : length (take n rs) ≤ length rs = omega (arith, length-take n rs) in
     let rest : length (drop n rs) ≤ length rs = omega (arith, length-drop n rs) in
     ap₂ (λ (x y : ℕ). (if tags then tagSize (r .number) else 0) + bodySize (shape (r .kind)) r x + y)
-    (size-enough f g (not (eqb (r .kind) 20)) (take n rs) (omega arith) (omega arith)) (size-enough f g tags (drop n rs) (omega arith) (omega arith))
+    (size-enough f g (not (eqb (r .kind) packedHead)) (take n rs) (omega arith) (omega arith)) (size-enough f g tags (drop n rs) (omega arith) (omega arith))
 
 abbrev pub sizeIn : Bool → List Record → ℕ
 sizeIn tags rs = sizeUpTo (length rs) tags rs
@@ -84,7 +85,7 @@ sizeIn tags rs = sizeUpTo (length rs) tags rs
 pub size-cons : (tags : Bool) (r : Record) (rs : List Record)
     → sizeIn tags (r ∷ rs)
     ≡ (if tags then tagSize (r .number) else 0)
-    + bodySize (shape (r .kind)) r (sizeIn (not (eqb (r .kind) 20)) (take (deeper (r .depth) rs) rs))
+    + bodySize (shape (r .kind)) r (sizeIn (not (eqb (r .kind) packedHead)) (take (deeper (r .depth) rs) rs))
     + sizeIn tags (drop (deeper (r .depth) rs) rs)
 unfolding sizeUpTo
 size-cons tags r rs =
@@ -92,7 +93,7 @@ size-cons tags r rs =
     let first : length (take n rs) ≤ length rs = omega (arith, length-take n rs) in
     let rest : length (drop n rs) ≤ length rs = omega (arith, length-drop n rs) in
     ap₂ (λ (x y : ℕ). (if tags then tagSize (r .number) else 0) + bodySize (shape (r .kind)) r x + y)
-    (size-enough (length rs) (length (take n rs)) (not (eqb (r .kind) 20)) (take n rs) first (omega arith))
+    (size-enough (length rs) (length (take n rs)) (not (eqb (r .kind) packedHead)) (take n rs) first (omega arith))
     (size-enough (length rs) (length (drop n rs)) tags (drop n rs) rest (omega arith))
 
 -- ---- level by level, it is the length of the bytes, where every content lies in the payload
@@ -136,10 +137,10 @@ size-bytes (suc k) tags payload [] h = refl
 size-bytes (suc k) tags payload (r ∷ rs) (held-cons l h) =
     let n : ℕ = deeper (r .depth) rs in
     let x : Shape = shape (r .kind) in
-    let i : List ℕ = bytesOf k (not (eqb (r .kind) 20)) payload (take n rs) in
+    let i : List ℕ = bytesOf k (not (eqb (r .kind) packedHead)) payload (take n rs) in
     let b : List ℕ = bytesOf k tags payload (drop n rs) in
     ap₂ (λ (y z : ℕ). (if tags then tagSize (r .number) else 0) + bodySize x r y + z)
-    (size-bytes k (not (eqb (r .kind) 20)) payload (take n rs) (held-take n h)) (size-bytes k tags payload (drop n rs) (held-drop n h))
+    (size-bytes k (not (eqb (r .kind) packedHead)) payload (take n rs) (held-take n h)) (size-bytes k tags payload (drop n rs) (held-drop n h))
     ∙ ap₂ (λ (y z : ℕ). y + z + length b) (size-tag tags r) (size-body x payload r i l)
     ∙ omega (arith, length-append (tagOf tags r ++ body x payload r i) b, length-append (tagOf tags r) (body x payload r i))
 
@@ -177,35 +178,35 @@ module _ (sch : Schema) (payload : List ℕ) where
 -- ---- the calls: what they answer, by the bytes b that the list is written as and the room for them
 
 pub data Answered (room : ℕ) (b : List ℕ) : Writing → Type 0 where
-  wrote : length b ≤ 2147483647 → length b ≤ room → Answered room b (Wrote b)
-  short : length b ≤ 2147483647 → room < length b → Answered room b (Failed 12 (length b) 0)
-  above : 2147483647 < length b → Answered room b (Failed 11 0 0)
-  faulty : {k i : ℕ} → 1 ≤ k → k ≤ 10 → Answered room b (Failed k 0 i)
+  wrote : length b ≤ limit → length b ≤ room → Answered room b (Wrote b)
+  short : length b ≤ limit → room < length b → Answered room b (Failed outputShort (length b) 0)
+  above : limit < length b → Answered room b (Failed tooLarge 0 0)
+  faulty : {k i : ℕ} → 1 ≤ k → k ≤ invalidList → Answered room b (Failed k 0 i)
 
 sized-answered : (room : ℕ) (b : List ℕ) → Answered room b (sized room b)
 unfolding sized
 sized-answered room b =
     chosen (Answered room b) (ltb limit (length b)) (λ e. above (omega (arith, ltb-true limit (length b) e)))
-    λ e. let small : length b ≤ 2147483647 = omega (arith, ltb-false limit (length b) e) in
+    λ e. let small : length b ≤ limit = omega (arith, ltb-false limit (length b) e) in
     chosen (Answered room b) (ltb room (length b)) (λ f. short small (ltb-true room (length b) f)) (λ f. wrote small (ltb-false room (length b) f))
 
 -- a fault is numbered at most 10
 data Numbered : Verdict → Type 0 where
   fine : Numbered Fine
-  at : {k i : ℕ} → 1 ≤ k → k ≤ 10 → Numbered (Faulty k i)
+  at : {k i : ℕ} → 1 ≤ k → k ≤ invalidList → Numbered (Faulty k i)
 
-record-numbered : (sch : Schema) (payload : List ℕ) (opened : List Place) (r : Record) (rs : List Record) → recordFault sch payload opened r rs ≤ 10
+record-numbered : (sch : Schema) (payload : List ℕ) (opened : List Place) (r : Record) (rs : List Record) → recordFault sch payload opened r rs ≤ invalidList
 unfolding recordFault
 record-numbered sch payload [] r rs = omega arith
 record-numbered sch payload (here ∷ out) r rs =
-    let P : ℕ → Type 0 = λ n. n ≤ 10 in
+    let P : ℕ → Type 0 = λ n. n ≤ invalidList in
     either-way P (not (expected sch here r)) (omega arith)
     (either-way P (not (fitting (shape (r .kind)) payload r)) (omega arith)
-    (either-way P (eqb (r .kind) 20 && not (nextDeeper r rs)) (omega arith)
-    (either-way P (eqb (r .kind) 11 && leb 100 (r .depth)) (omega arith)
-    (either-way P (eqb (r .kind) 9 && not (utf8 (part (r .start) (r .stop) payload))) (omega arith) (omega arith)))))
+    (either-way P (eqb (r .kind) packedHead && not (nextDeeper r rs)) (omega arith)
+    (either-way P (eqb (r .kind) messageKind && leb mostLevels (r .depth)) (omega arith)
+    (either-way P (eqb (r .kind) stringKind && not (utf8 (part (r .start) (r .stop) payload))) (omega arith) (omega arith)))))
 
-else-numbered : (k i : ℕ) {later : Verdict} → k ≤ 10 → Numbered later → Numbered (orElse k i later)
+else-numbered : (k i : ℕ) {later : Verdict} → k ≤ invalidList → Numbered later → Numbered (orElse k i later)
 else-numbered zero i h n = n
 else-numbered (suc k) i h n = at {k = suc k} (omega arith) h
 
@@ -219,7 +220,7 @@ list-numbered sch payload i opened (r ∷ rs) =
 first-numbered : (bad : Option ℕ) {v : Verdict} → Numbered v → Numbered (schemaFirst bad v)
 unfolding schemaFirst
 first-numbered none n = n
-first-numbered (some i) n = at {k = 9} (omega arith) (omega arith)
+first-numbered (some i) n = at {k = invalidSchema} (omega arith) (omega arith)
 
 judged-answered : {room : ℕ} {b : List ℕ} {v : Verdict} {w : Writing} → Numbered v → Answered room b w → Answered room b (judged v w)
 unfolding judged
@@ -233,14 +234,14 @@ writing-answered sch room payload rs =
 
 module _ {room : ℕ} {b : List ℕ} where
   -- on a refusal the size is 0, but for 12, which tells the size that is needed
-  pub size-refused : {w : Writing} → Answered room b w → number w ≢ 0 → number w ≢ 12 → size w ≡ 0
+  pub size-refused : {w : Writing} → Answered room b w → number w ≢ 0 → number w ≢ outputShort → size w ≡ 0
   unfolding number size
   size-refused (wrote h j) p q = absurd (p refl)
   size-refused (short h j) p q = absurd (q refl)
   size-refused (above h) p q = refl
   size-refused (faulty h j) p q = refl
 
-  pub size-short : {w : Writing} → Answered room b w → number w ≡ 12 → (size w ≡ length b) × (room < length b) × (length b ≤ 2147483647)
+  pub size-short : {w : Writing} → Answered room b w → number w ≡ outputShort → (size w ≡ length b) × (room < length b) × (length b ≤ limit)
   unfolding number size
   size-short (wrote h j) e = absurd (omega arith)
   size-short (short h j) e = (refl, j, h)
@@ -255,15 +256,15 @@ after-schema (some i) v e = let z : _≡_ {A = ℕ} 0 1 = cc in absurd (omega ar
 
 pub writing-by-size : (sch : Schema) (room : ℕ) (payload : List ℕ) (rs : List Record) → listCheck sch payload rs ≡ Fine
     → writing sch room payload rs
-    ≡ (if ltb limit (sizeOf rs) then Failed 11 0 0 else if ltb room (sizeOf rs) then Failed 12 (sizeOf rs) 0 else Wrote (written payload rs))
+    ≡ (if ltb limit (sizeOf rs) then Failed tooLarge 0 0 else if ltb room (sizeOf rs) then Failed outputShort (sizeOf rs) 0 else Wrote (written payload rs))
 unfolding writing listCheck judged sized
 writing-by-size sch room payload rs e =
     ap (λ (v : Verdict). judged v (sized room (written payload rs))) e
-    ∙ ap (λ (n : ℕ). if ltb limit n then Failed 11 0 0 else if ltb room n then Failed 12 n 0 else Wrote (written payload rs))
+    ∙ ap (λ (n : ℕ). if ltb limit n then Failed tooLarge 0 0 else if ltb room n then Failed outputShort n 0 else Wrote (written payload rs))
     (sym (size-written sch payload rs (after-schema (badSchema sch) (listFault sch payload 0 (Fields 0 ∷ []) rs) e)))
 
 -- the size call never lacks room
-pub sizing-roomy : (sch : Schema) (payload : List ℕ) (rs : List Record) → number (sizing sch payload rs) ≢ 12
+pub sizing-roomy : (sch : Schema) (payload : List ℕ) (rs : List Record) → number (sizing sch payload rs) ≢ outputShort
 unfolding sizing
 sizing-roomy sch payload rs e =
     let s = size-short (writing-answered sch limit payload rs) e in omega (arith, s .1, s .2)
@@ -276,13 +277,13 @@ output-refused (Failed k n i) out h = refl
 
 -- ---- the size calls of rt: the lengths of what is written for their fields
 
-pub limited-small : (n : ℕ) → n ≤ 2147483647 → limited n ≡ Took n 0
+pub limited-small : (n : ℕ) → n ≤ limit → limited n ≡ Took n 0
 unfolding limited
-limited-small n h = ap (λ (b : Bool). if b then Took n 0 else No 11) (le-leb n limit (omega arith))
+limited-small n h = ap (λ (b : Bool). if b then Took n 0 else No tooLarge) (le-leb n limit (omega arith))
 
-pub limited-above : (n : ℕ) → 2147483647 < n → limited n ≡ No 11
+pub limited-above : (n : ℕ) → limit < n → limited n ≡ No tooLarge
 unfolding limited
-limited-above n h = ap (λ (b : Bool). if b then Took n 0 else No 11) (lt-leb n limit (omega arith))
+limited-above n h = ap (λ (b : Bool). if b then Took n 0 else No tooLarge) (lt-leb n limit (omega arith))
 
 -- a bool is one byte, and a negative int32 or enum is ten
 pub bool-one : (v : ℕ) → fits bool v ≡ true → scalarSize bool v ≡ 1
@@ -329,7 +330,7 @@ element kind m v = row 1 m kind v 0 0 0
 
 abbrev pub packedField : (kind m : ℕ) → List ℕ → List Record
 packedField kind m [] = []
-packedField kind m (v ∷ vs) = row 0 m 20 0 0 0 0 ∷ map (element kind m) (v ∷ vs)
+packedField kind m (v ∷ vs) = row 0 m packedHead 0 0 0 0 ∷ map (element kind m) (v ∷ vs)
 
 module _ (kind m : ℕ) (c : Scalar) (sh : shape kind ≡ one c) where
   all-deeper : (vs : List ℕ) → deeper 0 (map (element kind m) vs) ≡ length (map (element kind m) vs)
@@ -351,12 +352,12 @@ module _ (kind m : ℕ) (c : Scalar) (sh : shape kind ≡ one c) where
   size-elements [] = refl
   size-elements (v ∷ vs) = size-cons false (element kind m v) (map (element kind m) vs) ∙ rw (none-deeper vs, sh) (omega (arith, size-elements vs))
 
-  size-head : (vs : List ℕ) → sizeIn true (row 0 m 20 0 0 0 0 ∷ map (element kind m) vs) ≡ tagSize m + prefixedSize (valuesSize (one c) vs)
+  size-head : (vs : List ℕ) → sizeIn true (row 0 m packedHead 0 0 0 0 ∷ map (element kind m) vs) ≡ tagSize m + prefixedSize (valuesSize (one c) vs)
   unfolding bodySize sizeUpTo
   size-head vs =
       let es : List Record = map (element kind m) vs in
-      size-cons true (row 0 m 20 0 0 0 0) es
-      ∙ rw (all-deeper vs, take-length es, drop-length es, shape-20) (omega (arith, ap prefixedSize (size-elements vs)))
+      size-cons true (row 0 m packedHead 0 0 0 0) es
+      ∙ rw (all-deeper vs, take-length es, drop-length es, shape-packed) (omega (arith, ap prefixedSize (size-elements vs)))
 
   pub size-packed : (vs : List ℕ) → packedSize kind m vs ≡ limited (length (written [] (packedField kind m vs)))
   unfolding packedSize written bytesOf limited
@@ -365,12 +366,12 @@ module _ (kind m : ℕ) (c : Scalar) (sh : shape kind ≡ one c) where
       let whole : List Record = packedField kind m (v ∷ vs) in
       ap (λ (x : Shape). limited (tagSize m + prefixedSize (valuesSize x (v ∷ vs)))) sh
       ∙ ap limited (sym (size-head (v ∷ vs))
-      ∙ size-bytes (length whole) true [] whole (held-cons (λ k. absurd (false≢true (sym (ap hasContent shape-20) ∙ k))) (elements-held (v ∷ vs))))
+      ∙ size-bytes (length whole) true [] whole (held-cons (λ k. absurd (false≢true (sym (ap hasContent shape-packed) ∙ k))) (elements-held (v ∷ vs))))
 
 -- records of the unknown kinds, at one depth
 pub data Unknowns (payload : List ℕ) (d : ℕ) : List Record → Type 0 where
   no-unknown : Unknowns payload d []
-  unknown : {r : Record} {rs : List Record} → r .depth ≡ d → between 21 24 (r .kind) ≡ true
+  unknown : {r : Record} {rs : List Record} → r .depth ≡ d → between unknownVarint unknownFixed32 (r .kind) ≡ true
       → (hasContent (shape (r .kind)) ≡ true → lies payload r ≡ true) → Unknowns payload d rs → Unknowns payload d (r ∷ rs)
 
 unknowns-held : {payload : List ℕ} {d : ℕ} {rs : List Record} → Unknowns payload d rs → Held payload rs

@@ -7,6 +7,7 @@ use mathlib.Core.List.{List, [], _∷_, _++_, append-assoc, append-nil}
 use lib.ListN.{length}
 use lib.Dec.{leb, eqb}
 use borrow.Author.Tests.{le-leb, lt-leb, eq-eqb, ne-eqb}
+use Rattle.spec.specs.Names.{invalidList, largestNumber, messageKind, mostLevels, notUtf8, packedHead, stringKind, tooDeep}
 use Rattle.spec.specs.Base.{if_then_else_, part}
 use Rattle.spec.specs.Utf8.{utf8}
 use Rattle.spec.specs.Kind.{Scalar, int32, uint32, uint64, bool, sint32, sint64, fixed32, sfixed32, fixed64, Shape, one, other, string, bytes, message, packed, startGroup, endGroup, nothing, shape, wire, isScalar, encoded}
@@ -16,8 +17,8 @@ use Rattle.spec.specs.Record.{Record}
 use Rattle.spec.proofs.KindLaws.{wireOne, wireOf, wire-shape}
 use Rattle.spec.proofs.Laws.{both-true}
 use Rattle.spec.proofs.WritingLaws.{bytesIn}
-use Rattle.spec.proofs.RoundTrip.{Expected, Values, no-value, value, Tree, no-field, number, text, blob, inner, row-of, shape-11, shape-20}
-use Rattle.spec.proofs.ListLaws.{Over, over-nil, over-cons, over-append, over-weaker, Low, bytes-run, around-here, left, values-low, tree-low, kind-9}
+use Rattle.spec.proofs.RoundTrip.{Expected, Values, no-value, value, Tree, no-field, number, text, blob, inner, row-of, shape-message, shape-packed}
+use Rattle.spec.proofs.ListLaws.{Over, over-nil, over-cons, over-append, over-weaker, Low, bytes-run, around-here, left, values-low, tree-low, is-string-kind}
 use Rattle.spec.specs.declared.Entry.{Entry}
 
 -- ---- kinds that differ, and wire types that give records
@@ -37,24 +38,24 @@ isBytes (other nothing) = false
 
 -- a kind that is no head and no string
 pub record Plain (k : ℕ) : Type 0 where
-  pub no-packed : eqb k 20 ≡ false
-  pub no-message : eqb k 11 ≡ false
-  pub no-string : eqb k 9 ≡ false
+  pub no-packed : eqb k packedHead ≡ false
+  pub no-message : eqb k messageKind ≡ false
+  pub no-string : eqb k stringKind ≡ false
 
 pub plain-scalar : (k : ℕ) (c : Scalar) → shape k ≡ one c → Plain k
 unfolding shape isScalar
 plain-scalar k c sh = record {
-  no-packed = differ isScalar k 20 sh refl refl;
-  no-message = differ isScalar k 11 sh refl refl;
-  no-string = differ isScalar k 9 sh refl refl;
+  no-packed = differ isScalar k packedHead sh refl refl;
+  no-message = differ isScalar k messageKind sh refl refl;
+  no-string = differ isScalar k stringKind sh refl refl;
 }
 
 pub plain-bytes : (k : ℕ) → shape k ≡ other bytes → Plain k
 unfolding shape isBytes
 plain-bytes k sh = record {
-  no-packed = differ isBytes k 20 sh refl refl;
-  no-message = differ isBytes k 11 sh refl refl;
-  no-string = differ isBytes k 9 sh refl refl;
+  no-packed = differ isBytes k packedHead sh refl refl;
+  no-message = differ isBytes k messageKind sh refl refl;
+  no-string = differ isBytes k stringKind sh refl refl;
 }
 
 recorded-one : (c : Scalar) → recorded (wireOne c) ≡ true
@@ -102,7 +103,7 @@ module _ (sch : Schema) (payload : List ℕ) where
   -- ---- its bytes
 
   run-bytes : (tags : Bool) (d : ℕ) (r : Record) (xs ys : List Record) (e b : List ℕ) → r .depth ≡ d → Over (d + 1) xs → Low (d + 1) ys
-      → body (shape (r .kind)) payload r (bytesIn (not (eqb (r .kind) 20)) payload xs) ≡ e → bytesIn tags payload ys ≡ b
+      → body (shape (r .kind)) payload r (bytesIn (not (eqb (r .kind) packedHead)) payload xs) ≡ e → bytesIn tags payload ys ≡ b
       → bytesIn tags payload (r ∷ (xs ++ ys)) ≡ tagOf tags r ++ e ++ b
   run-bytes tags d r xs ys e b dep o l p q =
       bytes-run tags payload r xs ys (subst (λ (n : ℕ). Over (n + 1) xs) (sym dep) o) (subst (λ (n : ℕ). Low (n + 1) ys) (sym dep) l)
@@ -113,49 +114,49 @@ module _ (sch : Schema) (payload : List ℕ) where
   values-bytes sh no-value = refl
   values-bytes {c} {d = d} sh (value {r} {rs} {b} dep num kin f rest) =
       run-bytes false d r [] rs (encoded c (r .value)) b dep over-nil (values-low sch payload rest)
-      (ap (λ (x : Shape). body x payload r (bytesIn (not (eqb (r .kind) 20)) payload [])) (ap shape kin ∙ sh)) (values-bytes sh rest)
+      (ap (λ (x : Shape). body x payload r (bytesIn (not (eqb (r .kind) packedHead)) payload [])) (ap shape kin ∙ sh)) (values-bytes sh rest)
 
   pub tree-bytes : {t d : ℕ} {rs : List Record} {b : List ℕ} → Tree sch payload t d rs b → bytesIn true payload rs ≡ b
   unfolding bytesOf body
   tree-bytes no-field = refl
   tree-bytes {d = d} (number {r = r} {rs = rs} {b = b} c dep ex sh f rest) =
       run-bytes true d r [] rs (encoded c (r .value)) b dep over-nil (tree-low sch payload rest)
-      (ap (λ (x : Shape). body x payload r (bytesIn (not (eqb (r .kind) 20)) payload [])) sh) (tree-bytes rest)
+      (ap (λ (x : Shape). body x payload r (bytesIn (not (eqb (r .kind) packedHead)) payload [])) sh) (tree-bytes rest)
   tree-bytes {d = d} (text {r = r} {rs = rs} {b = b} dep ex sh val li u rest) =
       run-bytes true d r [] rs (prefixed (part (r .start) (r .stop) payload)) b dep over-nil (tree-low sch payload rest)
-      (ap (λ (x : Shape). body x payload r (bytesIn (not (eqb (r .kind) 20)) payload [])) sh) (tree-bytes rest)
+      (ap (λ (x : Shape). body x payload r (bytesIn (not (eqb (r .kind) packedHead)) payload [])) sh) (tree-bytes rest)
   tree-bytes {d = d} (blob {r = r} {rs = rs} {b = b} dep ex sh val li rest) =
       run-bytes true d r [] rs (prefixed (part (r .start) (r .stop) payload)) b dep over-nil (tree-low sch payload rest)
-      (ap (λ (x : Shape). body x payload r (bytesIn (not (eqb (r .kind) 20)) payload [])) sh) (tree-bytes rest)
+      (ap (λ (x : Shape). body x payload r (bytesIn (not (eqb (r .kind) packedHead)) payload [])) sh) (tree-bytes rest)
   tree-bytes {d = d} (inner {r = r} {rs = rs} {qs = qs} {b = b} {i = i} dep ex kin val deep in-it rest) =
       run-bytes true d r qs rs (prefixed i) b dep (tree-over in-it) (tree-low sch payload rest)
-      (ap (λ (k : ℕ). body (shape k) payload r (bytesIn (not (eqb k 20)) payload qs)) kin
-      ∙ ap (λ (x : Shape). body x payload r (bytesIn true payload qs)) shape-11 ∙ ap prefixed (tree-bytes in-it)) (tree-bytes rest)
+      (ap (λ (k : ℕ). body (shape k) payload r (bytesIn (not (eqb k packedHead)) payload qs)) kin
+      ∙ ap (λ (x : Shape). body x payload r (bytesIn true payload qs)) shape-message ∙ ap prefixed (tree-bytes in-it)) (tree-bytes rest)
   tree-bytes {d = d} (row-of {r = r} {rs = rs} {qs = qs} {b = b} {i = i} c dep ex kin val sh in-it long rest) =
       run-bytes true d r qs rs (prefixed i) b dep (values-over in-it) (tree-low sch payload rest)
-      (ap (λ (k : ℕ). body (shape k) payload r (bytesIn (not (eqb k 20)) payload qs)) kin
-      ∙ ap (λ (x : Shape). body x payload r (bytesIn false payload qs)) shape-20 ∙ ap prefixed (values-bytes sh in-it)) (tree-bytes rest)
+      (ap (λ (k : ℕ). body (shape k) payload r (bytesIn (not (eqb k packedHead)) payload qs)) kin
+      ∙ ap (λ (x : Shape). body x payload r (bytesIn false payload qs)) shape-packed ∙ ap prefixed (values-bytes sh in-it)) (tree-bytes rest)
 
   -- ---- its validity: each record is without fault, if the records behind it are
 
   no-fault : (here : Place) (out : List Place) (r : Record) (rs : List Record) → expected sch here r ≡ true → fitting (shape (r .kind)) payload r ≡ true
-      → (eqb (r .kind) 20 && not (nextDeeper r rs)) ≡ false → (eqb (r .kind) 11 && leb 100 (r .depth)) ≡ false
-      → (eqb (r .kind) 9 && not (utf8 (part (r .start) (r .stop) payload))) ≡ false → recordFault sch payload (here ∷ out) r rs ≡ 0
+      → (eqb (r .kind) packedHead && not (nextDeeper r rs)) ≡ false → (eqb (r .kind) messageKind && leb mostLevels (r .depth)) ≡ false
+      → (eqb (r .kind) stringKind && not (utf8 (part (r .start) (r .stop) payload))) ≡ false → recordFault sch payload (here ∷ out) r rs ≡ 0
   unfolding recordFault
   no-fault here out r rs p q x y z =
-      let test : Bool → Bool → Bool → Bool → Bool → ℕ = λ a b c d e. if not a then 10 else if not b then 10 else if c then 10 else if d then 7 else if e then 6 else 0 in
+      let test : Bool → Bool → Bool → Bool → Bool → ℕ = λ a b c d e. if not a then invalidList else if not b then invalidList else if c then invalidList else if d then tooDeep else if e then notUtf8 else 0 in
       let a : Bool = expected sch here r in
       let b : Bool = fitting (shape (r .kind)) payload r in
-      let c : Bool = eqb (r .kind) 20 && not (nextDeeper r rs) in
-      let d : Bool = eqb (r .kind) 11 && leb 100 (r .depth) in
-      let e : Bool = eqb (r .kind) 9 && not (utf8 (part (r .start) (r .stop) payload)) in
+      let c : Bool = eqb (r .kind) packedHead && not (nextDeeper r rs) in
+      let d : Bool = eqb (r .kind) messageKind && leb mostLevels (r .depth) in
+      let e : Bool = eqb (r .kind) stringKind && not (utf8 (part (r .start) (r .stop) payload)) in
       ap (λ (u : Bool). test u b c d e) p ∙ ap (λ (u : Bool). test true u c d e) q ∙ ap (λ (u : Bool). test true true u d e) x
       ∙ ap (λ (u : Bool). test true true false u e) y ∙ ap (λ (u : Bool). test true true false false u) z
 
   no-fault-plain : (here : Place) (out : List Place) (r : Record) (rs : List Record) → expected sch here r ≡ true → fitting (shape (r .kind)) payload r ≡ true
       → Plain (r .kind) → recordFault sch payload (here ∷ out) r rs ≡ 0
   no-fault-plain here out r rs p q x =
-      no-fault here out r rs p q (ap (λ (u : Bool). u && not (nextDeeper r rs)) (x .no-packed)) (ap (λ (u : Bool). u && leb 100 (r .depth)) (x .no-message))
+      no-fault here out r rs p q (ap (λ (u : Bool). u && not (nextDeeper r rs)) (x .no-packed)) (ap (λ (u : Bool). u && leb mostLevels (r .depth)) (x .no-message))
       (ap (λ (u : Bool). u && not (utf8 (part (r .start) (r .stop) payload))) (x .no-string))
 
   one-fine : (here : Place) (out : List Place) (r : Record) (rs : List Record) (j : ℕ) (next : List Place) → r .depth ≡ length out
@@ -169,9 +170,9 @@ module _ (sch : Schema) (payload : List ℕ) where
   is-expected : (t : ℕ) (r : Record) → Expected sch t r → recorded (wire (r .kind)) ≡ true → expected sch (Fields t) r ≡ true
   unfolding expected
   is-expected t r x h =
-      both-true (both-true (both-true (le-leb 1 (r .number) (x .low)) (le-leb (r .number) 536870911 (x .high))) h) (eq-eqb (r .kind) _ (sym (x .reads)))
+      both-true (both-true (both-true (le-leb 1 (r .number) (x .low)) (le-leb (r .number) largestNumber (x .high))) h) (eq-eqb (r .kind) _ (sym (x .reads)))
 
-  inside-is : (t : ℕ) (out : List Place) (r : Record) (a b : Bool) → eqb (r .kind) 11 ≡ a → eqb (r .kind) 20 ≡ b
+  inside-is : (t : ℕ) (out : List Place) (r : Record) (a b : Bool) → eqb (r .kind) messageKind ≡ a → eqb (r .kind) packedHead ≡ b
       → inside sch (Fields t ∷ out) r ≡ (if a then Fields (lookup (sch .entries) t (r .number) .child) ∷ Fields t ∷ out else
       if b then Elements (r .number) (lookup (sch .entries) t (r .number) .kind) ∷ Fields t ∷ out else Fields t ∷ out)
   unfolding inside
@@ -204,13 +205,13 @@ module _ (sch : Schema) (payload : List ℕ) where
       (no-fault-plain (Fields t) out r (rs ++ rest) (is-expected t r ex (recorded-shape (r .kind) (one c) sh (recorded-one c)))
       (ap (λ (x : Shape). fitting x payload r) sh ∙ f) pl) (inside-is t out r false false (pl .no-message) (pl .no-packed)) (tree-fine tr out l rest lo more (j + 1))
   tree-fine {t} (text {r = r} {rs = rs} dep ex sh val li u tr) out l rest lo more j =
-      let kin : r .kind ≡ 9 = kind-9 (r .kind) sh in
+      let kin : r .kind ≡ stringKind = is-string-kind (r .kind) sh in
       one-fine (Fields t) out r (rs ++ rest) j (Fields t ∷ out) (dep ∙ l)
       (no-fault (Fields t) out r (rs ++ rest) (is-expected t r ex (recorded-shape (r .kind) (other string) sh refl))
       (ap (λ (x : Shape). fitting x payload r) sh ∙ both-true (eq-eqb (r .value) 0 val) li)
-      (ap (λ (k : ℕ). eqb k 20 && not (nextDeeper r (rs ++ rest))) kin) (ap (λ (k : ℕ). eqb k 11 && leb 100 (r .depth)) kin)
-      (ap₂ (λ (k : ℕ) (x : Bool). eqb k 9 && not x) kin u))
-      (inside-is t out r false false (ap (λ (k : ℕ). eqb k 11) kin) (ap (λ (k : ℕ). eqb k 20) kin)) (tree-fine tr out l rest lo more (j + 1))
+      (ap (λ (k : ℕ). eqb k packedHead && not (nextDeeper r (rs ++ rest))) kin) (ap (λ (k : ℕ). eqb k messageKind && leb mostLevels (r .depth)) kin)
+      (ap₂ (λ (k : ℕ) (x : Bool). eqb k stringKind && not x) kin u))
+      (inside-is t out r false false (ap (λ (k : ℕ). eqb k messageKind) kin) (ap (λ (k : ℕ). eqb k packedHead) kin)) (tree-fine tr out l rest lo more (j + 1))
   tree-fine {t} (blob {r = r} {rs = rs} dep ex sh val li tr) out l rest lo more j =
       let pl : Plain (r .kind) = plain-bytes (r .kind) sh in
       one-fine (Fields t) out r (rs ++ rest) j (Fields t ∷ out) (dep ∙ l)
@@ -219,7 +220,7 @@ module _ (sch : Schema) (payload : List ℕ) where
       (inside-is t out r false false (pl .no-message) (pl .no-packed)) (tree-fine tr out l rest lo more (j + 1))
   tree-fine {t} {d} (inner {r = r} {rs = rs} {qs = qs} dep ex kin val deep in-it tr) out l rest lo more j =
       let e : Entry = lookup (sch .entries) t (r .number) in
-      let sh : shape (r .kind) ≡ other message = ap shape kin ∙ shape-11 in
+      let sh : shape (r .kind) ≡ other message = ap shape kin ∙ shape-message in
       let l′ : d + 1 ≡ suc (length out) = omega arith in
       let lo′ : Low (d + 1) (rs ++ rest) = low-append (d + 1) rs rest (tree-low sch payload tr) lo in
       let behind : (j : ℕ) → listFault sch payload j (Fields (e .child) ∷ Fields t ∷ out) (rs ++ rest) ≡ Fine =
@@ -228,13 +229,13 @@ module _ (sch : Schema) (payload : List ℕ) where
       (one-fine (Fields t) out r (qs ++ (rs ++ rest)) j (Fields (e .child) ∷ Fields t ∷ out) (dep ∙ l)
       (no-fault (Fields t) out r (qs ++ (rs ++ rest)) (is-expected t r ex (recorded-shape (r .kind) (other message) sh refl))
       (ap (λ (x : Shape). fitting x payload r) sh ∙ eq-eqb (r .value) 0 val)
-      (ap (λ (k : ℕ). eqb k 20 && not (nextDeeper r (qs ++ (rs ++ rest)))) kin) (ap₂ (λ (k : ℕ) (x : Bool). eqb k 11 && x) kin (lt-leb 100 (r .depth) (omega arith)))
-      (ap (λ (k : ℕ). eqb k 9 && not (utf8 (part (r .start) (r .stop) payload))) kin))
-      (inside-is t out r true false (ap (λ (k : ℕ). eqb k 11) kin) (ap (λ (k : ℕ). eqb k 20) kin))
+      (ap (λ (k : ℕ). eqb k packedHead && not (nextDeeper r (qs ++ (rs ++ rest)))) kin) (ap₂ (λ (k : ℕ) (x : Bool). eqb k messageKind && x) kin (lt-leb mostLevels (r .depth) (omega arith)))
+      (ap (λ (k : ℕ). eqb k stringKind && not (utf8 (part (r .start) (r .stop) payload))) kin))
+      (inside-is t out r true false (ap (λ (k : ℕ). eqb k messageKind) kin) (ap (λ (k : ℕ). eqb k packedHead) kin))
       (tree-fine in-it (Fields t ∷ out) l′ (rs ++ rest) (low-weaker (d + 1) (d + 1 + 1) (rs ++ rest) (omega arith) lo′) behind (j + 1)))
   tree-fine {t} {d} (row-of {r = r} {rs = rs} {qs = qs} c dep ex kin val sh in-it long tr) out l rest lo more j =
       let e : Entry = lookup (sch .entries) t (r .number) in
-      let sh′ : shape (r .kind) ≡ other packed = ap shape kin ∙ shape-20 in
+      let sh′ : shape (r .kind) ≡ other packed = ap shape kin ∙ shape-packed in
       let l′ : d + 1 ≡ suc (length out) = omega arith in
       let lo′ : Low (d + 1) (rs ++ rest) = low-append (d + 1) rs rest (tree-low sch payload tr) lo in
       let behind : (j : ℕ) → listFault sch payload j (Elements (r .number) (e .kind) ∷ Fields t ∷ out) (rs ++ rest) ≡ Fine =
@@ -243,10 +244,10 @@ module _ (sch : Schema) (payload : List ℕ) where
       (one-fine (Fields t) out r (qs ++ (rs ++ rest)) j (Elements (r .number) (e .kind) ∷ Fields t ∷ out) (dep ∙ l)
       (no-fault (Fields t) out r (qs ++ (rs ++ rest)) (is-expected t r ex (recorded-shape (r .kind) (other packed) sh′ refl))
       (ap (λ (x : Shape). fitting x payload r) sh′ ∙ eq-eqb (r .value) 0 val)
-      (ap₂ (λ (k : ℕ) (x : Bool). eqb k 20 && not x) kin (values-next in-it long r (rs ++ rest) (ap (λ (n : ℕ). n + 1) (sym dep))))
-      (ap (λ (k : ℕ). eqb k 11 && leb 100 (r .depth)) kin)
-      (ap (λ (k : ℕ). eqb k 9 && not (utf8 (part (r .start) (r .stop) payload))) kin))
-      (inside-is t out r false true (ap (λ (k : ℕ). eqb k 11) kin) (ap (λ (k : ℕ). eqb k 20) kin))
+      (ap₂ (λ (k : ℕ) (x : Bool). eqb k packedHead && not x) kin (values-next in-it long r (rs ++ rest) (ap (λ (n : ℕ). n + 1) (sym dep))))
+      (ap (λ (k : ℕ). eqb k messageKind && leb mostLevels (r .depth)) kin)
+      (ap (λ (k : ℕ). eqb k stringKind && not (utf8 (part (r .start) (r .stop) payload))) kin))
+      (inside-is t out r false true (ap (λ (k : ℕ). eqb k messageKind) kin) (ap (λ (k : ℕ). eqb k packedHead) kin))
       (values-fine sh in-it (Fields t ∷ out) l′ (rs ++ rest) behind (j + 1)))
 
   -- ---- both, for a whole list

@@ -9,7 +9,8 @@ use lib.ListN.{length, take, drop, length-append, length-take, length-drop}
 use lib.Seq.{drop-append-seam, take-append-seam}
 use lib.Dec.{leb, ltb, eqb}
 use borrow.Author.Tests.{le-leb}
-use Rattle.spec.specs.Base.{if_then_else_, part, Read, Took, No, require, longer, _>>=_}
+use Rattle.spec.specs.Names.{badTag, endsEarly, fixed32Wire, largestNumber, mostLevels, notUtf8, packedHead}
+use Rattle.spec.specs.Base.{if_then_else_, part, Read, Took, No, require, longer, _>>=_, limit}
 use Rattle.spec.specs.Varint.{varint, encode, tag, goodTag}
 use Rattle.spec.specs.Utf8.{utf8}
 use Rattle.spec.specs.Kind.{Scalar, one, other, string, bytes, message, packed, shape, encoded, fits}
@@ -23,14 +24,14 @@ use Rattle.spec.proofs.VarintLaws.{varint-shortest, top}
 use Rattle.spec.proofs.KindLaws.{scalar-encoded}
 use Rattle.spec.proofs.FieldLaws.{given-took, bytes-value, string-value, message-head, packed-head}
 
-pub tag-written : (m w : ℕ) (u : List ℕ) → 1 ≤ m → m ≤ 536870911 → w ≤ 5
+pub tag-written : (m w : ℕ) (u : List ℕ) → 1 ≤ m → m ≤ largestNumber → w ≤ fixed32Wire
     → tag (encode (m * 8 + w) ++ u) ≡ Took (m * 8 + w) (length (encode (m * 8 + w)))
 unfolding tag require
 tag-written m w u h i j =
     let t : ℕ = m * 8 + w in
-    ap (require 3 goodTag) (varint-shortest 4 9 15 t u (omega arith) (omega arith) (omega arith))
-    ∙ ap (λ (b : Bool). if b then Took t (length (encode t)) else No 3)
-    (both-true (le-leb (t % 8) 5 (omega arith)) (le-leb 1 (t / 8) (omega arith)))
+    ap (require badTag goodTag) (varint-shortest 4 9 15 t u (omega arith) (omega arith) (omega arith))
+    ∙ ap (λ (b : Bool). if b then Took t (length (encode t)) else No badTag)
+    (both-true (le-leb (t % 8) fixed32Wire (omega arith)) (le-leb 1 (t / 8) (omega arith)))
 
 -- a prefixed content is found again, whichever width its length is read in
 pub content-written : (k last : ℕ) (c u : List ℕ) → k ≤ 9 → last < 128 → length c < top k last
@@ -42,8 +43,8 @@ content-written k last c u h i j =
     let reads : varint k last x ≡ Took (length c) (length p) = ap (varint k last) (append-assoc p c u) ∙ varint-shortest k 9 last (length c) (c ++ u) h i j in
     let fits : leb (length p + length c) (length x) ≡ true =
     le-leb (length p + length c) (length x) (omega (arith, length-append (p ++ c) u, length-append p c)) in
-    ap (λ (r : Read). r >>= λ m n. if leb (n + m) (length x) then Took n m else No 1) reads
-    ∙ ap (λ (b : Bool). longer (length p) (if b then Took (length p) (length c) else No 1)) fits
+    ap (λ (r : Read). r >>= λ m n. if leb (n + m) (length x) then Took n m else No endsEarly) reads
+    ∙ ap (λ (b : Bool). longer (length p) (if b then Took (length p) (length c) else No endsEarly)) fits
     ∙ ap (Took (length p)) (sym (length-append p c))
 
 pub part-written : (c u : List ℕ) → part (length (encode (length c))) (length (prefixed c)) (prefixed c ++ u) ≡ c
@@ -53,7 +54,7 @@ part-written c u =
     ap₂ take long (ap (drop (length p)) (append-assoc p c u) ∙ drop-append-seam p (c ++ u)) ∙ take-append-seam c u
 
 -- the field behind a written tag, as its entry and its wire type say
-pub field-written : (sch : Schema) (depth type m w : ℕ) (u : List ℕ) → 1 ≤ m → m ≤ 536870911 → w ≤ 5
+pub field-written : (sch : Schema) (depth type m w : ℕ) (u : List ℕ) → 1 ≤ m → m ≤ largestNumber → w ≤ fixed32Wire
     → field (says sch) depth type (encode (m * 8 + w) ++ u)
     ≡ shaped (shape (saysOf (lookup (sch .entries) type m) w .kind)) depth (saysOf (lookup (sch .entries) type m) w .inner) m (saysOf (lookup (sch .entries) type m) w .kind)
     (length (encode (m * 8 + w))) u
@@ -80,16 +81,16 @@ from c = length (encode (length c))
 abbrev pub to : List ℕ → ℕ
 to c = length (prefixed c)
 
-module _ (depth inner m kind n : ℕ) (c u : List ℕ) (small : length c ≤ 2147483647) where
+module _ (depth inner m kind n : ℕ) (c u : List ℕ) (small : length c ≤ limit) where
   pub bytes-written : shaped (other bytes) depth inner m kind n (prefixed c ++ u) ≡ Value m kind 0 (n + from c) (n + to c)
   bytes-written = bytes-value depth inner m kind n (prefixed c ++ u) ∙ given-took _ (content-written 4 15 c u (omega arith) (omega arith) (omega arith))
 
   pub string-written : utf8 c ≡ true → shaped (other string) depth inner m kind n (prefixed c ++ u) ≡ Value m kind 0 (n + from c) (n + to c)
   string-written h =
       string-value depth inner m kind n (prefixed c ++ u) ∙ given-took _ (content-written 4 15 c u (omega arith) (omega arith) (omega arith))
-      ∙ ap (λ (b : Bool). if b then Value m kind 0 (n + from c) (n + to c) else Fault 6 0) (ap utf8 (part-written c u) ∙ h)
+      ∙ ap (λ (b : Bool). if b then Value m kind 0 (n + from c) (n + to c) else Fault notUtf8 0) (ap utf8 (part-written c u) ∙ h)
 
-  pub message-written : depth < 100 → shaped (other message) depth inner m kind n (prefixed c ++ u) ≡ Message m inner (n + from c) (n + to c)
+  pub message-written : depth < mostLevels → shaped (other message) depth inner m kind n (prefixed c ++ u) ≡ Message m inner (n + from c) (n + to c)
   message-written h = message-head depth inner m kind n (prefixed c ++ u) h ∙ given-took _ (content-written 9 1 c u (omega arith) (omega arith) (omega arith))
 
   pub packed-written : shaped (other packed) depth inner m kind n (prefixed c ++ u) ≡ Packed m inner (n + from c) (n + to c)
@@ -116,7 +117,7 @@ bytesOf-enough (suc f) (suc g) tags payload (r ∷ rs) hf hg =
     let first : length (take n rs) ≤ length rs = omega (arith, length-take n rs) in
     let rest : length (drop n rs) ≤ length rs = omega (arith, length-drop n rs) in
     ap₂ (λ (x y : List ℕ). tagOf tags r ++ body (shape (r .kind)) payload r x ++ y)
-    (bytesOf-enough f g (not (eqb (r .kind) 20)) payload (take n rs) (omega arith) (omega arith))
+    (bytesOf-enough f g (not (eqb (r .kind) packedHead)) payload (take n rs) (omega arith) (omega arith))
     (bytesOf-enough f g tags payload (drop n rs) (omega arith) (omega arith))
 
 -- a record's tag and body, in which the records that stand deeper are written, and then those behind them
@@ -125,7 +126,7 @@ bytesIn tags payload rs = bytesOf (length rs) tags payload rs
 
 pub bytes-cons : (tags : Bool) (payload : List ℕ) (r : Record) (rs : List Record)
     → bytesIn tags payload (r ∷ rs)
-    ≡ tagOf tags r ++ body (shape (r .kind)) payload r (bytesIn (not (eqb (r .kind) 20)) payload (take (deeper (r .depth) rs) rs))
+    ≡ tagOf tags r ++ body (shape (r .kind)) payload r (bytesIn (not (eqb (r .kind) packedHead)) payload (take (deeper (r .depth) rs) rs))
     ++ bytesIn tags payload (drop (deeper (r .depth) rs) rs)
 unfolding bytesOf
 bytes-cons tags payload r rs =
@@ -133,5 +134,5 @@ bytes-cons tags payload r rs =
     let first : length (take n rs) ≤ length rs = omega (arith, length-take n rs) in
     let rest : length (drop n rs) ≤ length rs = omega (arith, length-drop n rs) in
     ap₂ (λ (x y : List ℕ). tagOf tags r ++ body (shape (r .kind)) payload r x ++ y)
-    (bytesOf-enough (length rs) (length (take n rs)) (not (eqb (r .kind) 20)) payload (take n rs) first (omega arith))
+    (bytesOf-enough (length rs) (length (take n rs)) (not (eqb (r .kind) packedHead)) payload (take n rs) first (omega arith))
     (bytesOf-enough (length rs) (length (drop n rs)) tags payload (drop n rs) rest (omega arith))

@@ -1,5 +1,5 @@
 -- What every definition of this folder uses: a choice, what reading at the front of some bytes finds, a part of the bytes.
--- A byte is a number below 256, and a run of bytes is a List ℕ. Refusals have the numbers of the table in docs/DEFINITIONS.md.
+-- A byte is a number below 256, and a run of bytes is a List ℕ. Refusals have the numbers of specs/Names.
 -- Some definitions count down a first number k, as they recur on bytes that are no part of the pattern. Their callers give the length;
 -- that any k which is no less gives the same, and the equations with no k, are laws (proofs/).
 -- Assumes nothing: these are definitions.
@@ -8,6 +8,7 @@ use mathlib.Core.Bool.{Bool, true, false, _&&_}
 use mathlib.Core.List.{List, _++_}
 use lib.ListN.{length, take, drop}
 use lib.Dec.{leb}
+use Rattle.spec.specs.Names.{tooLarge}
 
 infixr 10 if_then_else_
 abbrev pub if_then_else_ {ℓ} : {A : Type ℓ} → Bool → A → A → A
@@ -76,4 +77,4 @@ digit base b (No k) = No k
 
 -- a size that may be read or written, or refusal 11; no bytes are read for it
 unfoldable pub limited : ℕ → Read
-limited n = if leb n limit then Took n 0 else No 11
+limited n = if leb n limit then Took n 0 else No tooLarge

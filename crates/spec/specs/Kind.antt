@@ -5,6 +5,7 @@ use mathlib.Core.Bool.{Bool, true, false, _||_}
 use mathlib.Core.List.{List, [], _∷_, _++_}
 use lib.ListN.{getD}
 use lib.Dec.{ltb}
+use Rattle.spec.specs.Names.{outOfRange, varintWire, fixed64Wire, delimitedWire, startGroupWire, endGroupWire, fixed32Wire, noWire}
 use Rattle.spec.specs.Base.{if_then_else_, between, Read, meaning, require}
 use Rattle.spec.specs.Varint.{varint32, varint64, encode, zigzag, unzigzag, fixed, little}
 
@@ -20,15 +21,17 @@ pub data Shape : Type 0 where
   one : Scalar → Shape
   other : Special → Shape
 
--- The wire type of each kind of descriptor.proto, 1 to 18 (10 unused). A wire type of 7, which no tag has, says that there is no such kind.
---           -   dbl flt i64 u64 i32 f64 f32 boo str -   msg byt u32 enu sf4 sf8 s32 s64
+-- The wire type of each kind of descriptor.proto, from 0 on; `noWire` where there is no such kind.
 unfoldable pub kindWires : List ℕ
-kindWires = 7 ∷ 1 ∷ 5 ∷ 0 ∷ 0 ∷ 0 ∷ 1 ∷ 5 ∷ 0 ∷ 2 ∷ 7 ∷ 2 ∷ 2 ∷ 0 ∷ 0 ∷ 5 ∷ 1 ∷ 0 ∷ 0 ∷ []
+kindWires =
+    noWire
+    ∷ fixed64Wire ∷ fixed32Wire ∷ varintWire ∷ varintWire ∷ varintWire ∷ fixed64Wire  -- double float int64 uint64 int32 fixed64
+    ∷ fixed32Wire ∷ varintWire ∷ delimitedWire ∷ noWire ∷ delimitedWire ∷ delimitedWire  -- fixed32 bool string - message bytes
+    ∷ varintWire ∷ varintWire ∷ fixed32Wire ∷ fixed64Wire ∷ varintWire ∷ varintWire ∷ []  -- uint32 enum sfixed32 sfixed64 sint32 sint64
 
--- The same of our own kinds, from 19 on: 20 packed head, 21 to 24 unknown; 25 and 26 are the start and the end of a group, which give no record.
---         19  20  21  22  23  24  25  26
+-- The same of our own kinds, from `ownKinds` on: none, the packed head, the four unknown ones; the start and the end of a group, which give no record.
 unfoldable pub ownWires : List ℕ
-ownWires = 7 ∷ 2 ∷ 0 ∷ 1 ∷ 2 ∷ 5 ∷ 3 ∷ 4 ∷ []
+ownWires = noWire ∷ delimitedWire ∷ varintWire ∷ fixed64Wire ∷ delimitedWire ∷ fixed32Wire ∷ startGroupWire ∷ endGroupWire ∷ []
 
 unfoldable pub wires : List ℕ
 unfolding kindWires ownWires
@@ -45,7 +48,7 @@ shapes =
 
 unfoldable pub wire : ℕ → ℕ
 unfolding wires
-wire kind = getD wires kind 7
+wire kind = getD wires kind noWire
 
 unfoldable pub shape : ℕ → Shape
 unfolding shapes
@@ -65,7 +68,7 @@ extend v = if ltb v (2 ^ 31) then v else v + (2 ^ 64 - 2 ^ 32)
 
 -- how it is read
 unfoldable pub scalar : Scalar → List ℕ → Read
-scalar int32 s = require 5 signed32 (varint64 s)
+scalar int32 s = require outOfRange signed32 (varint64 s)
 scalar uint32 s = varint32 s
 scalar uint64 s = varint64 s
 scalar bool s = meaning (min 1) (varint64 s)

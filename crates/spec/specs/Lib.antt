@@ -1,3 +1,4 @@
+pub mod Names
 pub mod Base
 pub mod Varint
 pub mod Utf8

@@ -3,6 +3,7 @@ use Prim.Native.Nat.{ℕ, _+_}
 use mathlib.Core.List.{List, []}
 use lib.ListN.{length, drop}
 use lib.Dec.{leb, ltb}
+use Rattle.spec.specs.Names.{mostLevels, notUtf8, tooDeep, tooLarge}
 use Rattle.spec.specs.Base.{if_then_else_, limit, part, Read, Took, No}
 use Rattle.spec.specs.Varint.{varint32, varint64}
 use Rattle.spec.specs.Utf8.{utf8}
@@ -52,7 +53,7 @@ bounded at r = moved at (λ a z. Content (at + a) (at + z)) r
 
 -- a content that is no UTF-8 is refused 6
 unfoldable pub spelled : ℕ → List ℕ → Read → Moved
-spelled at s (Took a z) = if utf8 (part a z s) then bounded at (Took a z) else says (Refused 6 at) at
+spelled at s (Took a z) = if utf8 (part a z s) then bounded at (Took a z) else says (Refused notUtf8 at) at
 spelled at s (No k) = bounded at (No k)
 
 -- What is asked of the bytes s at a position and a level. The raw tag is any varint32; a skip tells how many bytes it used.
@@ -65,7 +66,7 @@ stepAt s at level (skip t) = moved at (λ v n. Number n) (skipFieldForTag t leve
 
 -- a message's content: 7, then its length, then the bytes that are left
 unfoldable pub enterAt : List ℕ → (at level : ℕ) → Moved
-enterAt s at level = if leb 100 level then says (Refused 7 at) at else bounded at (content varint64 (drop at s))
+enterAt s at level = if leb mostLevels level then says (Refused tooDeep at) at else bounded at (content varint64 (drop at s))
 
 -- ---- the calls on a reader
 
@@ -80,7 +81,7 @@ pub record Opened : Type 0 where
 unfoldable pub opened : List ℕ → Opened
 opened s =
     if ltb limit (length s)
-    then record { number = 11; reader = reader [] 0 0 }
+    then record { number = tooLarge; reader = reader [] 0 0 }
     else record { number = 0; reader = reader s 0 0 }
 
 pub record Stepped : Type 0 where

@@ -4,6 +4,7 @@ use mathlib.Core.List.{List, [], _∷_}
 use mathlib.Core.Option.{Option, none, some}
 use lib.ListN.{length, drop}
 use lib.Dec.{leb, ltb, eqb}
+use Rattle.spec.specs.Names.{badTag, invalidSchema, messageKind, mostLevels, noGroupOpen, noRoom, notUtf8, packedHead, tooDeep, tooLarge}
 use Rattle.spec.specs.Base.{if_then_else_, part, filled, limit, Read, Took, No}
 use Rattle.spec.specs.Varint.{varint32, varint64, tag}
 use Rattle.spec.specs.Utf8.{utf8}
@@ -30,15 +31,15 @@ given (No k) f = Fault k 0
 unfoldable pub shaped : Shape → (depth inner m kind n : ℕ) → List ℕ → Field
 shaped (one c) depth inner m kind n s = given (scalar c s) λ v l. Value m kind v n (n + l)
 shaped (other string) depth inner m kind n s =
-    given (content varint32 s) λ a z. if utf8 (part a z s) then Value m kind 0 (n + a) (n + z) else Fault 6 0
+    given (content varint32 s) λ a z. if utf8 (part a z s) then Value m kind 0 (n + a) (n + z) else Fault notUtf8 0
 shaped (other bytes) depth inner m kind n s = given (content varint32 s) λ a z. Value m kind 0 (n + a) (n + z)
 shaped (other message) depth inner m kind n s =
-    if leb 100 depth then Fault 7 0 else
+    if leb mostLevels depth then Fault tooDeep 0 else
     given (content varint64 s) λ a z. Message m inner (n + a) (n + z)
 shaped (other packed) depth inner m kind n s = given (content varint64 s) λ a z. Packed m inner (n + a) (n + z)
 shaped (other startGroup) depth inner m kind n s = given (outerGroup depth s) λ v l. Dropped m (n + l)
-shaped (other endGroup) depth inner m kind n s = Fault 4 0
-shaped (other nothing) depth inner m kind n s = Fault 3 0  -- no kind of a valid schema
+shaped (other endGroup) depth inner m kind n s = Fault noGroupOpen 0
+shaped (other nothing) depth inner m kind n s = Fault badTag 0  -- no kind of a valid schema
 
 -- what is known of a tag in a message of a type: for a schema sch that is `says sch`
 abbrev pub Look : Type 0
@@ -102,9 +103,9 @@ contents (other x) d m kind t at s = Done
 unfoldable pub records : (ℕ → ℕ → List ℕ → Reading) → ℕ → ℕ → List ℕ → Field → Reading
 records inner depth at s (Value m kind v a e) = row depth m kind v (at + a) (at + e) at then Done
 records inner depth at s (Message m child a e) =
-    row depth m 11 0 (at + a) (at + e) at then inner child (at + a) (part a e s)
+    row depth m messageKind 0 (at + a) (at + e) at then inner child (at + a) (part a e s)
 records inner depth at s (Packed m kind a e) =
-    let all = row depth m 20 0 (at + a) (at + e) at then contents (shape kind) (depth + 1) m kind at (at + a) (part a e s) in
+    let all = row depth m packedHead 0 (at + a) (at + e) at then contents (shape kind) (depth + 1) m kind at (at + a) (part a e s) in
     if eqb a e then Done else all
 records inner depth at s (Dropped m e) = Done
 records inner depth at s (Fault m p) = Refused m (at + p)
@@ -127,16 +128,16 @@ read look depth type at s = fields (length s) look depth type at s
 unfoldable pub within : ℕ → Reading → Reading
 within n Done = Done
 within n (Refused k p) = Refused k p
-within zero (r then q) = Refused 8 (r .tag)
+within zero (r then q) = Refused noRoom (r .tag)
 within (suc n) (r then q) = r then within n q
 
 unfoldable pub refusedOr : Option ℕ → Reading → Reading
 refusedOr none q = q
-refusedOr (some i) q = Refused 9 i
+refusedOr (some i) q = Refused invalidSchema i
 
 unfoldable pub reading : Schema → ℕ → List ℕ → Reading
 reading sch room s =
-    if ltb limit (length s) then Refused 11 0 else
+    if ltb limit (length s) then Refused tooLarge 0 else
     refusedOr (badSchema sch) (within room (read (says sch) 0 0 0 s))
 
 -- ---- its parts: number, place and records, whose count is their length

@@ -4,8 +4,9 @@ use mathlib.Core.List.{List, [], _∷_, _++_}
 use lib.ListN.{length, drop, getD}
 use lib.Dec.{ltb}
 use Rattle.spec.specs.Base.{if_then_else_}
+use Rattle.spec.specs.Names.{depthColumn, numberColumn, kindColumn, valueColumn, startColumn, stopColumn}
 
--- the six numbers of a record, and the place of its field's tag, which refusal 8 tells
+-- the numbers of a record, and the place of its field's tag, which refusal 8 tells
 pub record Record : Type 0 where
   pub depth : ℕ
   pub number : ℕ
@@ -35,7 +36,7 @@ unfoldable pub numbers : Record → List ℕ
 numbers r = r .depth ∷ r .number ∷ r .kind ∷ r .value ∷ r .start ∷ r .stop ∷ []
 
 abbrev pub loaded : List ℕ → Record
-loaded ns = row (getD ns 0 0) (getD ns 1 0) (getD ns 2 0) (getD ns 3 0) (getD ns 4 0) (getD ns 5 0) 0
+loaded ns = row (getD ns depthColumn 0) (getD ns numberColumn 0) (getD ns kindColumn 0) (getD ns valueColumn 0) (getD ns startColumn 0) (getD ns stopColumn 0) 0
 
 unfoldable pub stored : List Record → List ℕ
 stored [] = []

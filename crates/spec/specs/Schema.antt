@@ -5,6 +5,7 @@ use mathlib.Core.List.{List, [], _∷_}
 use mathlib.Core.Option.{Option, none, some}
 use lib.ListN.{length, drop, getD}
 use lib.Dec.{leb, ltb, eqb}
+use Rattle.spec.specs.Names.{doubleKind, groupKind, messageKind, sint64Kind, packedHead, unknownVarint, unknownFixed64, unknownBytes, unknownFixed32, groupStart, groupEnd, delimitedWire, ownerColumn, entryNumberColumn, entryKindColumn, repeatedColumn, childColumn, largestNumber, mostTypes, mostEntries}
 use Rattle.spec.specs.Base.{if_then_else_, between}
 use Rattle.spec.specs.Kind.{shape, isScalar, wire}
 use Rattle.spec.specs.declared.Entry.{Entry}
@@ -23,9 +24,9 @@ rises owner number e = ltb owner (e .owner) || eqb owner (e .owner) && ltb numbe
 unfoldable pub goodEntry : ℕ → Entry → Bool
 goodEntry types e =
     ltb (e .owner) types
-    && between 1 536870911 (e .number)
-    && between 1 18 (e .kind) && not (eqb (e .kind) 10)
-    && (if eqb (e .kind) 11 then ltb (e .child) types else eqb (e .child) 0)
+    && between 1 largestNumber (e .number)
+    && between doubleKind sint64Kind (e .kind) && not (eqb (e .kind) groupKind)
+    && (if eqb (e .kind) messageKind then ltb (e .child) types else eqb (e .child) 0)
 
 -- the place of the first bad entry, counted from i; the entry before has this owner and number (0 and 0 before the first)
 unfoldable pub badEntry : ℕ → ℕ → ℕ → ℕ → List Entry → Option ℕ
@@ -36,7 +37,7 @@ badEntry types owner number i (e ∷ es) =
 
 unfoldable pub badSchema : Schema → Option ℕ
 badSchema sch =
-    if between 1 32 (sch .types) && leb (length (sch .entries)) 256
+    if between 1 mostTypes (sch .types) && leb (length (sch .entries)) mostEntries
     then badEntry (sch .types) 0 0 0 (sch .entries)
     else some 0
 
@@ -61,14 +62,14 @@ placeOf i (e ∷ es) owner number =
 
 -- the kind of a field of this wire type that the schema does not say
 unfoldable pub unknownKind : ℕ → ℕ
-unknownKind w = getD (21 ∷ 22 ∷ 23 ∷ 25 ∷ 26 ∷ 24 ∷ []) w 0
+unknownKind w = getD (unknownVarint ∷ unknownFixed64 ∷ unknownBytes ∷ groupStart ∷ groupEnd ∷ unknownFixed32 ∷ []) w 0
 
 -- The kind that a field of this wire type is read as: a known number with its wire type is typed; a repeated entry of
 -- a kind that is one number takes wire type 2 as packed too; all else is unknown.
 unfoldable pub kindOf : Entry → ℕ → ℕ
 kindOf e w =
     if eqb w (wire (e .kind)) then e .kind else
-    if e .repeated && isScalar (shape (e .kind)) && eqb w 2 then 20 else
+    if e .repeated && isScalar (shape (e .kind)) && eqb w delimitedWire then packedHead else
     unknownKind w
 
 -- What a schema says of a field: the kind that it is read as, and what is in it, which is the type of a message's fields or the kind of a
@@ -78,7 +79,7 @@ pub record Says : Type 0 where
   pub inner : ℕ
 
 abbrev pub insideOf : ℕ → Entry → ℕ
-insideOf kind e = if eqb kind 20 then e .kind else if eqb kind 11 then e .child else 0
+insideOf kind e = if eqb kind packedHead then e .kind else if eqb kind messageKind then e .child else 0
 
 unfoldable pub saysOf : Entry → ℕ → Says
 saysOf e w = record { kind = kindOf e w; inner = insideOf (kindOf e w) e }
@@ -99,7 +100,8 @@ entryOf o n k r c = if ltb r 2 then record { owner = o; number = n; kind = k; re
 unfoldable pub entriesOf : ℕ → List ℕ → List Entry
 entriesOf zero ns = []
 entriesOf (suc k) ns =
-    entryOf (getD ns 0 0) (getD ns 1 0) (getD ns 2 0) (getD ns 3 0) (getD ns 4 0) ∷ entriesOf k (drop entryStride ns)
+    entryOf (getD ns ownerColumn 0) (getD ns entryNumberColumn 0) (getD ns entryKindColumn 0) (getD ns repeatedColumn 0) (getD ns childColumn 0)
+    ∷ entriesOf k (drop entryStride ns)
 
 -- A rest behind the whole entries is a wrong count of entries: it is a schema of no types, which is bad at 0.
 unfoldable pub schemaOf : ℕ → List ℕ → Schema

@@ -5,6 +5,7 @@ use mathlib.Core.Bool.{Bool, true, not}
 use mathlib.Core.List.{List, [], _∷_}
 use lib.ListN.{length, take, drop}
 use lib.Dec.{eqb}
+use Rattle.spec.specs.Names.{packedHead, unknownVarint, unknownFixed32}
 use Rattle.spec.specs.Base.{if_then_else_, between, Read, Took, limited}
 use Rattle.spec.specs.Varint.{size, tagSize, zigzag}
 use Rattle.spec.specs.Kind.{Scalar, int32, uint32, uint64, bool, sint32, sint64, fixed32, sfixed32, fixed64, Shape, one, other, string, bytes, message, packed, startGroup, endGroup, nothing, shape}
@@ -68,7 +69,7 @@ bodySize (other nothing) r inner = 0
 unfoldable pub unknownsSize : List Record → ℕ
 unknownsSize [] = 0
 unknownsSize (r ∷ rs) =
-    (if between 21 24 (r .kind) then tagSize (r .number) + bodySize (shape (r .kind)) r 0 else 0) + unknownsSize rs
+    (if between unknownVarint unknownFixed32 (r .kind) then tagSize (r .number) + bodySize (shape (r .kind)) r 0 else 0) + unknownsSize rs
 
 unfoldable pub unknownFieldsSize : List Record → Read
 unknownFieldsSize rs = limited (unknownsSize rs)
@@ -81,7 +82,7 @@ sizeUpTo (suc k) tags [] = 0
 sizeUpTo (suc k) tags (r ∷ rs) =
     let n = deeper (r .depth) rs in
     (if tags then tagSize (r .number) else 0)
-    + bodySize (shape (r .kind)) r (sizeUpTo k (not (eqb (r .kind) 20)) (take n rs))
+    + bodySize (shape (r .kind)) r (sizeUpTo k (not (eqb (r .kind) packedHead)) (take n rs))
     + sizeUpTo k tags (drop n rs)
 
 unfoldable pub sizeOf : List Record → ℕ

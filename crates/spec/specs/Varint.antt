@@ -4,12 +4,13 @@ use mathlib.Core.Bool.{Bool, _&&_}
 use mathlib.Core.List.{List, [], _∷_}
 use lib.Dec.{leb, ltb, eqb}
 use lib.Count.{leadingZeros}
+use Rattle.spec.specs.Names.{badTag, badVarint, endsEarly, fixed32Wire, largestNumber}
 use Rattle.spec.specs.Base.{if_then_else_, between, Read, Took, No, digit, require}
 
 -- A varint of at most k bytes and one more, which is at most `last`: seven bits a byte, the lowest first; behind a byte of 128 or more stands another.
 unfoldable pub varint : ℕ → ℕ → List ℕ → Read
-varint k last [] = No 1
-varint zero last (b ∷ s) = if leb b last then Took b 1 else No 2
+varint k last [] = No endsEarly
+varint zero last (b ∷ s) = if leb b last then Took b 1 else No badVarint
 varint (suc k) last (b ∷ s) =
     let more = digit 128 (b % 128) (varint k last s) in
     if ltb b 128 then Took b 1 else more
@@ -51,7 +52,7 @@ zigzag v = if ltb v (2 ^ 63) then 2 * v else 2 * (2 ^ 64 - v) - 1
 -- n bytes, the lowest first
 unfoldable pub fixed : ℕ → List ℕ → Read
 fixed zero s = Took 0 0
-fixed (suc n) [] = No 1
+fixed (suc n) [] = No endsEarly
 fixed (suc n) (b ∷ s) = digit 256 b (fixed n s)
 
 unfoldable pub little : ℕ → ℕ → List ℕ
@@ -60,11 +61,11 @@ little (suc n) v = v % 256 ∷ little n (v / 256)
 
 -- A tag is a varint32: the number times 8, plus the wire type. Wire types 6 and 7 and number 0 are refused.
 abbrev pub goodTag : ℕ → Bool
-goodTag t = leb (t % 8) 5 && leb 1 (t / 8)
+goodTag t = leb (t % 8) fixed32Wire && leb 1 (t / 8)
 
 unfoldable pub tag : List ℕ → Read
-tag s = require 3 goodTag (varint32 s)
+tag s = require badTag goodTag (varint32 s)
 
 -- the tag of this number and wire type; no bytes are read for it
 unfoldable pub makeTag : ℕ → ℕ → Read
-makeTag number w = if between 1 536870911 number && leb w 5 then Took (number * 8 + w) 0 else No 3
+makeTag number w = if between 1 largestNumber number && leb w fixed32Wire then Took (number * 8 + w) 0 else No badTag

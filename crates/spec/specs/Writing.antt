@@ -5,6 +5,7 @@ use mathlib.Core.List.{List, [], _∷_, _++_}
 use mathlib.Core.Option.{Option, none, some}
 use lib.ListN.{length, take, drop}
 use lib.Dec.{leb, ltb, eqb}
+use Rattle.spec.specs.Names.{delimitedWire, fixed32Wire, invalidList, invalidSchema, largestNumber, messageKind, mostLevels, notUtf8, outputShort, packedHead, stringKind, tooDeep, tooLarge}
 use Rattle.spec.specs.Base.{if_then_else_, between, part, filled, limit}
 use Rattle.spec.specs.Varint.{encode}
 use Rattle.spec.specs.Utf8.{utf8}
@@ -40,7 +41,7 @@ bytesOf (suc k) tags payload [] = []
 bytesOf (suc k) tags payload (r ∷ rs) =
     let n = deeper (r .depth) rs in
     tagOf tags r
-    ++ body (shape (r .kind)) payload r (bytesOf k (not (eqb (r .kind) 20)) payload (take n rs))
+    ++ body (shape (r .kind)) payload r (bytesOf k (not (eqb (r .kind) packedHead)) payload (take n rs))
     ++ bytesOf k tags payload (drop n rs)
 
 unfoldable pub written : List ℕ → List Record → List ℕ
@@ -55,12 +56,12 @@ pub data Place : Type 0 where
 
 -- the wire types whose fields give records
 abbrev pub recorded : ℕ → Bool
-recorded w = leb w 2 || eqb w 5
+recorded w = leb w delimitedWire || eqb w fixed32Wire
 
 -- number and kind are what reading under the schema would give there
 unfoldable pub expected : Schema → Place → Record → Bool
 expected sch (Fields type) r =
-    between 1 536870911 (r .number)
+    between 1 largestNumber (r .number)
     && recorded (wire (r .kind))
     && eqb (r .kind) (kindOf (lookup (sch .entries) type (r .number)) (wire (r .kind)))
 expected sch (Elements number kind) r = eqb (r .number) number && eqb (r .kind) kind
@@ -94,19 +95,19 @@ inside sch [] r = []
 inside sch (Elements number kind ∷ out) r = Elements number kind ∷ out
 inside sch (Fields type ∷ out) r =
     let e = lookup (sch .entries) type (r .number) in
-    if eqb (r .kind) 11 then Fields (e .child) ∷ Fields type ∷ out else
-    if eqb (r .kind) 20 then Elements (r .number) (e .kind) ∷ Fields type ∷ out else
+    if eqb (r .kind) messageKind then Fields (e .child) ∷ Fields type ∷ out else
+    if eqb (r .kind) packedHead then Elements (r .number) (e .kind) ∷ Fields type ∷ out else
     Fields type ∷ out
 
 -- the fault of a record that stands in these places, with the records rs behind it: 10, then 7, then 6; 0 where there is none
 unfoldable pub recordFault : Schema → List ℕ → List Place → Record → List Record → ℕ
-recordFault sch payload [] r rs = 10
+recordFault sch payload [] r rs = invalidList
 recordFault sch payload (here ∷ out) r rs =
-    if not (expected sch here r) then 10 else
-    if not (fitting (shape (r .kind)) payload r) then 10 else
-    if eqb (r .kind) 20 && not (nextDeeper r rs) then 10 else
-    if eqb (r .kind) 11 && leb 100 (r .depth) then 7 else
-    if eqb (r .kind) 9 && not (utf8 (part (r .start) (r .stop) payload)) then 6 else 0
+    if not (expected sch here r) then invalidList else
+    if not (fitting (shape (r .kind)) payload r) then invalidList else
+    if eqb (r .kind) packedHead && not (nextDeeper r rs) then invalidList else
+    if eqb (r .kind) messageKind && leb mostLevels (r .depth) then tooDeep else
+    if eqb (r .kind) stringKind && not (utf8 (part (r .start) (r .stop) payload)) then notUtf8 else 0
 
 -- fine, or a refusal's number and the index of its record
 pub data Verdict : Type 0 where
@@ -129,7 +130,7 @@ listFault sch payload i opened (r ∷ rs) =
 
 unfoldable pub schemaFirst : Option ℕ → Verdict → Verdict
 schemaFirst none v = v
-schemaFirst (some i) v = Faulty 9 i
+schemaFirst (some i) v = Faulty invalidSchema i
 
 unfoldable pub listCheck : Schema → List ℕ → List Record → Verdict
 listCheck sch payload rs = schemaFirst (badSchema sch) (listFault sch payload 0 (Fields 0 ∷ []) rs)
@@ -164,8 +165,8 @@ judged (Faulty k i) w = Failed k 0 i
 
 unfoldable pub sized : ℕ → List ℕ → Writing
 sized room s =
-    if ltb limit (length s) then Failed 11 0 0 else
-    if ltb room (length s) then Failed 12 (length s) 0 else
+    if ltb limit (length s) then Failed tooLarge 0 0 else
+    if ltb room (length s) then Failed outputShort (length s) 0 else
     Wrote s
 
 unfoldable pub writing : Schema → ℕ → List ℕ → List Record → Writing

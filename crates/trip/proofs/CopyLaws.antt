@@ -20,7 +20,7 @@ use Rattle.spec.proofs.FlatLaws.{untagged, records-stored}
 use Rattle.spec.proofs.SizeLaws.{Answered, wrote, short, above, faulty, writing-answered}
 use Rattle.onward.specs.Onward.{seen}
 use Rattle.onward.proofs.OnwardLaws.{same-seen}
-use Rattle.write.specs.Answers.{told}
+use Rattle.write.specs.Answers.{answerOfWriting}
 use Rattle.trip.specs.Copy.{sent, sentSize, reads}
 
 -- a part that begins at the front
@@ -31,13 +31,13 @@ part-front k b = let all : k - 0 ≡ k = omega arith in ap (λ (n : ℕ). take n
 
 -- what a writing leaves in an output: the bytes that it sent, at the front
 pub record Leaves (w : Writing) (out : List ℕ) : Type 0 where
-  pub size-is : sentSize (told w) ≡ length (sent w)
+  pub size-is : sentSize (answerOfWriting w) ≡ length (sent w)
   pub fits : length (sent w) ≤ length out
   pub kept : length (output w out) ≡ length out
   pub front : take (length (sent w)) (output w out) ≡ sent w
 
 pub writing-leaves : (sch : Schema) (payload : List ℕ) (rs : List Record) (out : List ℕ) → Leaves (writing sch (length out) payload rs) out
-unfolding told number size index output sent
+unfolding answerOfWriting number size index output sent
 writing-leaves sch payload rs out = go (writing-answered sch (length out) payload rs)
   where
     kept-length : length (written payload rs) ≤ length out → length (filled (written payload rs) out) ≡ length out

@@ -16,7 +16,7 @@ use Rattle.onward.proofs.OnwardLaws.{there-and-back}
 use Rattle.onward.proofs.RoomLaws.{onward-answer}
 use Rattle.read.specs.declared.Answer as read
 use Rattle.read.proofs.CallLaws as read-laws
-use Rattle.write.specs.Answers.{told}
+use Rattle.write.specs.Answers.{answerOfWriting}
 use Rattle.write.specs.declared.Answer.{Answer}
 use Rattle.write.proofs.CallLaws as write-laws
 use Rattle.trip.specs.Copy.{writes, reads}
@@ -44,7 +44,7 @@ module _ (sch : Schema) (list payload out room : List ℕ) where
       → write-laws.Answers (writes sch list payload out) a out out′ → a .number ≡ 0
       → read-laws.Answers (reads sch (take (a .size) out′) room) b room room′ → length (recordsOf list) ≤ length room / stride
       → (b .number ≡ 0) × (map (seen (take (a .size) out′)) (recordsOf (take (stride * b .count) room′)) ≡ map (seen payload) (recordsOf list))
-  unfolding told spec.writing
+  unfolding answerOfWriting spec.writing
   reads-back {a} {out′} {b} {room′} w zero r enough =
       let s : List ℕ = spec.written payload rs in
       let is = was-written (writing-answered sch (length out) payload rs) (sym (ap (λ (x : Answer). x .number) (w .0)) ∙ zero) in

@@ -15,7 +15,7 @@ use Rattle.onward.proofs.OnwardLaws.{demand-three}
 use Rattle.onward.proofs.RoomLaws.{onward-answer}
 use Rattle.read.specs.declared.Answer as read
 use Rattle.read.proofs.CallLaws as read-laws
-use Rattle.write.specs.Answers.{told}
+use Rattle.write.specs.Answers.{answerOfWriting}
 use Rattle.write.specs.declared.Answer.{Answer}
 use Rattle.write.proofs.CallLaws as write-laws
 use Rattle.trip.specs.Copy.{sent, writes, reads, rewrites, PassedOn, Copied, Demanded, message, Unharmed}
@@ -63,13 +63,13 @@ module _ (new old : Schema) (list payload bytes room again : List ℕ) where
 -- ---- demand 3
 
 -- what an answer and an output tell of a writing that is not refused
-module _ {w : spec.Writing} {s : List ℕ} (is : w ≡ spec.Wrote s) {a : Answer} (tells : a ≡ told w) where
+module _ {w : spec.Writing} {s : List ℕ} (is : w ≡ spec.Wrote s) {a : Answer} (tells : a ≡ answerOfWriting w) where
   told-well : a .number ≡ 0
-  unfolding told spec.number
+  unfolding answerOfWriting spec.number
   told-well = ap (λ (x : Answer). x .number) tells ∙ ap spec.number is
 
   pub told-front : (out : List ℕ) {out′ : List ℕ} → out′ ≡ spec.output w out → take (a .size) out′ ≡ s
-  unfolding told spec.size spec.output
+  unfolding answerOfWriting spec.size spec.output
   told-front out holds =
       let size-is : a .size ≡ length s = ap (λ (x : Answer). x .size) tells ∙ ap spec.size is in
       ap₂ take size-is (holds ∙ ap (λ (x : spec.Writing). spec.output x out) is) ∙ take-at s (drop (length s) out) (length s) refl

@@ -10,7 +10,7 @@ use Rattle.spec.specs.Schema.{Schema}
 use Rattle.spec.specs.Record.{Record, stride, recordsOf}
 use Rattle.spec.specs.Reading.{Reading, reading, number, place, listed, roomAfter}
 use Rattle.spec.specs.Writing.{written, Writing, Wrote, Failed, writing, output}
-use Rattle.write.specs.Answers.{told}
+use Rattle.write.specs.Answers.{answerOfWriting}
 use Rattle.write.specs.declared.Answer.{Answer}
 use Rattle.read.specs.declared.Answer as read
 use Rattle.onward.specs.Onward.{seen, onward, Given}
@@ -45,12 +45,12 @@ pub record PassedOn (old : Schema) (s room again : List ℕ) (got : read.Answer)
   pub place-is : got .place ≡ place (reads old s room)
   pub count-is : got .count ≡ length (listed (reads old s room))
   pub room-holds : room′ ≡ roomAfter (reads old s room) room
-  pub rewrote-is : rewrote ≡ told (rewrites old s room again)
+  pub rewrote-is : rewrote ≡ answerOfWriting (rewrites old s room again)
   pub again-holds : again′ ≡ output (rewrites old s room again) again
 
 -- What all three answer, and what the three lent buffers then hold. The bytes that were written are what is read.
 pub record Copied (new old : Schema) (list payload bytes room again : List ℕ) (t : Trip) (bytes′ room′ again′ : List ℕ) : Type 0 where
-  pub wrote-is : t .wrote ≡ told (writes new list payload bytes)
+  pub wrote-is : t .wrote ≡ answerOfWriting (writes new list payload bytes)
   pub bytes-hold : bytes′ ≡ output (writes new list payload bytes) bytes
   pub passed : PassedOn old (sent (writes new list payload bytes)) room again (t .read) (t .again) room′ again′
 

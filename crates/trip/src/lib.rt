@@ -5,6 +5,7 @@ ghost use Rattle.spec.specs.Record.{stride};
 ghost use Rattle.spec.specs.Schema.{schemaOf};
 ghost use Rattle.trip.specs.Copy.{sentSize, PassedOn, Copied, Demanded, Unharmed};
 use read::read;
+use spec::columns;
 use write::write;
 
 // What the three steps answered.
@@ -35,7 +36,7 @@ fn numbers_of(count: usize) -> usize
     requires { ⌜ stride * count < 2 ^ 64 ⌝ }
     ensures { λ r. ⌜ r ≡ stride * count ⌝ }
 {
-    count * 6
+    count * columns::STRIDE
 }
 
 // Reads a message, and writes again what was read: the records that stand in the room then, with the message for their payload.

@@ -10,11 +10,11 @@ use lib.ListN.{getD}
 use Rattle.utf8.specs.Text.{word, Low}
 
 -- the word, from its bytes and from its halves
-pub word-four : (s : List ℕ) (i : ℕ) → word 4 s i ≡ getD s i 0 + getD s (i + 1) 0 * 256 + getD s (i + 2) 0 * 65536 + getD s (i + 3) 0 * 16777216
+pub word-four : (s : List ℕ) (i : ℕ) → word 4 s i ≡ getD s i 0 + getD s (i + 1) 0 * 256 + getD s (i + 2) 0 * 0x1_0000 + getD s (i + 3) 0 * 0x100_0000
 unfolding word
 word-four s i = simp add-assoc (omega arith)
 
-pub word-eight : (s : List ℕ) (i : ℕ) → word 8 s i ≡ word 4 s i + word 4 s (i + 4) * 4294967296
+pub word-eight : (s : List ℕ) (i : ℕ) → word 8 s i ≡ word 4 s i + word 4 s (i + 4) * 0x1_0000_0000
 unfolding word
 word-eight s i = simp add-assoc (omega arith)
 

@@ -1,11 +1,14 @@
 // UTF-8, by the table of RFC 3629: how much of some bytes is valid, and whether all is.
 ghost use mathlib.Core.Path.{_≡_};
 ghost use mathlib.Core.Bool.{true};
-ghost use Prim.Native.Nat.{_+_, _<_, _≤_};
+ghost use Prim.Native.Nat.{_+_, _^_, _<_, _≤_};
 ghost use lib.ListN.{length, drop};
 ghost use Rattle.spec.specs.Base.{between};
 ghost use Rattle.spec.specs.Utf8.{lead, followers, char, validPrefix, utf8};
 ghost use Rattle.utf8.specs.Text.{leadOf, countOf, word, Low, Passed};
+
+// The high bit of each byte of a word.
+const HIGH_BITS: u64 = 0x8080_8080_8080_8080;
 
 fn wide(b: u8) -> u64
     ensures { λ r. ⌜ (r ≡ b) × (r < 256) ⌝ }
@@ -15,13 +18,13 @@ fn wide(b: u8) -> u64
 
 fn four(s: &[u8], i: usize) -> u64
     requires { ⌜ i + 4 ≤ length (now s) ⌝ }
-    ensures { λ r. ⌜ (r ≡ word 4 (now (s .entry)) i) × (r < 4294967296) ⌝ }
+    ensures { λ r. ⌜ (r ≡ word 4 (now (s .entry)) i) × (r < 2 ^ 32) ⌝ }
 {
     let a = wide(s[i]);
     let b = wide(s[i + 1]);
     let c = wide(s[i + 2]);
     let d = wide(s[i + 3]);
-    a + b * 256 + c * 65536 + d * 16777216
+    a + b * 256 + c * 0x1_0000 + d * 0x100_0000
 }
 
 // The eight bytes from i on as one number, the first lowest: a single load.
@@ -31,7 +34,7 @@ fn eight(s: &[u8], i: usize) -> u64
 {
     let a = four(s, i);
     let b = four(s, i + 4);
-    a + b * 4294967296
+    a + b * 0x1_0000_0000
 }
 
 // Whether the eight bytes from i on are ASCII: none has its high bit.
@@ -40,7 +43,7 @@ fn ascii8(s: &[u8], i: usize) -> bool
     ensures { λ r. ⌜ (r ≡ true → Low 8 (now (s .entry)) i) ⌝ }
 {
     let w = eight(s, i);
-    w & 0x8080808080808080 == 0
+    w & HIGH_BITS == 0
 }
 
 // Past the last bytes, at most eight, if they are ASCII. Fewer than eight are looked at together with those before them.

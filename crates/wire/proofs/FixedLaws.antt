@@ -7,18 +7,19 @@ use mathlib.Core.Path.{_≡_, refl, sym, ap, ap₂, _∙_}
 use mathlib.Core.List.{List, [], _∷_, _++_}
 use lib.ListN.{length, getD, drop, length-drop, set}
 use lib.Seq.{drop-cons, sets}
+use Rattle.spec.specs.Names.{endsEarly}
 use Rattle.spec.specs.Base.{Took, No, digit, found}
 use Rattle.spec.specs.Varint.{fixed, little}
-use Rattle.wire.specs.Answers.{told}
+use Rattle.wire.specs.Answers.{asRead}
 use Rattle.wire.specs.declared.found.Found.the-variants.{Refused}
 
-too-few : (n : ℕ) (s : List ℕ) → length s < n → fixed n s ≡ No 1
+too-few : (n : ℕ) (s : List ℕ) → length s < n → fixed n s ≡ No endsEarly
 unfolding fixed digit
 too-few zero s h = absurd (omega arith)
 too-few (suc n) [] h = refl
 too-few (suc n) (b ∷ s) h = ap (digit 256 b) (too-few n s (omega arith))
 
-pub fixed-short : (n : ℕ) (s : List ℕ) (at : ℕ) → 0 < n → length s < at + n → told at (Refused 1) ≡ fixed n (drop at s)
+pub fixed-short : (n : ℕ) (s : List ℕ) (at : ℕ) → 0 < n → length s < at + n → asRead at (Refused endsEarly) ≡ fixed n (drop at s)
 fixed-short n s at some h = sym (too-few n (drop at s) (omega (arith, length-drop at s)))
 
 -- a byte at a position; j is the next

@@ -17,7 +17,7 @@ use Rattle.spec.specs.Base.{Read, Took, No, digit, refusal, found, taken, fille
 use Rattle.spec.specs.Varint.{varint, encode, fixed}
 use Rattle.spec.proofs.Laws.{Takes, took, chosen, takes-varint, takes-fixed, takes-weaker}
 use Rattle.spec.proofs.VarintLaws.{top}
-use Rattle.wire.specs.Answers.{told}
+use Rattle.wire.specs.Answers.{asRead}
 use Rattle.wire.specs.declared.found.Found.{Found}
 use Rattle.wire.specs.declared.found.Found.the-variants.{Value, Refused}
 
@@ -27,7 +27,7 @@ some-taken : {least most v n : ℕ} → Takes least most (Took v n) → (least �
 some-taken (took h j) = (h, j)
 
 -- what takes at least a byte is told by one answer
-one-finding : (at : ℕ) {most : ℕ} {r : Read} (p q : Found) → Takes 1 most r → told at p ≡ r → told at q ≡ r → p ≡ q
+one-finding : (at : ℕ) {most : ℕ} {r : Read} (p q : Found) → Takes 1 most r → asRead at p ≡ r → asRead at q ≡ r → p ≡ q
 unfolding refusal found taken
 one-finding at (Value v n) (Value u m) t e f =
     let d : Took v (n - at) ≡ Took u (m - at) = e ∙ sym f in
@@ -36,10 +36,10 @@ one-finding at (Value v n) (Refused k) t e f = let z : _≡_ {A = ℕ} 0 1 = cc 
 one-finding at (Refused j) (Value u m) t e f = let z : _≡_ {A = ℕ} 0 1 = cc in absurd (omega arith)
 one-finding at (Refused j) (Refused k) t e f = ap Refused (ap refusal (e ∙ sym f))
 
-pub one-varint : (k last : ℕ) (s : List ℕ) (at : ℕ) (p q : Found) → told at p ≡ varint k last (drop at s) → told at q ≡ varint k last (drop at s) → p ≡ q
+pub one-varint : (k last : ℕ) (s : List ℕ) (at : ℕ) (p q : Found) → asRead at p ≡ varint k last (drop at s) → asRead at q ≡ varint k last (drop at s) → p ≡ q
 one-varint k last s at p q e f = one-finding at p q (takes-varint k last (drop at s)) e f
 
-pub one-fixed : (n : ℕ) (s : List ℕ) (at : ℕ) (p q : Found) → told at p ≡ fixed (suc n) (drop at s) → told at q ≡ fixed (suc n) (drop at s) → p ≡ q
+pub one-fixed : (n : ℕ) (s : List ℕ) (at : ℕ) (p q : Found) → asRead at p ≡ fixed (suc n) (drop at s) → asRead at q ≡ fixed (suc n) (drop at s) → p ≡ q
 one-fixed n s at p q e f = one-finding at {most = length (drop at s)} p q (takes-weaker (omega arith) (omega arith) (takes-fixed (suc n) (drop at s))) e f
 
 -- the promises that name their answer: zigzag on patterns, `extend32`, the size
@@ -96,10 +96,10 @@ pub record Placed (most : ℕ) (s : List ℕ) (at v next : ℕ) : Type 0 where
   pub inside : next ≤ length s
   pub small : v < most
 
-placed : {most at v next : ℕ} (s : List ℕ) {f : Found} {r : Read} → Takes 1 (length (drop at s)) r → Below most r → told at f ≡ r → f ≡ Value v next
+placed : {most at v next : ℕ} (s : List ℕ) {f : Found} {r : Read} → Takes 1 (length (drop at s)) r → Below most r → asRead at f ≡ r → f ≡ Value v next
     → Placed most s at v next
 placed {at = at} {v} {next} s t b p e =
-    let q : Took v (next - at) ≡ _ = ap (told at) (sym e) ∙ p in
+    let q : Took v (next - at) ≡ _ = ap (asRead at) (sym e) ∙ p in
     let h = some-taken (rw (← q) at t) in
     record { past = omega arith; inside = omega (arith, length-drop at s); small = lower (rw (← q) at b) }
   where
@@ -107,12 +107,12 @@ placed {at = at} {v} {next} s t b p e =
     lower (low h) = h
 
 -- a varint's, below 2 ^ 64 for 9 and 1, and below 2 ^ 32 for 4 and 15
-pub varint-placed : (k last : ℕ) (s : List ℕ) (at : ℕ) {f : Found} {v next : ℕ} → told at f ≡ varint k last (drop at s) → f ≡ Value v next
+pub varint-placed : (k last : ℕ) (s : List ℕ) (at : ℕ) {f : Found} {v next : ℕ} → asRead at f ≡ varint k last (drop at s) → f ≡ Value v next
     → Placed (top k last) s at v next
 varint-placed k last s at p e = placed s (takes-varint k last (drop at s)) (varint-below k last (drop at s)) p e
 
 -- a fixed value's, of a slice of bytes
-pub fixed-placed : (n : ℕ) (s : List ℕ) (at : ℕ) → ((i : ℕ) → Fits w8 (getD s i 0)) → {f : Found} {v next : ℕ} → told at f ≡ fixed (suc n) (drop at s)
+pub fixed-placed : (n : ℕ) (s : List ℕ) (at : ℕ) → ((i : ℕ) → Fits w8 (getD s i 0)) → {f : Found} {v next : ℕ} → asRead at f ≡ fixed (suc n) (drop at s)
     → f ≡ Value v next → Placed (256 ^ suc n) s at v next
 fixed-placed n s at h p e =
     placed s (takes-weaker (omega arith) (omega arith) (takes-fixed (suc n) (drop at s)))

@@ -4,6 +4,7 @@ use Prim.Native.Nat.{ℕ}
 use mathlib.Core.Path.{_≡_, refl, sym, ap, ap₂, _∙_}
 use native.Mathlib.Omega.{arith}
 use lib.Dec.{leb}
+use Rattle.spec.specs.Names.{delimitedWire, endGroupWire, fixed64Wire, startGroupWire, varintWire}
 use Rattle.spec.specs.Base.{if_then_else_, Read, Took}
 use Rattle.wire.specs.FormatTold.{wireNumber, wireTold, tagValue, tagTold, sizeTold}
 use Rattle.wire.specs.declared.wire_format.WireType.{WireType}
@@ -20,7 +21,8 @@ use Rattle.wire.proofs.FormatLaws.{small}
 -- the wire type of each number
 named : ℕ → WireType
 named n =
-    if leb n 0 then Varint else if leb n 1 then Fixed64 else if leb n 2 then LengthDelimited else if leb n 3 then StartGroup else if leb n 4 then EndGroup else Fixed32
+    if leb n varintWire then Varint else if leb n fixed64Wire then Fixed64 else if leb n delimitedWire then LengthDelimited else
+    if leb n startGroupWire then StartGroup else if leb n endGroupWire then EndGroup else Fixed32
 
 named-number : (w : WireType) → named (wireNumber w) ≡ w
 unfolding named

@@ -10,11 +10,12 @@ use mathlib.Core.List.{List}
 use lib.ListN.{length, getD, drop, drop-of-length-le}
 use lib.Seq.{drop-cons}
 use borrow.Author.Tests.{le-leb, lt-leb}
+use Rattle.spec.specs.Names.{badVarint, endsEarly}
 use Rattle.spec.specs.Base.{Read, Took, No, digit, meaning, longer}
 use Rattle.spec.specs.Varint.{varint}
 use Rattle.spec.proofs.VarintLaws.{varint-ends, varint-goes-on}
 use Rattle.wire.specs.Reached.{Reached, varintOf}
-use Rattle.wire.specs.Answers.{told}
+use Rattle.wire.specs.Answers.{asRead}
 use Rattle.wire.specs.declared.found.Found.the-variants.{Value, Refused}
 
 -- a digit behind n bytes, and what is read behind it
@@ -43,14 +44,14 @@ begin more last s at =
 
 module _ {more last : ℕ} {s : List ℕ} {at n value : ℕ} where
   -- the bytes end
-  pub ended : {left : ℕ} → Reached more last s at n left value → length s ≤ at + n → told at (Refused 1) ≡ varint more last (drop at s)
+  pub ended : {left : ℕ} → Reached more last s at n left value → length s ≤ at + n → asRead at (Refused endsEarly) ≡ varint more last (drop at s)
   unfolding varint longer meaning
   ended h out = sym (h .same ∙ simp (drop-of-length-le s out))
 
   module _ (inside : at + n < length s) where
     -- a byte that ends the varint, where another might follow
     pub stopped : {left : ℕ} → Reached more last s at n (suc left) value → getD s (at + n) 0 < 128
-        → told at (Value (value + getD s (at + n) 0 % 128 * 128 ^ n) (at + (n + 1))) ≡ varint more last (drop at s)
+        → asRead at (Value (value + getD s (at + n) 0 % 128 * 128 ^ n) (at + (n + 1))) ≡ varint more last (drop at s)
     unfolding longer meaning
     stopped {left} h small =
         let b = getD s (at + n) 0 in
@@ -74,17 +75,17 @@ module _ {more last : ℕ} {s : List ℕ} {at n value : ℕ} where
 
     -- the byte behind which none may stand
     pub took-last : Reached more last s at n 0 value → getD s (at + n) 0 ≤ last
-        → told at (Value (value + getD s (at + n) 0 * 128 ^ n) (at + (n + 1))) ≡ varint more last (drop at s)
+        → asRead at (Value (value + getD s (at + n) 0 * 128 ^ n) (at + (n + 1))) ≡ varint more last (drop at s)
     unfolding varint longer meaning
     took-last h small = sym (h .same ∙ simp (drop-cons s (at + n) 0 inside, le-leb (getD s (at + n) 0) last small) (ap₂ Took refl (omega arith)))
 
-    pub refused-last : Reached more last s at n 0 value → last < getD s (at + n) 0 → told at (Refused 2) ≡ varint more last (drop at s)
+    pub refused-last : Reached more last s at n 0 value → last < getD s (at + n) 0 → asRead at (Refused badVarint) ≡ varint more last (drop at s)
     unfolding varint longer meaning
     refused-last h large = sym (h .same ∙ simp (drop-cons s (at + n) 0 inside, lt-leb (getD s (at + n) 0) last large))
 
 -- the first byte
 module _ (more last : ℕ) (s : List ℕ) (at : ℕ) (inside : at < length s) where
-  pub one-byte : getD s at 0 < 128 → told at (Value (getD s at 0) (at + 1)) ≡ varint (suc more) last (drop at s)
+  pub one-byte : getD s at 0 < 128 → asRead at (Value (getD s at 0) (at + 1)) ≡ varint (suc more) last (drop at s)
   one-byte small =
       let next : at + 1 - at ≡ 1 = omega arith in
       rw (drop-cons s at 0 inside, next) (sym (varint-ends more last (getD s at 0) (drop (suc at) s) small))

@@ -12,9 +12,9 @@ use Rattle.wire.specs.declared.put.Put.{Put}
 use Rattle.wire.specs.declared.put.Put.the-variants.{Next, NoRoom}
 
 -- what was found at a position: the value and how many bytes it took, or the refusal's number
-abbrev pub told : ℕ → Found → Read
-told at (Value v next) = Took v (next - at)
-told at (Refused k) = No k
+abbrev pub asRead : ℕ → Found → Read
+asRead at (Value v next) = Took v (next - at)
+asRead at (Refused k) = No k
 
 -- what a slice holds when `bytes` were stored at a position of it, where they have room
 abbrev pub stored : ℕ → List ℕ → List ℕ → List ℕ

@@ -1,6 +1,7 @@
 // Fixed values: four or eight bytes, the lowest first. Four bytes that are summed up, or stored side by side, are one load or store of the machine.
 use crate::found::Found;
 use crate::put::Put;
+use spec::refusals;
 ghost use mathlib.Core.Path.{_≡_};
 ghost use Prim.Native.Nat.{_+_, _^_, _≤_, _<_};
 ghost use lib.ListN.{length, drop};
@@ -8,7 +9,7 @@ ghost use lib.Seq.{sets};
 ghost use Rattle.spec.specs.Base.{Took};
 ghost use Rattle.spec.specs.Varint.{fixed, little};
 ghost use Rattle.spec.specs.Kind.{extend};
-ghost use Rattle.wire.specs.Answers.{told, Stored};
+ghost use Rattle.wire.specs.Answers.{asRead, Stored};
 
 // The number of four bytes.
 fn four(s: &[u8], at: usize) -> u64
@@ -23,13 +24,13 @@ fn four(s: &[u8], at: usize) -> u64
 }
 
 pub fn decode_fixed32(s: &[u8], at: usize) -> Found
-    ensures { λ r. ⌜ told at r ≡ fixed 4 (drop at (now (s .entry))) ⌝ }
+    ensures { λ r. ⌜ asRead at r ≡ fixed 4 (drop at (now (s .entry))) ⌝ }
 {
     if s.len() < at {
-        return Found::Refused(1);
+        return Found::Refused(refusals::ENDS_EARLY);
     }
     if s.len() - at < 4 {
-        return Found::Refused(1);
+        return Found::Refused(refusals::ENDS_EARLY);
     }
     let value = four(s, at);
     let next = at + 4;
@@ -37,13 +38,13 @@ pub fn decode_fixed32(s: &[u8], at: usize) -> Found
 }
 
 pub fn decode_fixed64(s: &[u8], at: usize) -> Found
-    ensures { λ r. ⌜ told at r ≡ fixed 8 (drop at (now (s .entry))) ⌝ }
+    ensures { λ r. ⌜ asRead at r ≡ fixed 8 (drop at (now (s .entry))) ⌝ }
 {
     if s.len() < at {
-        return Found::Refused(1);
+        return Found::Refused(refusals::ENDS_EARLY);
     }
     if s.len() - at < 8 {
-        return Found::Refused(1);
+        return Found::Refused(refusals::ENDS_EARLY);
     }
     let low = four(s, at);
     let high = four(s, at + 4);

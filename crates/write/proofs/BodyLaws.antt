@@ -6,19 +6,20 @@ use mathlib.Core.List.{List, [], _++_, append-nil}
 use lib.ListN.{length}
 use borrow.Author.Tests.{ne-eqb}
 use lib.Dec.{ltb}
+use Rattle.spec.specs.Names.{fixed32Wire, fixed64Wire, messageKind, packedHead}
 use Rattle.spec.specs.Base.{if_then_else_}
 use Rattle.spec.specs.Varint.{encode, zigzag, little}
 use Rattle.spec.specs.Kind.{int32, uint32, uint64, bool, sint32, sint64, fixed32, sfixed32, fixed64, Shape, one, other, string, bytes, message, packed, startGroup, endGroup, nothing, shape, wire, isScalar, encoded}
 use Rattle.spec.specs.Record.{Record}
 use Rattle.spec.specs.Writing.{body}
-use Rattle.spec.proofs.RoundTrip.{shape-11, shape-20}
+use Rattle.spec.proofs.RoundTrip.{shape-message, shape-packed}
 use Rattle.spec.proofs.KindLaws.{wireOne, wireOf, wire-shape}
-use Rattle.rt.specs.SizeParts.{coded}
-use Rattle.rt.proofs.ValueSizes.{zigzags, zigzag-kind}
+use Rattle.sizes.specs.SizeParts.{coded}
+use Rattle.sizes.proofs.ValueSizes.{zigzags, zigzag-kind}
 use Rattle.write.specs.Backward.{plain, lead, isHead}
 
 unfoldable byWire : ℕ → Bool → ℕ → List ℕ
-byWire w z v = if ltb w 1 then encode (if z then zigzag v else v) else if ltb w 5 then little 8 v else little 4 v
+byWire w z v = if ltb w fixed64Wire then encode (if z then zigzag v else v) else if ltb w fixed32Wire then little 8 v else little 4 v
 
 by-wire : (x : Shape) (v : ℕ) → isScalar x ≡ true → plain x v ≡ byWire (wireOf x) (zigzags x) v
 unfolding plain encoded wireOf wireOne zigzags byWire isScalar
@@ -34,7 +35,7 @@ by-wire (one fixed64) v h = refl
 by-wire (other x) v h = absurd (false≢true h)
 
 pub plain-by-wire : (k v w : ℕ) → isScalar (shape k) ≡ true → w ≡ wire k
-    → plain (shape k) v ≡ (if ltb w 1 then encode (coded k v) else if ltb w 5 then little 8 v else little 4 v)
+    → plain (shape k) v ≡ (if ltb w fixed64Wire then encode (coded k v) else if ltb w fixed32Wire then little 8 v else little 4 v)
 unfolding byWire
 plain-by-wire k v w h e = by-wire (shape k) v h ∙ ap₂ (λ (u : ℕ) (z : Bool). byWire u z v) (sym (e ∙ wire-shape k)) (zigzag-kind k)
 
@@ -53,7 +54,7 @@ heads (other nothing) = false
 headless : (k : ℕ) → heads (shape k) ≡ false → isHead k ≡ false
 unfolding heads
 headless k h =
-    ap₂ _||_ (ne-eqb k 11 (λ e. false≢true (sym h ∙ ap heads (ap shape e ∙ shape-11)))) (ne-eqb k 20 (λ e. false≢true (sym h ∙ ap heads (ap shape e ∙ shape-20))))
+    ap₂ _||_ (ne-eqb k messageKind (λ e. false≢true (sym h ∙ ap heads (ap shape e ∙ shape-message)))) (ne-eqb k packedHead (λ e. false≢true (sym h ∙ ap heads (ap shape e ∙ shape-packed))))
 
 -- where a record is no head, there is none in it
 pub body-lead : (k : ℕ) (payload : List ℕ) (r : Record) (inner : List ℕ) → (isHead k ≡ false → inner ≡ [])

@@ -9,6 +9,7 @@ use mathlib.Core.Bool.{true}
 use mathlib.Core.List.{List, [], _∷_}
 use lib.ListN.{length}
 use borrow.Author.Tests.{lt-ltb, le-ltb}
+use Rattle.spec.specs.Names.{outputShort, tooLarge}
 use Rattle.spec.specs.Base.{filled, limit}
 use Rattle.spec.specs.Schema.{Schema, badSchema}
 use Rattle.spec.specs.Record.{Record, recordsOf}
@@ -17,8 +18,8 @@ use Rattle.spec.specs.Writing.{Fields, written, Verdict, Fine, Faulty, listFaul
 use Rattle.spec.proofs.VarintLaws.{lower-or-not}
 use Rattle.spec.proofs.SizeLaws.{Held, size-bytes, fine-held, Answered, wrote, short, above, faulty, writing-answered, output-refused}
 use Rattle.spec.proofs.RunLaws.{fine-passed}
-use Rattle.rt.specs.SizeParts.{capped}
-use Rattle.write.specs.Answers.{told, bySize}
+use Rattle.sizes.specs.SizeParts.{capped}
+use Rattle.write.specs.Answers.{answerOfWriting, bySize}
 use Rattle.write.specs.Backward.{Given}
 use Rattle.write.specs.declared.Answer.{Answer}
 
@@ -26,16 +27,16 @@ use Rattle.write.specs.declared.Answer.{Answer}
 
 -- the answer and the output that a writing leaves
 abbrev pub Answers : Writing → Answer → (out out′ : List ℕ) → Type 0
-Answers w a out out′ = (a ≡ told w) × (out′ ≡ output w out)
+Answers w a out out′ = (a ≡ answerOfWriting w) × (out′ ≡ output w out)
 
 -- any two answers to a call, and any two outputs, are equal
 pub one-answer : (w : Writing) (a b : Answer) (out x y : List ℕ) → Answers w a out x → Answers w b out y → (a ≡ b) × (x ≡ y)
 one-answer w a b out x y h g = (h .0 ∙ sym (g .0), h .1 ∙ sym (g .1))
 
 -- where no refusal is told, the bytes of the list stand at the front of the output, the size is how many they are, and what is behind them stays
-pub told-written : (sch : Schema) (room : ℕ) (payload : List ℕ) (rs : List Record) (out : List ℕ) → told (writing sch room payload rs) .number ≡ 0
-    → (told (writing sch room payload rs) .size ≡ length (written payload rs)) × (output (writing sch room payload rs) out ≡ filled (written payload rs) out)
-unfolding told number size output
+pub told-written : (sch : Schema) (room : ℕ) (payload : List ℕ) (rs : List Record) (out : List ℕ) → answerOfWriting (writing sch room payload rs) .number ≡ 0
+    → (answerOfWriting (writing sch room payload rs) .size ≡ length (written payload rs)) × (output (writing sch room payload rs) out ≡ filled (written payload rs) out)
+unfolding answerOfWriting number size output
 told-written sch room payload rs out e = go (writing-answered sch room payload rs) e
   where
     go : {w : Writing} → Answered room (written payload rs) w → number w ≡ 0 → (size w ≡ length (written payload rs)) × (output w out ≡ filled (written payload rs) out)
@@ -70,9 +71,9 @@ module _ (sch : Schema) (room : ℕ) (payload : List ℕ) (rs : List Record) whe
   unfolding writing judged
   writing-faulty e = ap (λ (v : Verdict). judged v (sized room (written payload rs))) e
 
-  pub told-faulty : {k i : ℕ} → listCheck sch payload rs ≡ Faulty k i → told (writing sch room payload rs) ≡ record { number = k; size = 0; index = i }
-  unfolding told number size index
-  told-faulty e = ap told (writing-faulty e)
+  pub told-faulty : {k i : ℕ} → listCheck sch payload rs ≡ Faulty k i → answerOfWriting (writing sch room payload rs) ≡ record { number = k; size = 0; index = i }
+  unfolding answerOfWriting number size index
+  told-faulty e = ap answerOfWriting (writing-faulty e)
 
   pub output-faulty : {k i : ℕ} (out : List ℕ) → listCheck sch payload rs ≡ Faulty k i → output (writing sch room payload rs) out ≡ out
   unfolding output
@@ -81,11 +82,11 @@ module _ (sch : Schema) (room : ℕ) (payload : List ℕ) (rs : List Record) whe
 -- ---- by its size
 
 module _ (room n : ℕ) where
-  pub by-above : limit < n → bySize room n ≡ record { number = 11; size = 0; index = 0 }
+  pub by-above : limit < n → bySize room n ≡ record { number = tooLarge; size = 0; index = 0 }
   unfolding bySize
   by-above h = rw (lt-ltb limit n h)
 
-  pub by-short : n ≤ limit → room < n → bySize room n ≡ record { number = 12; size = n; index = 0 }
+  pub by-short : n ≤ limit → room < n → bySize room n ≡ record { number = outputShort; size = n; index = 0 }
   unfolding bySize
   by-short h m = rw (le-ltb limit n h, lt-ltb room n m)
 
@@ -101,11 +102,11 @@ by-cut room n =
     (λ l. let same : capped n ≡ n = omega arith in ap (bySize room) same)
 
 module _ (room : ℕ) (b : List ℕ) where
-  sized-above : limit < length b → sized room b ≡ Failed 11 0 0
+  sized-above : limit < length b → sized room b ≡ Failed tooLarge 0 0
   unfolding sized
   sized-above h = rw (lt-ltb limit (length b) h)
 
-  sized-short : length b ≤ limit → room < length b → sized room b ≡ Failed 12 (length b) 0
+  sized-short : length b ≤ limit → room < length b → sized room b ≡ Failed outputShort (length b) 0
   unfolding sized
   sized-short h m = rw (le-ltb limit (length b) h, lt-ltb room (length b) m)
 
@@ -113,19 +114,19 @@ module _ (room : ℕ) (b : List ℕ) where
   unfolding sized
   sized-fits h m = rw (le-ltb limit (length b) h, le-ltb room (length b) m)
 
-  told-sized : bySize room (length b) ≡ told (sized room b)
-  unfolding told number size index
+  told-sized : bySize room (length b) ≡ answerOfWriting (sized room b)
+  unfolding answerOfWriting number size index
   told-sized =
       lower-or-not limit (length b)
-      (λ l. by-above room (length b) l ∙ sym (ap told (sized-above l)))
+      (λ l. by-above room (length b) l ∙ sym (ap answerOfWriting (sized-above l)))
       (λ l. lower-or-not room (length b)
-      (λ m. by-short room (length b) l m ∙ sym (ap told (sized-short l m)))
-      (λ m. by-fits room (length b) l m ∙ sym (ap told (sized-fits l m))))
+      (λ m. by-short room (length b) l m ∙ sym (ap answerOfWriting (sized-short l m)))
+      (λ m. by-fits room (length b) l m ∙ sym (ap answerOfWriting (sized-fits l m))))
 
   -- what the answer says of the output then
-  pub sized-zero : {r : Answer} (out : List ℕ) → r ≡ told (sized room b) → r .number ≡ 0
+  pub sized-zero : {r : Answer} (out : List ℕ) → r ≡ answerOfWriting (sized room b) → r .number ≡ 0
       → (r .size ≡ length b) × (length b ≤ room) × (output (sized room b) out ≡ filled b out)
-  unfolding told number size output
+  unfolding answerOfWriting number size output
   sized-zero {r} out e z =
       let tells : number (sized room b) ≡ 0 = sym (ap (λ (a : Answer). a .number) e) ∙ z in
       lower-or-not limit (length b)
@@ -134,13 +135,13 @@ module _ (room : ℕ) (b : List ℕ) where
       (λ m. absurd (omega (arith, sym (ap number (sized-short l m)) ∙ tells)))
       (λ m. (ap (λ (a : Answer). a .size) e ∙ ap size (sized-fits l m), m, ap (λ (w : Writing). output w out) (sized-fits l m))))
 
-  pub sized-refused : {r : Answer} (out : List ℕ) → r ≡ told (sized room b) → r .number ≢ 0 → output (sized room b) out ≡ out
-  unfolding told
+  pub sized-refused : {r : Answer} (out : List ℕ) → r ≡ answerOfWriting (sized room b) → r .number ≢ 0 → output (sized room b) out ≡ out
+  unfolding answerOfWriting
   sized-refused out e n = output-refused (sized room b) out (λ z. n (ap (λ (a : Answer). a .number) e ∙ z))
 
 -- the answer from the size of a list whose contents lie in the payload, which is how many bytes it is written as
 pub by-written : (room : ℕ) (payload : List ℕ) (rs : List Record) {r : Answer} {n : ℕ} → Held payload rs → r ≡ bySize room n → n ≡ capped (sizeOf rs)
-    → r ≡ told (sized room (written payload rs))
+    → r ≡ answerOfWriting (sized room (written payload rs))
 unfolding sizeOf written
 by-written room payload rs h e is =
     e ∙ ap (bySize room) is ∙ by-cut room (sizeOf rs) ∙ ap (bySize room) (size-bytes (length rs) true payload rs h) ∙ told-sized room (written payload rs)
@@ -148,12 +149,12 @@ by-written room payload rs h e is =
 -- ---- the size call
 
 module _ (sch : Schema) (payload : List ℕ) (rs : List Record) where
-  pub size-faulty : {k i : ℕ} → listCheck sch payload rs ≡ Faulty k i → record { number = k; size = 0; index = i } ≡ told (sizing sch payload rs)
+  pub size-faulty : {k i : ℕ} → listCheck sch payload rs ≡ Faulty k i → record { number = k; size = 0; index = i } ≡ answerOfWriting (sizing sch payload rs)
   unfolding sizing
   size-faulty e = sym (told-faulty sch limit payload rs e)
 
-  pub size-fine : {r : Answer} {n : ℕ} → listCheck sch payload rs ≡ Fine → r ≡ bySize limit n → n ≡ capped (sizeOf rs) → r ≡ told (sizing sch payload rs)
+  pub size-fine : {r : Answer} {n : ℕ} → listCheck sch payload rs ≡ Fine → r ≡ bySize limit n → n ≡ capped (sizeOf rs) → r ≡ answerOfWriting (sizing sch payload rs)
   unfolding sizing
   size-fine e is cut =
       by-written limit payload rs (fine-held sch payload 0 (Fields 0 ∷ []) rs (check-fine sch payload rs e .1)) is cut
-      ∙ sym (ap told (writing-fine sch limit payload rs e))
+      ∙ sym (ap answerOfWriting (writing-fine sch limit payload rs e))

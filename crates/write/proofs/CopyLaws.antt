@@ -6,7 +6,7 @@ use native.Mathlib.Omega.{arith}
 use lib.ListN.{length, getD, take, drop, length-drop}
 use lib.Seq.{take-add, drop-drop, drop-cons, length-take-le}
 use Rattle.spec.specs.Base.{part}
-use Rattle.write.specs.Backward.{Stored, Room}
+use Rattle.write.specs.Backward.{Stored, Room, block}
 use Rattle.write.proofs.StoreLaws.{stored-then, stored-as, stored-end, stored-none}
 
 pub length-part : (a e : ℕ) (s : List ℕ) → e ≤ length s → length (part a e s) ≡ e - a
@@ -92,8 +92,8 @@ module _ {s out₀ out : List ℕ} {start stop p e q : ℕ} (l : Left s out₀ s
       stored-as (ap (λ (n : ℕ). part n stop s) here) (l .stored)
 
   -- a block of it is stored, and more than is left
-  pub left-block : {r z : ℕ} {now : List ℕ} → e - start ≤ 64 → z + (e - start) ≡ q → Stored (part (e - 64) e s) q out r now → Stored (part start stop s) p out₀ z now
-  left-block f g x = left-none (copied-more s (e - 64) start e (omega arith) (l .from) (omega (arith, l .upto)) g x)
+  pub left-block : {r z : ℕ} {now : List ℕ} → e - start ≤ block → z + (e - start) ≡ q → Stored (part (e - block) e s) q out r now → Stored (part start stop s) p out₀ z now
+  left-block f g x = left-none (copied-more s (e - block) start e (omega arith) (l .from) (omega (arith, l .upto)) g x)
 
-  pub left-less : {r : ℕ} {now : List ℕ} → 64 ≤ e - start → Stored (part (e - 64) e s) q out r now → Left s out₀ start stop p now (e - 64) r
-  left-less f x = record { from = omega arith; upto = omega (arith, l .upto); stored = copied s (e - 64) e stop (omega arith) (l .upto) (l .stored) x }
+  pub left-less : {r : ℕ} {now : List ℕ} → block ≤ e - start → Stored (part (e - block) e s) q out r now → Left s out₀ start stop p now (e - block) r
+  left-less f x = record { from = omega arith; upto = omega (arith, l .upto); stored = copied s (e - block) e stop (omega arith) (l .upto) (l .stored) x }

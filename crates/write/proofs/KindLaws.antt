@@ -4,16 +4,17 @@ use mathlib.Core.Path.{_≡_, refl, sym, subst}
 use mathlib.Core.Bool.{Bool, true, false, _||_, false≢true}
 use lib.Dec.{eqb}
 use borrow.Author.Tests.{eqb-true}
+use Rattle.spec.specs.Names.{messageKind, packedHead}
 
 -- the kinds that are heads
 pub data Head : ℕ → Type 0 where
-  of-message : Head 11
-  of-packed : Head 20
+  of-message : Head messageKind
+  of-packed : Head packedHead
 
-pub head : (k : ℕ) → (eqb k 11 || eqb k 20) ≡ true → Head k
-head k e = go (eqb k 11) (eqb k 20) refl refl e
+pub head : (k : ℕ) → (eqb k messageKind || eqb k packedHead) ≡ true → Head k
+head k e = go (eqb k messageKind) (eqb k packedHead) refl refl e
   where
-    go : (a b : Bool) → eqb k 11 ≡ a → eqb k 20 ≡ b → (a || b) ≡ true → Head k
-    go true b p q e = subst Head (sym (eqb-true k 11 p)) of-message
-    go false true p q e = subst Head (sym (eqb-true k 20 q)) of-packed
+    go : (a b : Bool) → eqb k messageKind ≡ a → eqb k packedHead ≡ b → (a || b) ≡ true → Head k
+    go true b p q e = subst Head (sym (eqb-true k messageKind p)) of-message
+    go false true p q e = subst Head (sym (eqb-true k packedHead q)) of-packed
     go false false p q e = absurd (false≢true e)

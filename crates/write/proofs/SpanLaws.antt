@@ -9,8 +9,9 @@ use lib.ListN.{length, take, drop, length-append, length-drop}
 use lib.Seq.{take-add, drop-drop}
 use lib.Dec.{eqb, leb, ltb}
 use borrow.Author.Tests.{lt-ltb, le-ltb}
+use Rattle.spec.specs.Names.{packedHead}
 use Rattle.spec.specs.Kind.{shape}
-use Rattle.spec.specs.Record.{Record, recordsOf}
+use Rattle.spec.specs.Record.{Record, recordsOf, stride}
 use Rattle.spec.specs.Writing.{body, tagOf, bytesOf}
 use Rattle.spec.proofs.Laws.{chosen}
 use Rattle.spec.proofs.VarintLaws.{lower-or-not}
@@ -42,7 +43,7 @@ shorter (suc k) tags payload d ys h (over-cons {r} {rs} j o) l =
     let whole = ap (λ (x : List Record). bytesIn tags payload (r ∷ x)) first ∙ bytes-run tags payload r inner (after ++ ys) (front-over e rs) low in
     let few : length after ≤ k = omega (arith, ap length (behind-drop e rs), length-drop (length inner) rs) in
     let rest = shorter k tags payload d ys few (over-behind e o) l in
-    let own : List ℕ = tagOf tags r ++ body (shape (r .kind)) payload r (bytesIn (not (eqb (r .kind) 20)) payload inner) in
+    let own : List ℕ = tagOf tags r ++ body (shape (r .kind)) payload r (bytesIn (not (eqb (r .kind) packedHead)) payload inner) in
     omega (arith, rest, ap length whole, length-append own (bytesIn tags payload (after ++ ys)))
 
 -- ---- the records of a list
@@ -50,23 +51,23 @@ shorter (suc k) tags payload d ys h (over-cons {r} {rs} j o) l =
 module _ (list : List ℕ) where
   -- those from index i on
   abbrev pub from : ℕ → List Record
-  from i = recordsOf (drop (6 * i) list)
+  from i = recordsOf (drop (stride * i) list)
 
-  pub from-cons : (i : ℕ) → 6 * i + 6 ≤ length list → from i ≡ at list i ∷ from (i + 1)
+  pub from-cons : (i : ℕ) → stride * i + stride ≤ length list → from i ≡ at list i ∷ from (i + 1)
   from-cons i h =
-      let next : 6 * i + 6 ≡ 6 * (i + 1) = omega arith in
-      records-at list (6 * i) h ∙ ap (λ (n : ℕ). at list i ∷ recordsOf (drop n list)) next
+      let next : stride * i + stride ≡ stride * (i + 1) = omega arith in
+      records-at list (stride * i) h ∙ ap (λ (n : ℕ). at list i ∷ recordsOf (drop n list)) next
 
   from-drop : (i n : ℕ) → drop n (from i) ≡ from (i + n)
   from-drop i n =
-      let there : 6 * i + 6 * n ≡ 6 * (i + n) = omega arith in
-      records-drop n (drop (6 * i) list) ∙ ap recordsOf (drop-drop (6 * n) (6 * i) list ∙ ap (λ (k : ℕ). drop k list) there)
+      let there : stride * i + stride * n ≡ stride * (i + n) = omega arith in
+      records-drop n (drop (stride * i) list) ∙ ap recordsOf (drop-drop (stride * n) (stride * i) list ∙ ap (λ (k : ℕ). drop k list) there)
 
   span-none : (a e : ℕ) → e ≤ a → span list a e ≡ []
   unfolding span
   span-none a e h = let none : e - a ≡ 0 = omega arith in ap (λ (n : ℕ). take n (from a)) none
 
-  pub span-cons : (a e : ℕ) → a < e → 6 * e ≤ length list → span list a e ≡ at list a ∷ span list (a + 1) e
+  pub span-cons : (a e : ℕ) → a < e → stride * e ≤ length list → span list a e ≡ at list a ∷ span list (a + 1) e
   unfolding span
   span-cons a e h l = let count : e - a ≡ suc (e - (a + 1)) = omega arith in ap₂ take count (from-cons a (omega arith))
 
@@ -78,24 +79,24 @@ module _ (list : List ℕ) where
       ap (λ (n : ℕ). take n (from a)) count ∙ take-add (m - a) (e - m) (from a)
       ∙ ap (λ (x : List Record). take (m - a) (from a) ++ take (e - m) x) (from-drop a (m - a) ∙ ap from there)
 
-  span-over : (k d a e : ℕ) → e ≤ a + k → 6 * e ≤ length list → ((j : ℕ) → a ≤ j → j < e → d ≤ depthAt list j) → Over d (span list a e)
+  span-over : (k d a e : ℕ) → e ≤ a + k → stride * e ≤ length list → ((j : ℕ) → a ≤ j → j < e → d ≤ depthAt list j) → Over d (span list a e)
   span-over zero d a e h l f = subst (Over d) (sym (span-none a e (omega arith))) over-nil
   span-over (suc k) d a e h l f =
       lower-or-not a e
       (λ b. subst (Over d) (sym (span-cons a e b l)) (over-cons (f a (omega arith) b) (span-over k d (a + 1) e (omega arith) l (λ j g i. f j (omega arith) i))))
       (λ b. subst (Over d) (sym (span-none a e b)) over-nil)
 
-  span-low : (d a e : ℕ) → 6 * e ≤ length list → (a < e → depthAt list a < d) → Low d (span list a e)
+  span-low : (d a e : ℕ) → stride * e ≤ length list → (a < e → depthAt list a < d) → Low d (span list a e)
   span-low d a e l f =
       lower-or-not a e
       (λ b. subst (Low d) (sym (span-cons a e b l)) (f b))
       (λ b. subst (Low d) (sym (span-none a e b)) tt)
 
   -- record a, those in it, which end before index m, and those behind them
-  module _ (a m e : ℕ) (some : a < m) (in-order : m ≤ e) (inside : 6 * e ≤ length list) (low : m < e → depthAt list m ≤ depthAt list a) where
+  module _ (a m e : ℕ) (some : a < m) (in-order : m ≤ e) (inside : stride * e ≤ length list) (low : m < e → depthAt list m ≤ depthAt list a) where
     pub bytes-at : (tags : Bool) (payload : List ℕ) → ((j : ℕ) → a < j → j < m → depthAt list a < depthAt list j)
         → bytesIn tags payload (span list a e)
-        ≡ tagOf tags (at list a) ++ body (shape (kindAt list a)) payload (at list a) (bytesIn (not (eqb (kindAt list a) 20)) payload (span list (a + 1) m))
+        ≡ tagOf tags (at list a) ++ body (shape (kindAt list a)) payload (at list a) (bytesIn (not (eqb (kindAt list a) packedHead)) payload (span list (a + 1) m))
         ++ bytesIn tags payload (span list m e)
     bytes-at tags payload deep =
         ap (λ (x : List Record). bytesIn tags payload x) (span-cons a e (omega arith) inside ∙ ap (_∷_ (at list a)) (span-append (a + 1) m e (omega arith) in-order))
@@ -108,7 +109,7 @@ module _ (list : List ℕ) where
   bytes-none tags payload a e h = ap (λ (x : List Record). bytesIn tags payload x) (span-none a e h)
 
   -- the bytes from index m on, where the records before it are no less deep
-  pub bytes-from : (tags : Bool) (payload : List ℕ) (d a m e : ℕ) → a ≤ m → m ≤ e → 6 * e ≤ length list → ((j : ℕ) → a ≤ j → j < m → d ≤ depthAt list j)
+  pub bytes-from : (tags : Bool) (payload : List ℕ) (d a m e : ℕ) → a ≤ m → m ≤ e → stride * e ≤ length list → ((j : ℕ) → a ≤ j → j < m → d ≤ depthAt list j)
       → (m < e → depthAt list m ≤ d) → length (bytesIn tags payload (span list m e)) ≤ length (bytesIn tags payload (span list a e))
   bytes-from tags payload d a m e h l inside deep low =
       subst (λ (x : List Record). length (bytesIn tags payload (span list m e)) ≤ length (bytesIn tags payload x)) (sym (span-append a m e h l))

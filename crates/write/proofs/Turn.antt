@@ -8,20 +8,21 @@ use mathlib.Core.List.{List, [], _∷_}
 use lib.ListN.{length, drop, getD, length-drop, drop-of-length-le}
 use lib.Seq.{drop-drop}
 use lib.Dec.{eqb}
-use Rattle.spec.specs.Base.{if_then_else_}
+use Rattle.spec.specs.Names.{delimitedWire, messageKind, packedHead, kindColumn, numberColumn, startColumn, stopColumn, valueColumn}
+use Rattle.spec.specs.Base.{if_then_else_, limit}
 use Rattle.spec.specs.Varint.{size, tagSize, zigzag}
 use Rattle.spec.specs.Kind.{int32, uint32, uint64, bool, sint32, sint64, fixed32, sfixed32, fixed64, Shape, one, other, string, bytes, message, packed, startGroup, endGroup, nothing, shape, wire, isScalar}
-use Rattle.spec.specs.Record.{Record, row, recordsOf}
+use Rattle.spec.specs.Record.{Record, row, recordsOf, stride}
 use Rattle.spec.specs.Sizes.{scalarSize, prefixedSize, valueSize, bodySize, sizeUpTo}
 use Rattle.spec.proofs.VarintLaws.{lower-or-not}
 use Rattle.spec.proofs.FlatLaws.{records-nil}
-use Rattle.spec.proofs.RoundTrip.{hasContent, shape-11, shape-20}
+use Rattle.spec.proofs.RoundTrip.{hasContent, shape-message, shape-packed}
 use Rattle.spec.proofs.ListLaws.{Low}
 use Rattle.spec.proofs.SizeLaws.{sizeIn}
 use Rattle.spec.proofs.RunLaws.{front, behind, front-low, behind-drop, low-behind, front-length, front-size, Row, row-end, row-more, row-low, Nested, a-row, Fit, Content, Sane, sane-first, sane-rest, sane-drop, is-number, is-content, is-message, is-row, records-at, records-drop, sane-whole}
-use Rattle.rt.specs.SizeParts.{capped}
-use Rattle.rt.proofs.ValueSizes.{size-most}
-use Rattle.write.specs.Summing.{recordsFrom, runFrom, Summed, Lent, Elements, Below}
+use Rattle.sizes.specs.SizeParts.{capped}
+use Rattle.sizes.proofs.ValueSizes.{size-most}
+use Rattle.write.specs.Summing.{recordsFrom, runFrom, Summed, Lent, Elements, Below, perNumber}
 use Rattle.write.proofs.KindLaws.{Head, of-message, of-packed}
 
 -- The loop over the run at depth d, from the place `from` on, is at the place `at`. What the run takes in all is what was added, and the rest of it.
@@ -30,9 +31,9 @@ pub record Here (tags : Bool) (list : List ℕ) (from d at size : ℕ) : Type 0 
   pub inside : at ≤ length list
   pub sane : Sane (recordsFrom list at)
   pub low : Low (d + 1) (recordsFrom list at)
-  pub place : at + 6 * length (runFrom d list at) ≡ from + 6 * length (runFrom d list from)
+  pub place : at + stride * length (runFrom d list at) ≡ from + stride * length (runFrom d list from)
   pub exact : capped (size + sizeIn tags (runFrom d list at)) ≡ capped (sizeIn tags (runFrom d list from))
-  pub bound : size ≤ 400000000 * (at - from)
+  pub bound : size ≤ perNumber * (at - from)
 
 pub start : (tags : Bool) (list : List ℕ) (from d : ℕ) → from ≤ length list → Sane (recordsFrom list from) → Low (d + 1) (recordsFrom list from)
     → Here tags list from d from 0
@@ -68,18 +69,18 @@ module _ {tags : Bool} {list : List ℕ} {from d at size : ℕ} (h : Here tags l
   module _ (lt : at < length list) where
     -- the record here
     abbrev pub this : Record
-    this = row (getD list at 0) (getD list (at + 1) 0) (getD list (at + 2) 0) (getD list (at + 3) 0) (getD list (at + 4) 0) (getD list (at + 5) 0) 0
+    this = row (getD list at 0) (getD list (at + numberColumn) 0) (getD list (at + kindColumn) 0) (getD list (at + valueColumn) 0) (getD list (at + startColumn) 0) (getD list (at + stopColumn) 0) 0
 
-    pub whole : at + 6 ≤ length list
+    pub whole : at + stride ≤ length list
     whole = omega (arith, sane-whole (drop at list) (h .sane) (omega (arith, length-drop at list)), length-drop at list)
 
-    split : recordsFrom list at ≡ this ∷ recordsFrom list (at + 6)
+    split : recordsFrom list at ≡ this ∷ recordsFrom list (at + stride)
     split = records-at list at whole
 
-    pub fit : Fit this (recordsFrom list (at + 6))
+    pub fit : Fit this (recordsFrom list (at + stride))
     fit = sane-first (subst Sane split (h .sane))
 
-    rest-sane : Sane (recordsFrom list (at + 6))
+    rest-sane : Sane (recordsFrom list (at + stride))
     rest-sane = sane-rest (subst Sane split (h .sane))
 
     up-to : getD list at 0 < d + 1
@@ -87,7 +88,7 @@ module _ {tags : Bool} {list : List ℕ} {from d at size : ℕ} (h : Here tags l
 
     pub stopped : getD list at 0 ≢ d → Summed tags list from d at size
     stopped n =
-        finish (ap (front d) split ∙ front-low d (this ∷ recordsFrom list (at + 6)) (lower-or-not (getD list at 0) d (λ l. l) (λ l. absurd (n (omega (arith, up-to))))))
+        finish (ap (front d) split ∙ front-low d (this ∷ recordsFrom list (at + stride)) (lower-or-not (getD list at 0) d (λ l. l) (λ l. absurd (n (omega (arith, up-to))))))
 
     -- ---- a record of the run, with e the place behind what lies below it
 
@@ -95,29 +96,29 @@ module _ {tags : Bool} {list : List ℕ} {from d at size : ℕ} (h : Here tags l
       -- what the record takes
       abbrev taken : ℕ
       taken =
-          (if tags then tagSize (getD list (at + 1) 0) else 0)
-          + bodySize (shape (getD list (at + 2) 0)) this (sizeIn (not (eqb (getD list (at + 2) 0) 20)) (runFrom (d + 1) list (at + 6)))
+          (if tags then tagSize (getD list (at + numberColumn) 0) else 0)
+          + bodySize (shape (getD list (at + kindColumn) 0)) this (sizeIn (not (eqb (getD list (at + kindColumn) 0) packedHead)) (runFrom (d + 1) list (at + stride)))
 
-      behind-at : (e : ℕ) → e ≡ at + 6 + 6 * length (runFrom (d + 1) list (at + 6)) → behind (d + 1) (recordsFrom list (at + 6)) ≡ recordsFrom list e
+      behind-at : (e : ℕ) → e ≡ at + stride + stride * length (runFrom (d + 1) list (at + stride)) → behind (d + 1) (recordsFrom list (at + stride)) ≡ recordsFrom list e
       behind-at e p =
-          let n : ℕ = length (runFrom (d + 1) list (at + 6)) in
-          behind-drop (d + 1) (recordsFrom list (at + 6)) ∙ records-drop n (drop (at + 6) list)
-          ∙ ap recordsOf (drop-drop (6 * n) (at + 6) list) ∙ ap (recordsFrom list) (sym p)
+          let n : ℕ = length (runFrom (d + 1) list (at + stride)) in
+          behind-drop (d + 1) (recordsFrom list (at + stride)) ∙ records-drop n (drop (at + stride) list)
+          ∙ ap recordsOf (drop-drop (stride * n) (at + stride) list) ∙ ap (recordsFrom list) (sym p)
 
-      turn : (e n : ℕ) → e ≡ at + 6 + 6 * length (runFrom (d + 1) list (at + 6)) → e ≤ length list → capped n ≡ capped taken → n ≤ 400000000 * (e - at)
+      turn : (e n : ℕ) → e ≡ at + stride + stride * length (runFrom (d + 1) list (at + stride)) → e ≤ length list → capped n ≡ capped taken → n ≤ perNumber * (e - at)
           → Here tags list from d e (size + n)
       turn e n p l c b =
-          let rs : List Record = recordsFrom list (at + 6) in
+          let rs : List Record = recordsFrom list (at + stride) in
           let there : behind (d + 1) rs ≡ recordsFrom list e = behind-at e p in
-          let long : length (runFrom d list at) ≡ 1 + length (runFrom (d + 1) list (at + 6)) + length (runFrom d list e) =
+          let long : length (runFrom d list at) ≡ 1 + length (runFrom (d + 1) list (at + stride)) + length (runFrom d list e) =
           ap (λ (x : List Record). length (front d x)) split
           ∙ subst (λ (k : ℕ). length (front d (this ∷ rs)) ≡ 1 + length (front (k + 1) rs) + length (front d (behind (k + 1) rs))) same (front-length d this rs (omega arith))
-          ∙ ap (λ (x : List Record). 1 + length (runFrom (d + 1) list (at + 6)) + length (front d x)) there in
+          ∙ ap (λ (x : List Record). 1 + length (runFrom (d + 1) list (at + stride)) + length (front d x)) there in
           let sum : sizeIn tags (runFrom d list at) ≡ taken + sizeIn tags (runFrom d list e) =
           ap (λ (x : List Record). sizeIn tags (front d x)) split
           ∙ subst (λ (k : ℕ). sizeIn tags (front d (this ∷ rs))
-          ≡ (if tags then tagSize (getD list (at + 1) 0) else 0)
-          + bodySize (shape (getD list (at + 2) 0)) this (sizeIn (not (eqb (getD list (at + 2) 0) 20)) (front (k + 1) rs)) + sizeIn tags (front d (behind (k + 1) rs))) same
+          ≡ (if tags then tagSize (getD list (at + numberColumn) 0) else 0)
+          + bodySize (shape (getD list (at + kindColumn) 0)) this (sizeIn (not (eqb (getD list (at + kindColumn) 0) packedHead)) (front (k + 1) rs)) + sizeIn tags (front d (behind (k + 1) rs))) same
           (front-size d this rs (omega arith) tags)
           ∙ ap (λ (x : List Record). taken + sizeIn tags (front d x)) there in
           record {
@@ -131,11 +132,11 @@ module _ {tags : Bool} {list : List ℕ} {from d at size : ℕ} (h : Here tags l
           }
 
       -- where nothing lies below it
-      leaf : (n : ℕ) → Low (getD list at 0 + 1) (recordsFrom list (at + 6)) → ((i : ℕ) → capped n ≡ capped ((if tags then tagSize (getD list (at + 1) 0) else 0) + bodySize (shape (getD list (at + 2) 0)) this i)) → n ≤ 2400000000
-          → Here tags list from d (at + 6) (size + n)
+      leaf : (n : ℕ) → Low (getD list at 0 + 1) (recordsFrom list (at + stride)) → ((i : ℕ) → capped n ≡ capped ((if tags then tagSize (getD list (at + numberColumn) 0) else 0) + bodySize (shape (getD list (at + kindColumn) 0)) this i)) → n ≤ stride * perNumber
+          → Here tags list from d (at + stride) (size + n)
       leaf n l c b =
-          let empty : runFrom (d + 1) list (at + 6) ≡ [] = front-low (d + 1) (recordsFrom list (at + 6)) (subst (λ (k : ℕ). Low (k + 1) (recordsFrom list (at + 6))) same l) in
-          turn (at + 6) n (omega (arith, ap length empty)) whole (c _) (omega arith)
+          let empty : runFrom (d + 1) list (at + stride) ≡ [] = front-low (d + 1) (recordsFrom list (at + stride)) (subst (λ (k : ℕ). Low (k + 1) (recordsFrom list (at + stride))) same l) in
+          turn (at + stride) n (omega (arith, ap length empty)) whole (c _) (omega arith)
 
 -- ---- what stands behind the tag
 
@@ -157,13 +158,13 @@ content-body (other nothing) r i e = absurd (false≢true e)
 
 head-body : {k : ℕ} (r : Record) (i : ℕ) → Head k → bodySize (shape k) r i ≡ prefixedSize i
 unfolding bodySize
-head-body r i of-message = ap (λ (x : Shape). bodySize x r i) shape-11
-head-body r i of-packed = ap (λ (x : Shape). bodySize x r i) shape-20
+head-body r i of-message = ap (λ (x : Shape). bodySize x r i) shape-message
+head-body r i of-packed = ap (λ (x : Shape). bodySize x r i) shape-packed
 
 capped-prefixed : (m n : ℕ) → capped m ≡ capped n → capped (prefixedSize m) ≡ capped (prefixedSize n)
 unfolding prefixedSize
 capped-prefixed m n e =
-    lower-or-not m 2147483648 (λ l. let same : m ≡ n = omega arith in ap (λ (x : ℕ). capped (prefixedSize x)) same) (λ l. omega arith)
+    lower-or-not m (limit + 1) (λ l. let same : m ≡ n = omega arith in ap (λ (x : ℕ). capped (prefixedSize x)) same) (λ l. omega arith)
 
 value-most : (x : Shape) (v : ℕ) → isScalar x ≡ true → valueSize x v ≤ 10
 unfolding isScalar valueSize scalarSize
@@ -182,48 +183,48 @@ value-most (other x) v e = absurd (false≢true e)
 
 module _ {list : List ℕ} {from d at sum : ℕ} (h : Here true list from d at sum) (lt : at < length list) (same : getD list at 0 ≡ d) where
   abbrev number : ℕ
-  number = getD list (at + 1) 0
+  number = getD list (at + numberColumn) 0
 
   abbrev kind : ℕ
-  kind = getD list (at + 2) 0
+  kind = getD list (at + kindColumn) 0
 
-  pub is-scalar : wire kind ≢ 2 → isScalar (shape kind) ≡ true
+  pub is-scalar : wire kind ≢ delimitedWire → isScalar (shape kind) ≡ true
   unfolding isScalar
   is-scalar w = ap isScalar (is-number (fit h lt) w .is)
 
-  pub number-turn : wire kind ≢ 2 → Here true list from d (at + 6) (sum + tagSize number + valueSize (shape kind) (getD list (at + 3) 0))
+  pub number-turn : wire kind ≢ delimitedWire → Here true list from d (at + stride) (sum + tagSize number + valueSize (shape kind) (getD list (at + valueColumn) 0))
   number-turn w =
-      let value : ℕ = valueSize (shape kind) (getD list (at + 3) 0) in
+      let value : ℕ = valueSize (shape kind) (getD list (at + valueColumn) 0) in
       let sc : isScalar (shape kind) ≡ true = is-scalar w in
       let both : sum + (tagSize number + value) ≡ sum + tagSize number + value = omega arith in
-      subst (Here true list from d (at + 6)) both
+      subst (Here true list from d (at + stride)) both
       (leaf h lt same (tagSize number + value) (is-number (fit h lt) w .no-deeper)
       (λ i. ap (λ (n : ℕ). capped (tagSize number + n)) (sym (scalar-body (shape kind) (this h lt) i sc)))
-      (omega (arith, size-most (number * 8), value-most (shape kind) (getD list (at + 3) 0) sc)))
+      (omega (arith, size-most (number * 8), value-most (shape kind) (getD list (at + valueColumn) 0) sc)))
 
   -- a content whose length n is cut off above the limit
-  pub content : wire kind ≡ 2 → (eqb kind 11 || eqb kind 20) ≡ false → Content (this h lt) (recordsFrom list (at + 6)) (shape kind)
+  pub content : wire kind ≡ delimitedWire → (eqb kind messageKind || eqb kind packedHead) ≡ false → Content (this h lt) (recordsFrom list (at + stride)) (shape kind)
   content w e =
-      is-content (fit h lt) w (λ p. false≢true (sym e ∙ ap (λ (k : ℕ). eqb k 11 || eqb k 20) p)) (λ p. false≢true (sym e ∙ ap (λ (k : ℕ). eqb k 11 || eqb k 20) p))
+      is-content (fit h lt) w (λ p. false≢true (sym e ∙ ap (λ (k : ℕ). eqb k messageKind || eqb k packedHead) p)) (λ p. false≢true (sym e ∙ ap (λ (k : ℕ). eqb k messageKind || eqb k packedHead) p))
 
-  pub content-turn : (n : ℕ) → wire kind ≡ 2 → (eqb kind 11 || eqb kind 20) ≡ false → n ≡ capped (getD list (at + 5) 0 - getD list (at + 4) 0)
-      → Here true list from d (at + 6) (sum + tagSize number + (size n + n))
+  pub content-turn : (n : ℕ) → wire kind ≡ delimitedWire → (eqb kind messageKind || eqb kind packedHead) ≡ false → n ≡ capped (getD list (at + stopColumn) 0 - getD list (at + startColumn) 0)
+      → Here true list from d (at + stride) (sum + tagSize number + (size n + n))
   unfolding prefixedSize
   content-turn n w plain e =
-      let c : Content (this h lt) (recordsFrom list (at + 6)) (shape kind) = content w plain in
-      let m : ℕ = getD list (at + 5) 0 - getD list (at + 4) 0 in
+      let c : Content (this h lt) (recordsFrom list (at + stride)) (shape kind) = content w plain in
+      let m : ℕ = getD list (at + stopColumn) 0 - getD list (at + startColumn) 0 in
       let near : capped (prefixedSize n) ≡ capped (prefixedSize m) = capped-prefixed n m (omega arith) in
       let both : sum + (tagSize number + (size n + n)) ≡ sum + tagSize number + (size n + n) = omega arith in
-      subst (Here true list from d (at + 6)) both
+      subst (Here true list from d (at + stride)) both
       (leaf h lt same (tagSize number + (size n + n)) (c .no-deeper)
       (λ i. omega (arith, near, content-body (shape kind) (this h lt) i (c .is)))
       (omega (arith, size-most (number * 8), size-most n)))
 
   -- a head, whose content of n bytes ends at the place e
-  pub head-turn : (e n : ℕ) → Head kind → Summed (not (eqb kind 20)) list (at + 6) (d + 1) e n → Here true list from d e (sum + tagSize number + (size n + n))
+  pub head-turn : (e n : ℕ) → Head kind → Summed (not (eqb kind packedHead)) list (at + stride) (d + 1) e n → Here true list from d e (sum + tagSize number + (size n + n))
   unfolding prefixedSize
   head-turn e n k s =
-      let i : ℕ = sizeIn (not (eqb kind 20)) (runFrom (d + 1) list (at + 6)) in
+      let i : ℕ = sizeIn (not (eqb kind packedHead)) (runFrom (d + 1) list (at + stride)) in
       let near : capped (prefixedSize n) ≡ capped (prefixedSize i) = capped-prefixed n i (s .exact) in
       let both : sum + (tagSize number + (size n + n)) ≡ sum + tagSize number + (size n + n) = omega arith in
       subst (Here true list from d e) both
@@ -232,25 +233,25 @@ module _ {list : List ℕ} {from d at sum : ℕ} (h : Here true list from d at s
       (omega (arith, s .bound, s .place, size-most (number * 8), size-most n)))
 
   -- what lies below a head
-  elements-below : {table : List ℕ} {rs : List Record} → Lent table list → Nested (this h lt) rs (other packed) → recordsFrom list (at + 6) ≡ rs
-      → Elements table list (at + 6) (d + 1)
+  elements-below : {table : List ℕ} {rs : List Record} → Lent table list → Nested (this h lt) rs (other packed) → recordsFrom list (at + stride) ≡ rs
+      → Elements table list (at + stride) (d + 1)
   unfolding isScalar
   elements-below {rs = rs} lent (a-row {q = q} {rs = qs} sh dep num values) e =
-      let some : at + 6 < length list =
-      lower-or-not (at + 6) (length list) (λ l. l)
-      (λ l. let z : q ∷ qs ≡ [] = sym e ∙ none-from list (at + 6) l in let y : _≡_ {A = ℕ} 0 1 = cc in absurd (omega arith)) in
-      let s : Sane (recordsFrom list (at + 6)) = rest-sane h lt in
-      let full : at + 6 + 6 ≤ length list = omega (arith, sane-whole (drop (at + 6) list) s (omega (arith, length-drop (at + 6) list)), length-drop (at + 6) list) in
-      let next : row (getD list (at + 6) 0) (getD list (at + 6 + 1) 0) (getD list (at + 6 + 2) 0) (getD list (at + 6 + 3) 0) (getD list (at + 6 + 4) 0) (getD list (at + 6 + 5) 0) 0
-      ∷ recordsFrom list (at + 6 + 6) ≡ q ∷ qs = sym (records-at list (at + 6) full) ∙ e in
-      let kin : q .kind ≡ getD list (at + 6 + 2) 0 = sym (ap (λ (x : List Record). first x .kind) next) in
+      let some : at + stride < length list =
+      lower-or-not (at + stride) (length list) (λ l. l)
+      (λ l. let z : q ∷ qs ≡ [] = sym e ∙ none-from list (at + stride) l in let y : _≡_ {A = ℕ} 0 1 = cc in absurd (omega arith)) in
+      let s : Sane (recordsFrom list (at + stride)) = rest-sane h lt in
+      let full : at + stride + stride ≤ length list = omega (arith, sane-whole (drop (at + stride) list) s (omega (arith, length-drop (at + stride) list)), length-drop (at + stride) list) in
+      let next : row (getD list (at + stride) 0) (getD list (at + stride + numberColumn) 0) (getD list (at + stride + kindColumn) 0) (getD list (at + stride + valueColumn) 0) (getD list (at + stride + startColumn) 0) (getD list (at + stride + stopColumn) 0) 0
+      ∷ recordsFrom list (at + stride + stride) ≡ q ∷ qs = sym (records-at list (at + stride) full) ∙ e in
+      let kin : q .kind ≡ getD list (at + stride + kindColumn) 0 = sym (ap (λ (x : List Record). first x .kind) next) in
       record {
         lent = lent;
         inside = some;
         sane = s;
         scalar = ap isScalar (ap shape (sym kin) ∙ sh);
         m = number;
-        values = subst (λ (x : List Record). Row (d + 1) number (getD list (at + 6 + 2) 0) x) (sym e)
+        values = subst (λ (x : List Record). Row (d + 1) number (getD list (at + stride + kindColumn) 0) x) (sym e)
             (subst (λ (k : ℕ). Row (d + 1) number k (q ∷ qs)) kin
             (subst (λ (k : ℕ). Row (k + 1) number (q .kind) (q ∷ qs)) same (row-more dep num refl values)));
       }
@@ -259,18 +260,18 @@ module _ {list : List ℕ} {from d at sum : ℕ} (h : Here true list from d at s
       first [] = row 0 0 0 0 0 0 0
       first (r ∷ rs) = r
 
-  pub below : {table : List ℕ} → Lent table list → Head kind → Below table list (at + 6) (d + 1) kind
+  pub below : {table : List ℕ} → Lent table list → Head kind → Below table list (at + stride) (d + 1) kind
   below lent k = record {
     message = λ e. record {
       lent = lent;
       inside = whole h lt;
       sane = rest-sane h lt;
-      low = subst (λ (n : ℕ). Low (n + 1 + 1) (recordsFrom list (at + 6))) same (is-message (fit h lt) e);
+      low = subst (λ (n : ℕ). Low (n + 1 + 1) (recordsFrom list (at + stride))) same (is-message (fit h lt) e);
     };
     packed = λ n. (other-head k n, elements-below lent (is-row (fit h lt) (other-head k n)) refl);
   }
     where
-      other-head : {k : ℕ} → Head k → k ≢ 11 → k ≡ 20
+      other-head : {k : ℕ} → Head k → k ≢ messageKind → k ≡ packedHead
       other-head of-message n = absurd (n refl)
       other-head of-packed n = refl
 
@@ -282,18 +283,18 @@ module _ {list : List ℕ} {from d at sum m k : ℕ} (h : Here false list from d
   of-kind (row-end l) e = absurd (omega arith)
   of-kind (row-more dep num kin w) e = (kin, w)
 
-  here : (getD list (at + 2) 0 ≡ k) × Row d m k (recordsFrom list (at + 6))
+  here : (getD list (at + kindColumn) 0 ≡ k) × Row d m k (recordsFrom list (at + stride))
   here = of-kind (subst (Row d m k) (split h lt) values) same
 
-  pub rest-values : Row d m k (recordsFrom list (at + 6))
+  pub rest-values : Row d m k (recordsFrom list (at + stride))
   rest-values = here .1
 
-  pub value-turn : isScalar (shape k) ≡ true → Here false list from d (at + 6) (sum + valueSize (shape k) (getD list (at + 3) 0))
+  pub value-turn : isScalar (shape k) ≡ true → Here false list from d (at + stride) (sum + valueSize (shape k) (getD list (at + valueColumn) 0))
   value-turn sc =
-      let kin : getD list (at + 2) 0 ≡ k = here .0 in
-      leaf h lt same (valueSize (shape k) (getD list (at + 3) 0)) (subst (λ (n : ℕ). Low (n + 1) (recordsFrom list (at + 6))) (sym same) (row-low rest-values))
+      let kin : getD list (at + kindColumn) 0 ≡ k = here .0 in
+      leaf h lt same (valueSize (shape k) (getD list (at + valueColumn) 0)) (subst (λ (n : ℕ). Low (n + 1) (recordsFrom list (at + stride))) (sym same) (row-low rest-values))
       (λ i. omega (arith, ap (λ (n : ℕ). bodySize (shape n) (this h lt) i) kin ∙ scalar-body (shape k) (this h lt) i sc))
-      (omega (arith, value-most (shape k) (getD list (at + 3) 0) sc))
+      (omega (arith, value-most (shape k) (getD list (at + valueColumn) 0) sc))
 
 -- ---- the values of a packed field, from the first on
 

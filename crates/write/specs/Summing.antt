@@ -1,17 +1,19 @@
--- What the size pass asks of the numbers that it goes over, and what it answers of them. A place counts numbers, six to a record.
+-- What the size pass asks of the numbers that it goes over, and what it answers of them. A place counts numbers, `stride` to a record.
 -- Assumes nothing: these are definitions.
-use Prim.Native.Nat.{ℕ, _+_, _-_, _*_, _≤_, _<_}
+use Prim.Native.Nat.{ℕ, _+_, _-_, _*_, _/_, _≤_, _<_}
 use mathlib.Core.Path.{_≡_}
 use mathlib.Core.Logic.{_≢_}
 use mathlib.Core.Bool.{Bool, true}
 use mathlib.Core.List.{List}
 use lib.ListN.{length, take, drop, getD}
+use Rattle.spec.specs.Base.{limit}
+use Rattle.spec.specs.Names.{messageKind, packedHead, kindColumn, recordKinds}
 use Rattle.spec.specs.Kind.{wires, shape, isScalar}
-use Rattle.spec.specs.Record.{Record, recordsOf}
+use Rattle.spec.specs.Record.{Record, recordsOf, stride}
 use Rattle.spec.proofs.ListLaws.{Low}
 use Rattle.spec.proofs.SizeLaws.{sizeIn}
 use Rattle.spec.proofs.RunLaws.{front, Row, Sane}
-use Rattle.rt.specs.SizeParts.{capped}
+use Rattle.sizes.specs.SizeParts.{capped}
 
 -- the records from a place on, and those of them that are the run at depth d
 abbrev pub recordsFrom : List ℕ → ℕ → List Record
@@ -20,18 +22,25 @@ recordsFrom list at = recordsOf (drop at list)
 abbrev pub runFrom : ℕ → List ℕ → ℕ → List Record
 runFrom d list at = front d (recordsFrom list at)
 
--- The run at depth d from a place on ends at the place `at`, and `size` is its size as far as the limit goes. Each record adds so little that no
--- sum wraps: 400,000,000 for each of its six numbers is more than a content that is cut off above the limit, with its length and its tag.
+-- the most numbers of a list whose size is within the limit: each record takes at least a byte
+abbrev pub mostNumbers : ℕ
+mostNumbers = stride * limit
+
+-- A record adds less than 2,400,000,000 to a size, which is more than a content that is cut off above the limit, with its length and its tag. This is the share of each of its numbers.
+abbrev pub perNumber : ℕ
+perNumber = 2400000000 / stride
+
+-- The run at depth d from a place on ends at the place `at`, and `size` is its size as far as the limit goes. Each record adds so little that no sum wraps.
 pub record Summed (tags : Bool) (list : List ℕ) (from d at size : ℕ) : Type 0 where
-  pub place : at ≡ from + 6 * length (runFrom d list from)
+  pub place : at ≡ from + stride * length (runFrom d list from)
   pub inside : at ≤ length list
   pub exact : capped size ≡ capped (sizeIn tags (runFrom d list from))
-  pub bound : size ≤ 400000000 * (at - from)
+  pub bound : size ≤ perNumber * (at - from)
 
 -- a table of wire types, and a list that is short enough
 pub record Lent (table list : List ℕ) : Type 0 where
-  pub types : table ≡ take 25 wires
-  pub few : length list ≤ 12884901882
+  pub types : table ≡ take recordKinds wires
+  pub few : length list ≤ mostNumbers
 
 -- what is asked for a run of records
 pub record Run (table list : List ℕ) (from d : ℕ) : Type 0 where
@@ -45,11 +54,11 @@ pub record Elements (table list : List ℕ) (from d : ℕ) : Type 0 where
   pub lent : Lent table list
   pub inside : from < length list
   pub sane : Sane (recordsFrom list from)
-  pub scalar : isScalar (shape (getD list (from + 2) 0)) ≡ true
+  pub scalar : isScalar (shape (getD list (from + kindColumn) 0)) ≡ true
   pub m : ℕ
-  pub values : Row d m (getD list (from + 2) 0) (recordsFrom list from)
+  pub values : Row d m (getD list (from + kindColumn) 0) (recordsFrom list from)
 
 -- and for what lies below a head of this kind
 pub record Below (table list : List ℕ) (from d kind : ℕ) : Type 0 where
-  pub message : kind ≡ 11 → Run table list from d
-  pub packed : kind ≢ 11 → (kind ≡ 20) × Elements table list from d
+  pub message : kind ≡ messageKind → Run table list from d
+  pub packed : kind ≢ messageKind → (kind ≡ packedHead) × Elements table list from d

@@ -6,17 +6,60 @@ ghost use mathlib.Core.Bool.{true, false, not};
 ghost use mathlib.Core.List.{_++_};
 ghost use Prim.Native.Nat.{_+_, _-_, _*_, _/_, _%_, _≤_};
 ghost use lib.ListN.{length, take, getD};
+ghost use Rattle.spec.specs.Names.{largestNumber, noWire, numberColumn, recordKinds};
 ghost use Rattle.spec.specs.Base.{if_then_else_, part, filled};
 ghost use Rattle.spec.specs.Varint.{encode, little};
 ghost use Rattle.spec.specs.Kind.{wires, shape, wire, isScalar};
-ghost use Rattle.spec.specs.Record.{recordsOf};
+ghost use Rattle.spec.specs.Record.{recordsOf, stride};
 ghost use Rattle.spec.specs.Writing.{tagOf, written};
 ghost use Rattle.spec.proofs.WritingLaws.{bytesIn};
-ghost use Rattle.rt.specs.SizeParts.{coded};
-ghost use Rattle.write.specs.Backward.{Stored, Room, four, at, kindAt, span, start, plain, Given, Here, leadOf, numberOf, headOf, Leads, Upto, Run, Inner, isPacked, Values, Ran};
-use crate::sizes::is_head;
-use rt::compute_raw_varint64_size;
+ghost use Rattle.sizes.specs.SizeParts.{coded};
+ghost use Rattle.write.specs.Backward.{Stored, Room, four, at, kindAt, span, start, plain, Given, Here, leadOf, numberOf, headOf, Leads, Upto, Run, Inner, isPacked, Values, Ran, nineBytes, word, pair, half, block};
+use crate::measure::is_head;
+use sizes::compute_raw_varint64_size;
+use spec::columns::END;
+use spec::columns::KIND;
+use spec::columns::NUMBER;
+use spec::columns::START;
+use spec::columns::STRIDE;
+use spec::columns::VALUE;
+use spec::kinds;
+use spec::kinds::RECORD_KINDS;
+use spec::wire_types;
 use wire::zigzag::zigzag;
+
+// How far before the end of a record its numbers stand.
+const NUMBER_BACK: usize = STRIDE - NUMBER;
+
+const KIND_BACK: usize = STRIDE - KIND;
+
+const VALUE_BACK: usize = STRIDE - VALUE;
+
+// The least values whose varints take two bytes, three, four and nine: a byte has seven bits of the value.
+const TWO_BYTES: u64 = 0x80;
+
+const THREE_BYTES: u64 = 0x4000;
+
+const FOUR_BYTES: u64 = 0x20_0000;
+
+const NINE_BYTES: u64 = 0x100_0000_0000_0000;
+
+// To divide by these leaves out the lowest two groups of seven bits, and the lowest four.
+const TWO_GROUPS: u64 = 0x4000;
+
+const FOUR_GROUPS: u64 = 0x1000_0000;
+
+// How many values are put as if their sizes changed, after one that has more than one byte.
+const HINTS: u64 = 32;
+
+// Contents are copied in blocks: a block is two halves, a half two pairs, a pair two words of eight bytes.
+const WORD: usize = 8;
+
+const PAIR: usize = 2 * WORD;
+
+const HALF: usize = 2 * PAIR;
+
+const BLOCK: usize = 2 * HALF;
 
 // A place in the list, and one in the output: from there on it is written.
 struct Back {
@@ -45,7 +88,7 @@ fn long_varint(out: &mut [u8], p: usize, v: u64) -> usize
     let q = p - size;
     let mut i = q;
     let mut x = v;
-    while 128 <= x {
+    while TWO_BYTES <= x {
         out[i] = low_byte(x % 128 + 128);
         x = x / 128;
         i += 1;
@@ -59,12 +102,12 @@ fn put_varint(out: &mut [u8], p: usize, v: u64) -> usize
     requires { ⌜ Room (encode v) p (now out) ⌝ }
     ensures { λ q. ⌜ Stored (encode v) p (now (out .entry)) q (now (out .exit)) ⌝ }
 {
-    if v < 128 {
+    if v < TWO_BYTES {
         let q = p - 1;
         out[q] = low_byte(v);
         return q;
     }
-    if v < 16384 {
+    if v < THREE_BYTES {
         let q = p - 2;
         out[q] = low_byte(v % 128 + 128);
         out[q + 1] = low_byte(v / 128);
@@ -73,7 +116,7 @@ fn put_varint(out: &mut [u8], p: usize, v: u64) -> usize
     long_varint(out, p, v)
 }
 
-// Four bytes of the varint of v, behind which others stand.
+// Four bytes of the varint of v, after which others stand.
 fn put_four(out: &mut [u8], p: usize, v: u64) -> usize
     requires { ⌜ (4 ≤ p) × (p ≤ length (now out)) ⌝ }
     ensures { λ q. ⌜ Stored (four v) p (now (out .entry)) q (now (out .exit)) ⌝ }
@@ -91,11 +134,11 @@ fn put_four(out: &mut [u8], p: usize, v: u64) -> usize
 
 // A varint of nine or ten bytes, as negative numbers have.
 fn put_far(out: &mut [u8], p: usize, v: u64) -> usize
-    requires { ⌜ (72057594037927936 ≤ v) × Room (encode v) p (now out) ⌝ }
+    requires { ⌜ (nineBytes ≤ v) × Room (encode v) p (now out) ⌝ }
     ensures { λ q. ⌜ Stored (encode v) p (now (out .entry)) q (now (out .exit)) ⌝ }
 {
-    let high = v / 268435456;
-    let q = put_varint(out, p, high / 268435456);
+    let high = v / FOUR_GROUPS;
+    let q = put_varint(out, p, high / FOUR_GROUPS);
     let r = put_four(out, q, high);
     put_four(out, r, v)
 }
@@ -106,28 +149,28 @@ fn put_mixed(out: &mut [u8], p: usize, v: u64) -> usize
     requires { ⌜ Room (encode v) p (now out) ⌝ }
     ensures { λ q. ⌜ Stored (encode v) p (now (out .entry)) q (now (out .exit)) ⌝ }
 {
-    if 72057594037927936 <= v {
+    if NINE_BYTES <= v {
         return put_far(out, p, v);
     }
-    if 2097152 <= v {
+    if FOUR_BYTES <= v {
         return long_varint(out, p, v);
     }
     if p < 3 {
         return long_varint(out, p, v);
     }
-    let mut z = v * 16384;
+    let mut z = v * TWO_GROUPS;
     let mut q = p - 1;
-    if 128 <= v {
+    if TWO_BYTES <= v {
         z = v * 128;
         q = p - 2;
     }
-    if 16384 <= v {
+    if THREE_BYTES <= v {
         z = v;
         q = p - 3;
     }
     out[p - 3] = low_byte(z % 128 + 128);
     out[p - 2] = low_byte(z / 128 % 128 + 128);
-    out[p - 1] = low_byte(z / 16384);
+    out[p - 1] = low_byte(z / TWO_GROUPS);
     q
 }
 
@@ -143,13 +186,13 @@ fn put_value(out: &mut [u8], p: usize, v: u64, hint: u64) -> Hinted
             hint: hint - 1,
         };
     }
-    if v < 128 {
+    if v < TWO_BYTES {
         let pos = p - 1;
         out[pos] = low_byte(v);
         return Hinted { pos, hint: 0 };
     }
     let pos = long_varint(out, p, v);
-    Hinted { pos, hint: 32 }
+    Hinted { pos, hint: HINTS }
 }
 
 fn put_fixed32(out: &mut [u8], p: usize, v: u64) -> usize
@@ -158,9 +201,9 @@ fn put_fixed32(out: &mut [u8], p: usize, v: u64) -> usize
 {
     let q = p - 4;
     out[q] = low_byte(v);
-    out[q + 1] = low_byte(v / 256);
-    out[q + 2] = low_byte(v / 65536);
-    out[q + 3] = low_byte(v / 16777216);
+    out[q + 1] = low_byte(v / 0x100);
+    out[q + 2] = low_byte(v / 0x1_0000);
+    out[q + 3] = low_byte(v / 0x100_0000);
     q
 }
 
@@ -168,29 +211,29 @@ fn put_fixed64(out: &mut [u8], p: usize, v: u64) -> usize
     requires { ⌜ Room (little 8 v) p (now out) ⌝ }
     ensures { λ q. ⌜ Stored (little 8 v) p (now (out .entry)) q (now (out .exit)) ⌝ }
 {
-    let q = put_fixed32(out, p, v / 4294967296);
+    let q = put_fixed32(out, p, v / 0x1_0000_0000);
     put_fixed32(out, q, v)
 }
 
-// The number that is written for a value of a kind whose wire type is 0.
+// The number that is written for a value of a kind whose wire type is that of a varint.
 fn coded_of(kind: u64, v: u64) -> u64
     ensures { λ r. ⌜ r ≡ coded kind v ⌝ }
 {
     match kind {
-        17 | 18 => zigzag(v),
+        kinds::SINT32 | kinds::SINT64 => zigzag(v),
         _ => v,
     }
 }
 
-// A value of a kind that is one number and whose wire type is w: 0, 1 or 5.
+// A value of a kind that is one number and whose wire type is w.
 fn put_plain(out: &mut [u8], p: usize, kind: u64, w: u8, v: u64) -> usize
     requires { ⌜ (w ≡ wire kind) × (isScalar (shape kind) ≡ true) × Room (plain (shape kind) v) p (now out) ⌝ }
     ensures { λ q. ⌜ Stored (plain (shape kind) v) p (now (out .entry)) q (now (out .exit)) ⌝ }
 {
-    if w < 1 {
+    if w < wire_types::FIXED64 {
         return put_varint(out, p, coded_of(kind, v));
     }
-    if w < 5 {
+    if w < wire_types::FIXED32 {
         return put_fixed64(out, p, v);
     }
     put_fixed32(out, p, v)
@@ -198,10 +241,10 @@ fn put_plain(out: &mut [u8], p: usize, kind: u64, w: u8, v: u64) -> usize
 
 // The eight bytes of the payload before e, before p: all are loaded before one is stored, which makes a single load and store of them.
 fn copy_eight(payload: &[u8], out: &mut [u8], p: usize, e: usize) -> usize
-    requires { ⌜ (8 ≤ e) × (e ≤ length (now payload)) × (8 ≤ p) × (p ≤ length (now out)) ⌝ }
-    ensures { λ q. ⌜ Stored (part (e - 8) e (now (payload .entry))) p (now (out .entry)) q (now (out .exit)) ⌝ }
+    requires { ⌜ (word ≤ e) × (e ≤ length (now payload)) × (word ≤ p) × (p ≤ length (now out)) ⌝ }
+    ensures { λ q. ⌜ Stored (part (e - word) e (now (payload .entry))) p (now (out .entry)) q (now (out .exit)) ⌝ }
 {
-    let i = e - 8;
+    let i = e - WORD;
     let b0 = payload[i];
     let b1 = payload[i + 1];
     let b2 = payload[i + 2];
@@ -210,7 +253,7 @@ fn copy_eight(payload: &[u8], out: &mut [u8], p: usize, e: usize) -> usize
     let b5 = payload[i + 5];
     let b6 = payload[i + 6];
     let b7 = payload[i + 7];
-    let q = p - 8;
+    let q = p - WORD;
     out[q] = b0;
     out[q + 1] = b1;
     out[q + 2] = b2;
@@ -222,29 +265,29 @@ fn copy_eight(payload: &[u8], out: &mut [u8], p: usize, e: usize) -> usize
     q
 }
 
-// The same of 16 bytes, of 32 and of 64.
+// The same of a pair of words, of half a block and of a block.
 fn copy_sixteen(payload: &[u8], out: &mut [u8], p: usize, e: usize) -> usize
-    requires { ⌜ (16 ≤ e) × (e ≤ length (now payload)) × (16 ≤ p) × (p ≤ length (now out)) ⌝ }
-    ensures { λ q. ⌜ Stored (part (e - 16) e (now (payload .entry))) p (now (out .entry)) q (now (out .exit)) ⌝ }
+    requires { ⌜ (pair ≤ e) × (e ≤ length (now payload)) × (pair ≤ p) × (p ≤ length (now out)) ⌝ }
+    ensures { λ q. ⌜ Stored (part (e - pair) e (now (payload .entry))) p (now (out .entry)) q (now (out .exit)) ⌝ }
 {
     let q = copy_eight(payload, out, p, e);
-    copy_eight(payload, out, q, e - 8)
+    copy_eight(payload, out, q, e - WORD)
 }
 
 fn copy_half(payload: &[u8], out: &mut [u8], p: usize, e: usize) -> usize
-    requires { ⌜ (32 ≤ e) × (e ≤ length (now payload)) × (32 ≤ p) × (p ≤ length (now out)) ⌝ }
-    ensures { λ q. ⌜ Stored (part (e - 32) e (now (payload .entry))) p (now (out .entry)) q (now (out .exit)) ⌝ }
+    requires { ⌜ (half ≤ e) × (e ≤ length (now payload)) × (half ≤ p) × (p ≤ length (now out)) ⌝ }
+    ensures { λ q. ⌜ Stored (part (e - half) e (now (payload .entry))) p (now (out .entry)) q (now (out .exit)) ⌝ }
 {
     let q = copy_sixteen(payload, out, p, e);
-    copy_sixteen(payload, out, q, e - 16)
+    copy_sixteen(payload, out, q, e - PAIR)
 }
 
 fn copy_block(payload: &[u8], out: &mut [u8], p: usize, e: usize) -> usize
-    requires { ⌜ (64 ≤ e) × (e ≤ length (now payload)) × (64 ≤ p) × (p ≤ length (now out)) ⌝ }
-    ensures { λ q. ⌜ Stored (part (e - 64) e (now (payload .entry))) p (now (out .entry)) q (now (out .exit)) ⌝ }
+    requires { ⌜ (block ≤ e) × (e ≤ length (now payload)) × (block ≤ p) × (p ≤ length (now out)) ⌝ }
+    ensures { λ q. ⌜ Stored (part (e - block) e (now (payload .entry))) p (now (out .entry)) q (now (out .exit)) ⌝ }
 {
     let q = copy_half(payload, out, p, e);
-    copy_half(payload, out, q, e - 32)
+    copy_half(payload, out, q, e - HALF)
 }
 
 // The bytes of the payload from a up to e, one by one.
@@ -272,52 +315,52 @@ fn put_content(payload: &[u8], out: &mut [u8], p: usize, start: u64, stop: u64) 
     let mut e = stop as usize;
     let mut q = p;
     while a < e {
-        if e < 64 {
+        if e < BLOCK {
             return put_bytes(payload, out, q, a, e);
         }
-        if q < 64 {
+        if q < BLOCK {
             return put_bytes(payload, out, q, a, e);
         }
         let r = copy_block(payload, out, q, e);
-        if e - a <= 64 {
+        if e - a <= BLOCK {
             return q - (e - a);
         }
         q = r;
-        e -= 64;
+        e -= BLOCK;
     }
     q
 }
 
-// What stands behind the tag of the record at b, in which nothing is.
+// What stands after the tag of the record at b, in which nothing is.
 fn put_body(list: &[u64], payload: &[u8], out: &mut [u8], b: usize, w: u8, p: usize) -> usize
-    requires { ⌜ Here (now list) (now payload) b × (w ≡ wire (kindAt (now list) (b / 6))) × Room (leadOf (now list) (now payload) b 0) p (now out) ⌝ }
+    requires { ⌜ Here (now list) (now payload) b × (w ≡ wire (kindAt (now list) (b / stride))) × Room (leadOf (now list) (now payload) b 0) p (now out) ⌝ }
     ensures { λ q. ⌜ Stored (leadOf (now (list .entry)) (now (payload .entry)) b 0) p (now (out .entry)) q (now (out .exit)) ⌝ }
 {
-    let kind = list[b + 2];
-    if w != 2 {
-        return put_plain(out, p, kind, w, list[b + 3]);
+    let kind = list[b + KIND];
+    if w != wire_types::DELIMITED {
+        return put_plain(out, p, kind, w, list[b + VALUE]);
     }
     let mut q = p;
     if !is_head(kind) {
-        q = put_content(payload, out, p, list[b + 4], list[b + 5]);
+        q = put_content(payload, out, p, list[b + START], list[b + END]);
     }
     put_varint(out, q, (p - q) as u64)
 }
 
 // The record at b, in which nothing is.
 fn put_record(
-    table: &[u8; 25],
+    table: &[u8; RECORD_KINDS],
     list: &[u64],
     payload: &[u8],
     out: &mut [u8],
     b: usize,
     p: usize,
 ) -> usize
-    requires { ⌜ (now table ≡ take 25 wires) × Here (now list) (now payload) b × Room (tagOf true (at (now list) (b / 6)) ++ leadOf (now list) (now payload) b 0) p (now out) ⌝ }
-    ensures { λ q. ⌜ Stored (tagOf true (at (now (list .entry)) (b / 6)) ++ leadOf (now (list .entry)) (now (payload .entry)) b 0) p (now (out .entry)) q (now (out .exit)) ⌝ }
+    requires { ⌜ (now table ≡ take recordKinds wires) × Here (now list) (now payload) b × Room (tagOf true (at (now list) (b / stride)) ++ leadOf (now list) (now payload) b 0) p (now out) ⌝ }
+    ensures { λ q. ⌜ Stored (tagOf true (at (now (list .entry)) (b / stride)) ++ leadOf (now (list .entry)) (now (payload .entry)) b 0) p (now (out .entry)) q (now (out .exit)) ⌝ }
 {
-    let number = list[b + 1];
-    let kind = list[b + 2];
+    let number = list[b + NUMBER];
+    let kind = list[b + KIND];
     let i = kind as usize;
     let w = table[i];
     let q = put_body(list, payload, out, b, w, p);
@@ -327,19 +370,19 @@ fn put_record(
 
 // The same of one whose value is a varint, and whose wire type is w.
 fn put_number(list: &[u64], out: &mut [u8], b: usize, w: u8, p: usize, hint: u64) -> Hinted
-    requires { ⌜ (b + 6 ≤ length (now list)) × (getD (now list) (b + 1) 0 ≤ 536870911) × (w ≤ 7) × Room (numberOf (now list) b w) p (now out) ⌝ }
+    requires { ⌜ (b + stride ≤ length (now list)) × (getD (now list) (b + numberColumn) 0 ≤ largestNumber) × (w ≤ noWire) × Room (numberOf (now list) b w) p (now out) ⌝ }
     ensures { λ r. ⌜ Stored (numberOf (now (list .entry)) b w) p (now (out .entry)) (r .pos) (now (out .exit)) ⌝ }
 {
-    let kind = list[b + 2];
-    let r = put_value(out, p, coded_of(kind, list[b + 3]), hint);
-    let tag = list[b + 1] * 8 + w as u64;
+    let kind = list[b + KIND];
+    let r = put_value(out, p, coded_of(kind, list[b + VALUE]), hint);
+    let tag = list[b + NUMBER] * 8 + w as u64;
     let pos = put_varint(out, r.pos, tag);
     Hinted { pos, hint: r.hint }
 }
 
 // The record at b, in which nothing is, by its wire type.
 fn put_leaf(
-    table: &[u8; 25],
+    table: &[u8; RECORD_KINDS],
     list: &[u64],
     payload: &[u8],
     out: &mut [u8],
@@ -347,13 +390,13 @@ fn put_leaf(
     p: usize,
     hint: u64,
 ) -> Hinted
-    requires { ⌜ (now table ≡ take 25 wires) × Here (now list) (now payload) b × Room (tagOf true (at (now list) (b / 6)) ++ leadOf (now list) (now payload) b 0) p (now out) ⌝ }
-    ensures { λ r. ⌜ Stored (tagOf true (at (now (list .entry)) (b / 6)) ++ leadOf (now (list .entry)) (now (payload .entry)) b 0) p (now (out .entry)) (r .pos) (now (out .exit)) ⌝ }
+    requires { ⌜ (now table ≡ take recordKinds wires) × Here (now list) (now payload) b × Room (tagOf true (at (now list) (b / stride)) ++ leadOf (now list) (now payload) b 0) p (now out) ⌝ }
+    ensures { λ r. ⌜ Stored (tagOf true (at (now (list .entry)) (b / stride)) ++ leadOf (now (list .entry)) (now (payload .entry)) b 0) p (now (out .entry)) (r .pos) (now (out .exit)) ⌝ }
 {
-    let kind = list[b + 2];
+    let kind = list[b + KIND];
     let i = kind as usize;
     let w = table[i];
-    if w < 1 {
+    if w < wire_types::FIXED64 {
         return put_number(list, out, b, w, p, hint);
     }
     let pos = put_record(table, list, payload, out, b, p);
@@ -362,7 +405,7 @@ fn put_leaf(
 
 // The head at b, in front of what is in it, which ends before `mark` and starts at p.
 fn put_head(
-    table: &[u8; 25],
+    table: &[u8; RECORD_KINDS],
     list: &[u64],
     out: &mut [u8],
     b: usize,
@@ -372,8 +415,8 @@ fn put_head(
     requires { ⌜ Leads (now table) (now list) b × (p ≤ mark) × Room (headOf (now table) (now list) b (mark - p)) p (now out) ⌝ }
     ensures { λ q. ⌜ Stored (headOf (now (table .entry)) (now (list .entry)) b (mark - p)) p (now (out .entry)) q (now (out .exit)) ⌝ }
 {
-    let number = list[b + 1];
-    let kind = list[b + 2];
+    let number = list[b + NUMBER];
+    let kind = list[b + KIND];
     let i = kind as usize;
     let w = table[i];
     let q = put_varint(out, p, (mark - p) as u64);
@@ -385,18 +428,18 @@ fn put_head(
 // them: each record is looked at once, for its own run.
 fn packed_from(list: &[u64], depth: u64, upto: usize) -> usize
     requires { ⌜ Upto (now list) upto × Inner (now list) depth upto ⌝ }
-    ensures { λ r. ⌜ r ≡ (if isPacked (now (list .entry)) depth upto then 6 * start (now (list .entry)) depth (upto / 6) else upto) ⌝ }
+    ensures { λ r. ⌜ r ≡ (if isPacked (now (list .entry)) depth upto then stride * start (now (list .entry)) depth (upto / stride) else upto) ⌝ }
 {
-    let number = list[upto - 5];
+    let number = list[upto - NUMBER_BACK];
     let mut b = upto;
-    while list[b - 6] == depth {
-        if list[b - 5] != number {
+    while list[b - STRIDE] == depth {
+        if list[b - NUMBER_BACK] != number {
             return upto;
         }
-        b -= 6;
+        b -= STRIDE;
     }
-    if list[b - 4] == 20 {
-        if list[b - 6] < depth {
+    if list[b - KIND_BACK] == kinds::PACKED_HEAD {
+        if list[b - STRIDE] < depth {
             return b;
         }
     }
@@ -405,7 +448,7 @@ fn packed_from(list: &[u64], depth: u64, upto: usize) -> usize
 
 // The values of a packed field, from the last to the first.
 fn put_values(
-    table: &[u8; 25],
+    table: &[u8; RECORD_KINDS],
     list: &[u64],
     payload: &[u8],
     out: &mut [u8],
@@ -414,23 +457,23 @@ fn put_values(
     pos: usize,
 ) -> usize
     requires { ⌜ Values (now table) (now list) (now payload) (now out) first upto pos ⌝ }
-    ensures { λ q. ⌜ Stored (bytesIn false (now (payload .entry)) (span (now (list .entry)) (first / 6) (upto / 6))) pos (now (out .entry)) q (now (out .exit)) ⌝ }
+    ensures { λ q. ⌜ Stored (bytesIn false (now (payload .entry)) (span (now (list .entry)) (first / stride) (upto / stride))) pos (now (out .entry)) q (now (out .exit)) ⌝ }
 {
-    let kind = list[upto - 4];
+    let kind = list[upto - KIND_BACK];
     let i = kind as usize;
     let w = table[i];
     let mut b = upto;
     let mut p = pos;
     while first < b {
-        p = put_plain(out, p, kind, w, list[b - 3]);
-        b -= 6;
+        p = put_plain(out, p, kind, w, list[b - VALUE_BACK]);
+        b -= STRIDE;
     }
     p
 }
 
 // The run at this depth that ends before upto and lies in a head.
 fn put_inner(
-    table: &[u8; 25],
+    table: &[u8; RECORD_KINDS],
     list: &[u64],
     payload: &[u8],
     out: &mut [u8],
@@ -451,7 +494,7 @@ fn put_inner(
 
 // The run at this depth that ends before upto, with its tags.
 fn put_run(
-    table: &[u8; 25],
+    table: &[u8; RECORD_KINDS],
     list: &[u64],
     payload: &[u8],
     out: &mut [u8],
@@ -465,19 +508,19 @@ fn put_run(
     let mut b = upto;
     let mut p = pos;
     let mut hint: u64 = 0;
-    while 6 <= b {
-        let d = list[b - 6];
+    while STRIDE <= b {
+        let d = list[b - STRIDE];
         if d < depth {
             return Back { at: b, pos: p };
         }
         if d == depth {
-            b -= 6;
+            b -= STRIDE;
             let r = put_leaf(table, list, payload, out, b, p, hint);
             p = r.pos;
             hint = r.hint;
         } else {
             let r = put_inner(table, list, payload, out, depth + 1, b, p);
-            b = r.at - 6;
+            b = r.at - STRIDE;
             p = put_head(table, list, out, b, p, r.pos);
         }
     }
@@ -485,8 +528,14 @@ fn put_run(
 }
 
 // The bytes of a list that the check found without fault, at the front of the output: `size` is how many they are.
-pub(crate) fn put_list(table: &[u8; 25], list: &[u64], payload: &[u8], out: &mut [u8], size: usize)
-    requires { ⌜ (now table ≡ take 25 wires) × Given (now list) (now payload) × (size ≡ length (written (now payload) (recordsOf (now list)))) × (size ≤ length (now out)) ⌝ }
+pub(crate) fn put_list(
+    table: &[u8; RECORD_KINDS],
+    list: &[u64],
+    payload: &[u8],
+    out: &mut [u8],
+    size: usize,
+)
+    requires { ⌜ (now table ≡ take recordKinds wires) × Given (now list) (now payload) × (size ≡ length (written (now payload) (recordsOf (now list)))) × (size ≤ length (now out)) ⌝ }
     ensures { λ r. ⌜ now (out .exit) ≡ filled (written (now (payload .entry)) (recordsOf (now (list .entry)))) (now (out .entry)) ⌝ }
 {
     put_run(table, list, payload, out, 0, list.len(), size);

@@ -4,20 +4,21 @@ ghost use lib.ListN.{length};
 ghost use Rattle.spec.specs.Schema.{schemaOf};
 ghost use Rattle.spec.specs.Record.{recordsOf};
 ghost use Rattle.spec.specs.Writing.{written, sized, sizing, writing, output};
-ghost use Rattle.write.specs.Answers.{told, bySize};
+ghost use Rattle.write.specs.Answers.{answerOfWriting, bySize};
 ghost use Rattle.write.specs.Backward.{Given};
 
 mod bytes;
-mod sizes;
+mod measure;
 
 use crate::bytes::put_list;
-use crate::sizes::list_size;
+use crate::measure::list_size;
 use list::Verdict;
 use list::check;
+use spec::refusals;
 use wire::wire_format::MAX_MESSAGE_SIZE;
 use wire::wire_format::record_wires;
 
-// What a writing comes to: the refusal's number, 0 for none; the size, 0 on refusal, but for 12 the size that is needed; the index of the bad
+// What a writing comes to: the refusal's number, 0 for none; the size, 0 on refusal, but where the output is too short the size that is needed; the index of the bad
 // record, or of the bad entry of the schema.
 pub struct Answer {
     pub number: u32,
@@ -31,7 +32,7 @@ fn by_size(room: u64, size: u64) -> Answer
 {
     if MAX_MESSAGE_SIZE < size {
         return Answer {
-            number: 11,
+            number: refusals::TOO_LARGE,
             size: 0,
             index: 0,
         };
@@ -39,7 +40,7 @@ fn by_size(room: u64, size: u64) -> Answer
     let n = size as usize;
     if room < size {
         return Answer {
-            number: 12,
+            number: refusals::OUTPUT_SHORT,
             size: n,
             index: 0,
         };
@@ -54,7 +55,7 @@ fn by_size(room: u64, size: u64) -> Answer
 // Writes a list that the check found without fault, where its size is within the limit and the output has room for it.
 fn write_checked(list: &[u64], payload: &[u8], out: &mut [u8]) -> Answer
     requires { ⌜ Given (now list) (now payload) ⌝ }
-    ensures { λ r. ⌜ (r ≡ told (sized (length (now (out .entry))) (written (now (payload .entry)) (recordsOf (now (list .entry))))))
+    ensures { λ r. ⌜ (r ≡ answerOfWriting (sized (length (now (out .entry))) (written (now (payload .entry)) (recordsOf (now (list .entry))))))
         × (now (out .exit) ≡ output (sized (length (now (out .entry))) (written (now (payload .entry)) (recordsOf (now (list .entry))))) (now (out .entry))) ⌝ }
 {
     let r = by_size(out.len() as u64, list_size(list));
@@ -68,7 +69,7 @@ fn write_checked(list: &[u64], payload: &[u8], out: &mut [u8]) -> Answer
 
 // The size of a list under a schema of five numbers an entry: as `write` answers where there is all the room that can be needed.
 pub fn size(types: u32, numbers: &[u32], list: &[u64], payload: &[u8]) -> Answer
-    ensures { λ r. ⌜ r ≡ told (sizing (schemaOf types (now (numbers .entry))) (now (payload .entry)) (recordsOf (now (list .entry)))) ⌝ }
+    ensures { λ r. ⌜ r ≡ answerOfWriting (sizing (schemaOf types (now (numbers .entry))) (now (payload .entry)) (recordsOf (now (list .entry)))) ⌝ }
 {
     match check(types, numbers, list, payload) {
         Verdict::Faulty { number, index } => Answer {
@@ -82,7 +83,7 @@ pub fn size(types: u32, numbers: &[u32], list: &[u64], payload: &[u8]) -> Answer
 
 // Writes a list under a schema of five numbers an entry to the front of the output, whole or not at all.
 pub fn write(types: u32, numbers: &[u32], list: &[u64], payload: &[u8], out: &mut [u8]) -> Answer
-    ensures { λ r. ⌜ (r ≡ told (writing (schemaOf types (now (numbers .entry))) (length (now (out .entry))) (now (payload .entry)) (recordsOf (now (list .entry)))))
+    ensures { λ r. ⌜ (r ≡ answerOfWriting (writing (schemaOf types (now (numbers .entry))) (length (now (out .entry))) (now (payload .entry)) (recordsOf (now (list .entry)))))
         × (now (out .exit) ≡ output (writing (schemaOf types (now (numbers .entry))) (length (now (out .entry))) (now (payload .entry)) (recordsOf (now (list .entry)))) (now (out .entry))) ⌝ }
 {
     match check(types, numbers, list, payload) {

@@ -53,10 +53,12 @@ use denote.Triple.Spec.{Meets, tripleOf}
 use denote.Triple.Table.{entered, cited}
 use denote.Triple.Walked.{says, Stays, stay-none-slice, stay-ref, walkOf, goes-none-slice, goes-ref, Walks, ends-at, walked, walk-meets}
 use denote.Exit.{yes}
+use Rattle.spec.specs.Names.{mostEntries}
 use Rattle.spec.specs.Schema.{noEntry}
 use Rattle.spec.specs.declared.Entry.{Entry}
 use Rattle.spec.proofs.Entry as T
 use Rattle.spec.proofs.Entry.Laws as T′
+use Rattle.entries.specs.Copied.{mostNumbers}
 use Rattle.entries.proofs.Pieces.{after}
 use Rattle.entries.proofs.counted as counted′
 use Rattle.entries.proofs.counted.Symbol as counted′-def
@@ -75,7 +77,7 @@ use Rattle.entries.proofs.copy.Proof.Facts.{bound, Stepped, SoFar, Ends
 
 -- the array
 abbrev Arr : RattleType
-Arr = Array u32 1280
+Arr = Array u32 mostNumbers
 
 abbrev stayed : Stays (fn.ended .signature .params) (fn.ended .kept)
 stayed = (stay-none-slice (0 ∷ []) tt (plain (λ _. T.the-row)) yes, (stay-ref (1 ∷ []) tt (plain (λ _. Arr)), tt))
@@ -174,7 +176,7 @@ module _ {M : Type 1} (𝓤 : URA M) (H : Heap 𝓤) (A : Atoms 𝓤) (W : Given
   abbrev to-step : ℕ → GName → List ℕ → ℕ → Entry → Step 𝓤 H A mem run .Ghost
   to-step ν δ a i e = (((ν ∷ [], tt), (fullShare, tt), tt, (y δ a, (i, (e, tt))), (vptr b₁ o₁ ∷ [], (vint w64 i ∷ [], (vals e, tt)))), tt)
 
-  goes-step : (ν : ℕ) (δ : GName) (a : List ℕ) (i : ℕ) (e : Entry) → i < 256 → i < 2 ^ 64 → Is T.the-row e (vals e)
+  goes-step : (ν : ℕ) (δ : GName) (a : List ℕ) (i : ℕ) (e : Entry) → i < mostEntries → i < 2 ^ 64 → Is T.the-row e (vals e)
       → ent 𝓤 (sep 𝓤 (A .lft (ν ∷ []) fullShare) (sem 𝓤 H A (MutRef (named 0) (ν ∷ []) Arr .own (y δ a) (vptr b₁ o₁ ∷ [])))) (Step 𝓤 H A mem run .pre (to-step ν δ a i e))
   goes-step ν δ a i e within fits ise =
       qed W (‵ (flft (ν ∷ []) fullShare) ∷ ‵ (MutRef (named 0) (ν ∷ []) Arr .own (y δ a) (vptr b₁ o₁ ∷ [])) ∷ []) ∵ says ! within $ nothing ! $ move ! (1 ∷ 0 ∷ []) $ join ! $ frame ! $

@@ -4,12 +4,13 @@ use native.Mathlib.Omega.{arith}
 use mathlib.Core.Path.{refl}
 use borrow.Author.Needs.{needs}
 use Rattle.spec.specs.Schema.{entriesOf}
+use Rattle.entries.specs.Copied.{oneMore}
 use Rattle.entries.proofs.NumbersLaws.{Here, here-next, here-end}
 use Rattle.entries.proofs.entries_from.Statement.{statement}
 use Rattle.entries.proofs.entries_from.Tie as tie
 
 abbrev Inv-loop : tie.InvT-loop
-Inv-loop numbers count entries₀ i₀ entries i = Here 257 numbers count entries i
+Inv-loop numbers count entries₀ i₀ entries i = Here oneMore numbers count entries i
 
 abbrev μ-loop : tie.MeasureT-loop
 μ-loop numbers count entries₀ i₀ entries i = count - i

@@ -56,6 +56,7 @@ use Rattle.spec.proofs.Entry.Laws as T′
 use Rattle.schema.specs.declared.Place.{Place}
 use Rattle.schema.proofs.Place as R
 use Rattle.schema.proofs.Place.Laws as R′
+use Rattle.entries.specs.Copied.{oneMore}
 use Rattle.entries.proofs.Locals.{part-in, part-out, behind, parts-cut, parts-joined}
 use Rattle.entries.proofs.lookup as lookup′
 use Rattle.entries.proofs.lookup.Symbol as lookup′-def
@@ -70,7 +71,7 @@ use Rattle.entries.proofs.lend_lookup.Proof.Facts.{Told}
 
 -- the array
 abbrev Arr : RattleType
-Arr = Array T.the-row 257
+Arr = Array T.the-row oneMore
 
 -- an element's machine values
 abbrev vals : Entry → List Val
@@ -80,7 +81,7 @@ abbrev stayed : Stays (fn.ended .signature .params) (fn.ended .kept)
 stayed = (stay-dropped (plain (λ _. Arr)) yes, (stay-none (λ _. usize) yes, (stay-none (λ _. u32) yes, (stay-none (λ _. u32) yes, tt))))
 
 -- so many elements have room
-small-room : (n : ℕ) → n ≤ 257 → (n < 2 ^ 64) × (n * 20 < 2 ^ 63)
+small-room : (n : ℕ) → n ≤ oneMore → (n < 2 ^ 64) × (n * 20 < 2 ^ 63)
 small-room n h = (omega arith, omega arith)
 
 module _ {M : Type 1} (𝓤 : URA M) (H : Heap 𝓤) (A : Atoms 𝓤) (mem : Memory → SProp 𝓤) (run : Routine → Fun 𝓤) where
@@ -88,7 +89,7 @@ module _ {M : Type 1} (𝓤 : URA M) (H : Heap 𝓤) (A : Atoms 𝓤) (mem : Mem
   abbrev Call : Contract 𝓤
   Call = tripleOf 𝓤 H A lookup′.signature (lookup′.spec 𝓤 H A mem run)
 
-module _ {M : Type 1} (𝓤 : URA M) (H : Heap 𝓤) (A : Atoms 𝓤) (W : Given 𝓤 H A) (mem : Memory → SProp 𝓤) (run : Routine → Fun 𝓤) (es : List Entry) (are-es : Is Arr es (array-vals vals es)) (count : ℕ) (count-fits : count < 2 ^ 64) (owner : ℕ) (owner-fits : owner < 2 ^ 32) (number : ℕ) (number-fits : number < 2 ^ 32) (within : count ≤ 257) where
+module _ {M : Type 1} (𝓤 : URA M) (H : Heap 𝓤) (A : Atoms 𝓤) (W : Given 𝓤 H A) (mem : Memory → SProp 𝓤) (run : Routine → Fun 𝓤) (es : List Entry) (are-es : Is Arr es (array-vals vals es)) (count : ℕ) (count-fits : count < 2 ^ 64) (owner : ℕ) (owner-fits : owner < 2 ^ 32) (number : ℕ) (number-fits : number < 2 ^ 32) (within : count ≤ oneMore) where
   abbrev κs : Lfts 0
   κs = tt
 
@@ -96,7 +97,7 @@ module _ {M : Type 1} (𝓤 : URA M) (H : Heap 𝓤) (A : Atoms 𝓤) (W : Given
   abbrev ys : List Entry
   ys = take count es
 
-  first-count : length es ≡ 257 → length ys ≡ count
+  first-count : length es ≡ oneMore → length ys ≡ count
   first-count wide = omega (arith, length-take count es)
 
   first-room : length ys ≡ count → Room T.the-row (length ys)
@@ -106,8 +107,8 @@ module _ {M : Type 1} (𝓤 : URA M) (H : Heap 𝓤) (A : Atoms 𝓤) (W : Given
   abbrev v-es : Val
   v-es = only (array-vals vals es)
 
-  typed : True (hasTy (tyArray T′.mir 257) v-es) × WT v-es
-  typed = array-lawful 𝓤 H A W T.the-row (LL.lawful T.the-type T′.the-laws 𝓤 H A W) 257 .typed es _ are-es .0
+  typed : True (hasTy (tyArray T′.mir oneMore) v-es) × WT v-es
+  typed = array-lawful 𝓤 H A W T.the-row (LL.lawful T.the-type T′.the-laws 𝓤 H A W) oneMore .typed es _ are-es .0
 
   -- the first elements of the array at b, lent as a slice under the name δ
   abbrev part-of : ℕ → GName → RefT (List Entry)
@@ -140,15 +141,15 @@ module _ {M : Type 1} (𝓤 : URA M) (H : Heap 𝓤) (A : Atoms 𝓤) (W : Given
 
   module _ (C : Calls 𝓤 H) (Λ : Loops 𝓤 H) (fm : FmC 𝓤 H (W .laws) C) (known : Triple 𝓤 (C #entries·lookup) (Call 𝓤 H A mem run)) (l₀ l₁ l₂ l₃ l₄ l₅ l₆ l₇ : ℕ) where
     abbrev En : Env 𝓤 H
-    En = (R′.mir, l₀) ∷ ((tyArray T′.mir 257), l₁) ∷ ((tyInt w64), l₂) ∷ ((tyInt w32), l₃) ∷ ((tyInt w32), l₄) ∷ ((tyArray T′.mir 257), l₅) ∷ ((tyRef erased imm (tyArray (pointee (T.the-row .written)) 257)), l₆) ∷ ((sliceTy (tyRef erased imm (pointee (T.the-row .written)))), l₇) ∷ []
+    En = (R′.mir, l₀) ∷ ((tyArray T′.mir oneMore), l₁) ∷ ((tyInt w64), l₂) ∷ ((tyInt w32), l₃) ∷ ((tyInt w32), l₄) ∷ ((tyArray T′.mir oneMore), l₅) ∷ ((tyRef erased imm (tyArray (pointee (T.the-row .written)) oneMore)), l₆) ∷ ((sliceTy (tyRef erased imm (pointee (T.the-row .written)))), l₇) ∷ []
 
-    begins : Sq W (‵ (froom (sliceTy (tyRef erased imm (pointee (T.the-row .written)))) l₇ 0) ∷ ‵ (fdies (sliceTy (tyRef erased imm (pointee (T.the-row .written)))) l₇) ∷ ‵ (froom (tyRef erased imm (tyArray (pointee (T.the-row .written)) 257)) l₆ 0) ∷ ‵ (fdies (tyRef erased imm (tyArray (pointee (T.the-row .written)) 257)) l₆) ∷ ‵ (froom (tyArray T′.mir 257) l₅ 0) ∷ ‵ (fdies (tyArray T′.mir 257) l₅) ∷ ‵ (fat fullShare (tyInt w32) l₄ 0 (vint w32 number)) ∷ ‵ (fdies (tyInt w32) l₄) ∷ ‵ (fat fullShare (tyInt w32) l₃ 0 (vint w32 owner)) ∷ ‵ (fdies (tyInt w32) l₃) ∷ ‵ (fat fullShare (tyInt w64) l₂ 0 (vint w64 count)) ∷ ‵ (fdies (tyInt w64) l₂) ∷ ‵ (fat fullShare (tyArray T′.mir 257) l₁ 0 v-es) ∷ ‵ (fdies (tyArray T′.mir 257) l₁) ∷ ‵ (froom R′.mir l₀ 0) ∷ ‵ (fdies R′.mir l₀) ∷ ‵ (Arr .own es (v-es ∷ [])) ∷ []) (runs C Λ En body.t-1 (atRet En Post))
+    begins : Sq W (‵ (froom (sliceTy (tyRef erased imm (pointee (T.the-row .written)))) l₇ 0) ∷ ‵ (fdies (sliceTy (tyRef erased imm (pointee (T.the-row .written)))) l₇) ∷ ‵ (froom (tyRef erased imm (tyArray (pointee (T.the-row .written)) oneMore)) l₆ 0) ∷ ‵ (fdies (tyRef erased imm (tyArray (pointee (T.the-row .written)) oneMore)) l₆) ∷ ‵ (froom (tyArray T′.mir oneMore) l₅ 0) ∷ ‵ (fdies (tyArray T′.mir oneMore) l₅) ∷ ‵ (fat fullShare (tyInt w32) l₄ 0 (vint w32 number)) ∷ ‵ (fdies (tyInt w32) l₄) ∷ ‵ (fat fullShare (tyInt w32) l₃ 0 (vint w32 owner)) ∷ ‵ (fdies (tyInt w32) l₃) ∷ ‵ (fat fullShare (tyInt w64) l₂ 0 (vint w64 count)) ∷ ‵ (fdies (tyInt w64) l₂) ∷ ‵ (fat fullShare (tyArray T′.mir oneMore) l₁ 0 v-es) ∷ ‵ (fdies (tyArray T′.mir oneMore) l₁) ∷ ‵ (froom R′.mir l₀ 0) ∷ ‵ (fdies R′.mir l₀) ∷ ‵ (Arr .own es (v-es ∷ [])) ∷ []) (runs C Λ En body.t-1 (atRet En Post))
     begins =
         -- the array is copied to its place in memory, and its first elements are lent for a lifetime ν of the call
         assigns ! (of-opd ! (load ! (from ! (stop !)) (look ! 12 refl))) (from ! (stop !)) (init ! 4 refl typed) $
         assigns ! (addr ! (from ! (stop !))) (from ! (stop !)) (init ! 2 refl (tt, tt)) $
         assigns ! (agg ! (and-then ! (load ! (from ! (stop !)) (look ! 2 refl)) (and-then ! (load ! (from ! (stop !)) (look ! 10 refl)) (no-more !)))) (from ! (stop !)) (init ! 0 refl (tt, (tt, (record { fits = count-fits }, tt)))) $
-        move ! (4 ∷ 16 ∷ []) $ use2 W (‵ (partAt Arr fullShare es l₅ 0)) (part-in 𝓤 H A W T.the-row 257 es l₅ 0 v-es) $ use1 W (‵ (arr-parts (shares T.the-row) 257 .part fullShare es l₅ 0)) (array-apart 𝓤 H A W T.the-row fullShare tt 257 es l₅ 0) $ fsplit ! $ feqL ! (λ wide. let counted = first-count wide in
+        move ! (4 ∷ 16 ∷ []) $ use2 W (‵ (partAt Arr fullShare es l₅ 0)) (part-in 𝓤 H A W T.the-row oneMore es l₅ 0 v-es) $ use1 W (‵ (arr-parts (shares T.the-row) oneMore .part fullShare es l₅ 0)) (array-apart 𝓤 H A W T.the-row fullShare tt oneMore es l₅ 0) $ fsplit ! $ feqL ! (λ wide. let counted = first-count wide in
         rewrite ! 1 (λ (m : ℕ). ‵ (fat fullShare (sliceTy (tyRef erased imm (pointee (T.the-row .written)))) l₇ 0 (sliceVal (l₅, 0) m))) (sym counted) refl $
         use1 W (‵ (elems T.the-row fullShare ys l₅ 0) ⊛ ‵ (behind T.the-row count es l₅ 0)) (parts-cut 𝓤 H A W T.the-row count es l₅ 0) $ split ! $ feqI ! ℕ (length ys) (length ys) refl $ fjoin ! $ lft-new ! tt (λ ν.
         move ! (1 ∷ []) $ use1 W (later (some (λ (δ : GName). ‵ (ShrSlice (named 0) (ν ∷ []) T.the-row .own (part-of l₅ δ) (sliceVal (l₅, 0) (length ys) ∷ [])) ⊛ ‵ (flent (ν ∷ []) (arr-parts (shares T.the-row) (length ys) .part fullShare ys l₅ 0))))) (lends-shr-slice 𝓤 H A W T.the-row (named 0) (ν ∷ []) fullShare ys l₅ 0 (first-room counted)) $ await ! tt $ pick ! (λ δ. split ! $
@@ -162,7 +163,7 @@ module _ {M : Type 1} (𝓤 : URA M) (H : Heap 𝓤) (A : Atoms 𝓤) (W : Given
         land ! (from ! (stop !)) (init ! 21 refl (EL.lawful R.the-type R′.the-laws 𝓤 H A W tt .typed r _ is .0)) $
         -- the lifetime is ended, and the array's memory is had again
         move ! (1 ∷ []) $ split ! $ lft-end ! tt $ move ! (0 ∷ 7 ∷ []) $ lent-back ! tt $ fsplit ! $ feqL ! (λ same.
-        move ! (0 ∷ 7 ∷ []) $ use2 W (‵ (elems T.the-row fullShare es l₅ 0)) (parts-joined 𝓤 H A W T.the-row count es l₅ 0) $ feqI ! ℕ (length es) 257 wide $ fjoin ! $ use1 W (‵ (partAt Arr fullShare es l₅ 0)) (array-whole 𝓤 H A W T.the-row fullShare 257 es l₅ 0) $ use1 W (some (λ (x : Val). ‵ (fat fullShare (tyArray T′.mir 257) l₅ 0 x) ⊛ ‵ (Arr .own es (x ∷ [])))) (part-out 𝓤 H A W T.the-row 257 es l₅ 0) $ pick ! (λ x. split ! $
+        move ! (0 ∷ 7 ∷ []) $ use2 W (‵ (elems T.the-row fullShare es l₅ 0)) (parts-joined 𝓤 H A W T.the-row count es l₅ 0) $ feqI ! ℕ (length es) oneMore wide $ fjoin ! $ use1 W (‵ (partAt Arr fullShare es l₅ 0)) (array-whole 𝓤 H A W T.the-row fullShare oneMore es l₅ 0) $ use1 W (some (λ (x : Val). ‵ (fat fullShare (tyArray T′.mir oneMore) l₅ 0 x) ⊛ ‵ (Arr .own es (x ∷ [])))) (part-out 𝓤 H A W T.the-row oneMore es l₅ 0) $ pick ! (λ x. split ! $
         returns ! (look ! 21 refl) $ forget ! 8 refl $ forget ! 10 refl $ forget ! 0 refl $ forget ! 13 refl $ forget ! 15 refl $ forget ! 17 refl $ forget ! 19 refl $ forget ! 21 refl $
         move ! (21 ∷ 22 ∷ []) $ free1 ! $ move ! (19 ∷ 20 ∷ []) $ free1 ! $ move ! (17 ∷ 18 ∷ []) $ free1 ! $ move ! (15 ∷ 16 ∷ []) $ free1 ! $ move ! (13 ∷ 14 ∷ []) $ free1 ! $ move ! (0 ∷ 12 ∷ []) $ free1 ! $ move ! (9 ∷ 10 ∷ []) $ free1 ! $ move ! (7 ∷ 8 ∷ []) $ free1 ! $ free0 ! $
         keep ! (2 ∷ []) $ by ! (exits r w e)))))))))))
@@ -180,8 +181,8 @@ module _ {M : Type 1} (𝓤 : URA M) (H : Heap 𝓤) (A : Atoms 𝓤) (W : Given
 module _ {M : Type 1} (𝓤 : URA M) (H : Heap 𝓤) (A : Atoms 𝓤) (W : Given 𝓤 H A) (mem : Memory → SProp 𝓤) (run : Routine → Fun 𝓤) where
   fn-walks : (C : Calls 𝓤 H) (Λ : Loops 𝓤 H) → FmC 𝓤 H (W .laws) C → Triple 𝓤 (C #entries·lookup) (Call 𝓤 H A mem run)
       → Walks 𝓤 H A fn.ended stayed (WpFn 𝓤 H C Λ code.function) (fn.clauses 𝓤 H A mem run)
-  fn-walks C Λ fm known = walked 𝓤 H A fn.ended stayed (fn.clauses 𝓤 H A mem run) (WpFn 𝓤 H C Λ code.function) (λ κs. (array-vals vals, (uint-vals w64, (uint-vals w32, (uint-vals w32, tt))))) (λ κs. (array-tells T.the-row vals (LL.tells T.the-type T′.the-laws) 257, (uint-tells w64, (uint-tells w32, (uint-tells w32, tt)))))
-      (λ κs qs bounds a g are. needs 𝓤 (a .1 .0 ≤ 257) _ (λ within. walk 𝓤 H A W mem run (a .0) (are .0) (a .1 .0) (are .1 .0 .1) (a .1 .1 .0) (are .1 .1 .0 .1) (a .1 .1 .1 .0) (are .1 .1 .1 .0 .1) within C Λ fm known))
+  fn-walks C Λ fm known = walked 𝓤 H A fn.ended stayed (fn.clauses 𝓤 H A mem run) (WpFn 𝓤 H C Λ code.function) (λ κs. (array-vals vals, (uint-vals w64, (uint-vals w32, (uint-vals w32, tt))))) (λ κs. (array-tells T.the-row vals (LL.tells T.the-type T′.the-laws) oneMore, (uint-tells w64, (uint-tells w32, (uint-tells w32, tt)))))
+      (λ κs qs bounds a g are. needs 𝓤 (a .1 .0 ≤ oneMore) _ (λ within. walk 𝓤 H A W mem run (a .0) (are .0) (a .1 .0) (are .1 .0 .1) (a .1 .1 .0) (are .1 .1 .0 .1) (a .1 .1 .1 .0) (are .1 .1 .1 .0 .1) within C Λ fm known))
 
 fn-meets : {M : Type 1} (𝓤 : URA M) (H : Heap 𝓤) (A : Atoms 𝓤) (W : Given 𝓤 H A) (mem : Memory → SProp 𝓤) (run : Routine → Fun 𝓤) (𝓣 : Tables 𝓤 H)
     → Triple 𝓤 (𝓣 .C #entries·lookup) (Call 𝓤 H A mem run)

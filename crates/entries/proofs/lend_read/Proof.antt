@@ -55,6 +55,7 @@ use Rattle.spec.proofs.Entry.Laws as T′
 use Rattle.read.specs.declared.Answer.{Answer}
 use Rattle.read.proofs.Answer as R
 use Rattle.read.proofs.Answer.Laws as R′
+use Rattle.entries.specs.Copied.{oneMore}
 use Rattle.entries.proofs.Locals.{part-in, part-out, behind, parts-cut, parts-joined}
 use Rattle.entries.proofs.read as read′
 use Rattle.entries.proofs.read.Symbol as read′-def
@@ -69,7 +70,7 @@ use Rattle.entries.proofs.lend_read.Proof.Facts.{Told}
 
 -- the array
 abbrev Arr : RattleType
-Arr = Array T.the-row 257
+Arr = Array T.the-row oneMore
 
 -- an element's machine values
 abbrev vals : Entry → List Val
@@ -79,7 +80,7 @@ abbrev stayed : Stays (fn.ended .signature .params) (fn.ended .kept)
 stayed = (stay-none (λ _. u32) yes, (stay-dropped (plain (λ _. Arr)) yes, (stay-none (λ _. usize) yes, (stay-none-slice (0 ∷ []) tt (plain (λ _. u8)) yes, (gave-slice (1 ∷ []) tt (plain (λ _. u64)), tt)))))
 
 -- so many elements have room
-small-room : (n : ℕ) → n ≤ 257 → (n < 2 ^ 64) × (n * 20 < 2 ^ 63)
+small-room : (n : ℕ) → n ≤ oneMore → (n < 2 ^ 64) × (n * 20 < 2 ^ 63)
 small-room n h = (omega arith, omega arith)
 
 module _ {M : Type 1} (𝓤 : URA M) (H : Heap 𝓤) (A : Atoms 𝓤) (mem : Memory → SProp 𝓤) (run : Routine → Fun 𝓤) where
@@ -87,7 +88,7 @@ module _ {M : Type 1} (𝓤 : URA M) (H : Heap 𝓤) (A : Atoms 𝓤) (mem : Mem
   abbrev Call : Contract 𝓤
   Call = tripleOf 𝓤 H A read′.signature (read′.spec 𝓤 H A mem run)
 
-module _ {M : Type 1} (𝓤 : URA M) (H : Heap 𝓤) (A : Atoms 𝓤) (W : Given 𝓤 H A) (mem : Memory → SProp 𝓤) (run : Routine → Fun 𝓤) (κ₀ κ₁ : Lft) (q₀ q₁ : Share) (types : ℕ) (types-fits : types < 2 ^ 32) (es : List Entry) (are-es : Is Arr es (array-vals vals es)) (count : ℕ) (count-fits : count < 2 ^ 64) (s : RefT (List ℕ)) (room-s : Room u8 (length (s .now))) (room : RefT (List ℕ)) (room-room : Room u64 (length (room .now))) (within : count ≤ 257) where
+module _ {M : Type 1} (𝓤 : URA M) (H : Heap 𝓤) (A : Atoms 𝓤) (W : Given 𝓤 H A) (mem : Memory → SProp 𝓤) (run : Routine → Fun 𝓤) (κ₀ κ₁ : Lft) (q₀ q₁ : Share) (types : ℕ) (types-fits : types < 2 ^ 32) (es : List Entry) (are-es : Is Arr es (array-vals vals es)) (count : ℕ) (count-fits : count < 2 ^ 64) (s : RefT (List ℕ)) (room-s : Room u8 (length (s .now))) (room : RefT (List ℕ)) (room-room : Room u64 (length (room .now))) (within : count ≤ oneMore) where
   abbrev κs : Lfts 2
   κs = (κ₀, (κ₁, tt))
 
@@ -95,7 +96,7 @@ module _ {M : Type 1} (𝓤 : URA M) (H : Heap 𝓤) (A : Atoms 𝓤) (W : Given
   abbrev ys : List Entry
   ys = take count es
 
-  first-count : length es ≡ 257 → length ys ≡ count
+  first-count : length es ≡ oneMore → length ys ≡ count
   first-count wide = omega (arith, length-take count es)
 
   first-room : length ys ≡ count → Room T.the-row (length ys)
@@ -105,8 +106,8 @@ module _ {M : Type 1} (𝓤 : URA M) (H : Heap 𝓤) (A : Atoms 𝓤) (W : Given
   abbrev v-es : Val
   v-es = only (array-vals vals es)
 
-  typed : True (hasTy (tyArray T′.mir 257) v-es) × WT v-es
-  typed = array-lawful 𝓤 H A W T.the-row (LL.lawful T.the-type T′.the-laws 𝓤 H A W) 257 .typed es _ are-es .0
+  typed : True (hasTy (tyArray T′.mir oneMore) v-es) × WT v-es
+  typed = array-lawful 𝓤 H A W T.the-row (LL.lawful T.the-type T′.the-laws 𝓤 H A W) oneMore .typed es _ are-es .0
 
   abbrev v-s : Val
   v-s = sliceVal (s .ptr) (length (s .now))
@@ -151,15 +152,15 @@ module _ {M : Type 1} (𝓤 : URA M) (H : Heap 𝓤) (A : Atoms 𝓤) (W : Given
 
   module _ (C : Calls 𝓤 H) (Λ : Loops 𝓤 H) (fm : FmC 𝓤 H (W .laws) C) (known : Triple 𝓤 (C #entries·read) (Call 𝓤 H A mem run)) (l₀ l₁ l₂ l₃ l₄ l₅ l₆ l₇ l₈ l₉ l₁₀ : ℕ) where
     abbrev En : Env 𝓤 H
-    En = (R′.mir, l₀) ∷ ((tyInt w32), l₁) ∷ ((tyArray T′.mir 257), l₂) ∷ ((tyInt w64), l₃) ∷ ((sliceTy (tyRef (named 0) imm (tyInt w8))), l₄) ∷ ((sliceTy (tyRef (named 1) mut (tyInt w64))), l₅) ∷ ((tyArray T′.mir 257), l₆) ∷ ((tyRef erased imm (tyArray (pointee (T.the-row .written)) 257)), l₇) ∷ ((sliceTy (tyRef erased imm (pointee (T.the-row .written)))), l₈) ∷ ((tyRef erased mut (tyInt w64)), l₉) ∷ ((sliceTy (tyRef erased mut (tyInt w64))), l₁₀) ∷ []
+    En = (R′.mir, l₀) ∷ ((tyInt w32), l₁) ∷ ((tyArray T′.mir oneMore), l₂) ∷ ((tyInt w64), l₃) ∷ ((sliceTy (tyRef (named 0) imm (tyInt w8))), l₄) ∷ ((sliceTy (tyRef (named 1) mut (tyInt w64))), l₅) ∷ ((tyArray T′.mir oneMore), l₆) ∷ ((tyRef erased imm (tyArray (pointee (T.the-row .written)) oneMore)), l₇) ∷ ((sliceTy (tyRef erased imm (pointee (T.the-row .written)))), l₈) ∷ ((tyRef erased mut (tyInt w64)), l₉) ∷ ((sliceTy (tyRef erased mut (tyInt w64))), l₁₀) ∷ []
 
-    begins : Sq W (‵ (froom (sliceTy (tyRef erased mut (tyInt w64))) l₁₀ 0) ∷ ‵ (fdies (sliceTy (tyRef erased mut (tyInt w64))) l₁₀) ∷ ‵ (froom (tyRef erased mut (tyInt w64)) l₉ 0) ∷ ‵ (fdies (tyRef erased mut (tyInt w64)) l₉) ∷ ‵ (froom (sliceTy (tyRef erased imm (pointee (T.the-row .written)))) l₈ 0) ∷ ‵ (fdies (sliceTy (tyRef erased imm (pointee (T.the-row .written)))) l₈) ∷ ‵ (froom (tyRef erased imm (tyArray (pointee (T.the-row .written)) 257)) l₇ 0) ∷ ‵ (fdies (tyRef erased imm (tyArray (pointee (T.the-row .written)) 257)) l₇) ∷ ‵ (froom (tyArray T′.mir 257) l₆ 0) ∷ ‵ (fdies (tyArray T′.mir 257) l₆) ∷ ‵ (fat fullShare (sliceTy (tyRef (named 1) mut (tyInt w64))) l₅ 0 v-room) ∷ ‵ (fdies (sliceTy (tyRef (named 1) mut (tyInt w64))) l₅) ∷ ‵ (fat fullShare (sliceTy (tyRef (named 0) imm (tyInt w8))) l₄ 0 v-s) ∷ ‵ (fdies (sliceTy (tyRef (named 0) imm (tyInt w8))) l₄) ∷ ‵ (fat fullShare (tyInt w64) l₃ 0 (vint w64 count)) ∷ ‵ (fdies (tyInt w64) l₃) ∷ ‵ (fat fullShare (tyArray T′.mir 257) l₂ 0 v-es) ∷ ‵ (fdies (tyArray T′.mir 257) l₂) ∷ ‵ (fat fullShare (tyInt w32) l₁ 0 (vint w32 types)) ∷ ‵ (fdies (tyInt w32) l₁) ∷ ‵ (froom R′.mir l₀ 0) ∷ ‵ (fdies R′.mir l₀) ∷ ‵ (flft κ₀ q₀) ∷ ‵ (flft κ₁ q₁) ∷ ‵ (Arr .own es (v-es ∷ [])) ∷ ‵ Own-s ∷ ‵ Own-room ∷ []) (runs C Λ En body.t-1 (atRet En Post))
+    begins : Sq W (‵ (froom (sliceTy (tyRef erased mut (tyInt w64))) l₁₀ 0) ∷ ‵ (fdies (sliceTy (tyRef erased mut (tyInt w64))) l₁₀) ∷ ‵ (froom (tyRef erased mut (tyInt w64)) l₉ 0) ∷ ‵ (fdies (tyRef erased mut (tyInt w64)) l₉) ∷ ‵ (froom (sliceTy (tyRef erased imm (pointee (T.the-row .written)))) l₈ 0) ∷ ‵ (fdies (sliceTy (tyRef erased imm (pointee (T.the-row .written)))) l₈) ∷ ‵ (froom (tyRef erased imm (tyArray (pointee (T.the-row .written)) oneMore)) l₇ 0) ∷ ‵ (fdies (tyRef erased imm (tyArray (pointee (T.the-row .written)) oneMore)) l₇) ∷ ‵ (froom (tyArray T′.mir oneMore) l₆ 0) ∷ ‵ (fdies (tyArray T′.mir oneMore) l₆) ∷ ‵ (fat fullShare (sliceTy (tyRef (named 1) mut (tyInt w64))) l₅ 0 v-room) ∷ ‵ (fdies (sliceTy (tyRef (named 1) mut (tyInt w64))) l₅) ∷ ‵ (fat fullShare (sliceTy (tyRef (named 0) imm (tyInt w8))) l₄ 0 v-s) ∷ ‵ (fdies (sliceTy (tyRef (named 0) imm (tyInt w8))) l₄) ∷ ‵ (fat fullShare (tyInt w64) l₃ 0 (vint w64 count)) ∷ ‵ (fdies (tyInt w64) l₃) ∷ ‵ (fat fullShare (tyArray T′.mir oneMore) l₂ 0 v-es) ∷ ‵ (fdies (tyArray T′.mir oneMore) l₂) ∷ ‵ (fat fullShare (tyInt w32) l₁ 0 (vint w32 types)) ∷ ‵ (fdies (tyInt w32) l₁) ∷ ‵ (froom R′.mir l₀ 0) ∷ ‵ (fdies R′.mir l₀) ∷ ‵ (flft κ₀ q₀) ∷ ‵ (flft κ₁ q₁) ∷ ‵ (Arr .own es (v-es ∷ [])) ∷ ‵ Own-s ∷ ‵ Own-room ∷ []) (runs C Λ En body.t-1 (atRet En Post))
     begins =
         -- the array is copied to its place in memory, and its first elements are lent for a lifetime ν of the call
         assigns ! (of-opd ! (load ! (from ! (stop !)) (look ! 16 refl))) (from ! (stop !)) (init ! 8 refl typed) $
         assigns ! (addr ! (from ! (stop !))) (from ! (stop !)) (init ! 6 refl (tt, tt)) $
         assigns ! (agg ! (and-then ! (load ! (from ! (stop !)) (look ! 6 refl)) (and-then ! (load ! (from ! (stop !)) (look ! 14 refl)) (no-more !)))) (from ! (stop !)) (init ! 4 refl (tt, (tt, (record { fits = count-fits }, tt)))) $
-        move ! (8 ∷ 24 ∷ []) $ use2 W (‵ (partAt Arr fullShare es l₆ 0)) (part-in 𝓤 H A W T.the-row 257 es l₆ 0 v-es) $ use1 W (‵ (arr-parts (shares T.the-row) 257 .part fullShare es l₆ 0)) (array-apart 𝓤 H A W T.the-row fullShare tt 257 es l₆ 0) $ fsplit ! $ feqL ! (λ wide. let counted = first-count wide in
+        move ! (8 ∷ 24 ∷ []) $ use2 W (‵ (partAt Arr fullShare es l₆ 0)) (part-in 𝓤 H A W T.the-row oneMore es l₆ 0 v-es) $ use1 W (‵ (arr-parts (shares T.the-row) oneMore .part fullShare es l₆ 0)) (array-apart 𝓤 H A W T.the-row fullShare tt oneMore es l₆ 0) $ fsplit ! $ feqL ! (λ wide. let counted = first-count wide in
         rewrite ! 5 (λ (m : ℕ). ‵ (fat fullShare (sliceTy (tyRef erased imm (pointee (T.the-row .written)))) l₈ 0 (sliceVal (l₆, 0) m))) (sym counted) refl $
         use1 W (‵ (elems T.the-row fullShare ys l₆ 0) ⊛ ‵ (behind T.the-row count es l₆ 0)) (parts-cut 𝓤 H A W T.the-row count es l₆ 0) $ split ! $ feqI ! ℕ (length ys) (length ys) refl $ fjoin ! $ lft-new ! tt (λ ν.
         move ! (1 ∷ []) $ use1 W (later (some (λ (δ : GName). ‵ (ShrSlice (named 0) (ν ∷ []) T.the-row .own (part-of l₆ δ) (sliceVal (l₆, 0) (length ys) ∷ [])) ⊛ ‵ (flent (ν ∷ []) (arr-parts (shares T.the-row) (length ys) .part fullShare ys l₆ 0))))) (lends-shr-slice 𝓤 H A W T.the-row (named 0) (ν ∷ []) fullShare ys l₆ 0 (first-room counted)) $ await ! tt $ pick ! (λ δ. split ! $
@@ -177,7 +178,7 @@ module _ {M : Type 1} (𝓤 : URA M) (H : Heap 𝓤) (A : Atoms 𝓤) (W : Given
         land ! (from ! (stop !)) (init ! 29 refl (LL.lawful R.the-type R′.the-laws 𝓤 H A W .typed r _ is .0)) $
         -- the lifetime is ended, and the array's memory is had again
         move ! (1 ∷ []) $ split ! $ move ! (1 ∷ []) $ split ! $ move ! (1 ∷ []) $ split ! $ move ! (3 ∷ []) $ lft-end ! tt $ move ! (0 ∷ 11 ∷ []) $ lent-back ! tt $ fsplit ! $ feqL ! (λ same.
-        move ! (0 ∷ 11 ∷ []) $ use2 W (‵ (elems T.the-row fullShare es l₆ 0)) (parts-joined 𝓤 H A W T.the-row count es l₆ 0) $ feqI ! ℕ (length es) 257 wide $ fjoin ! $ use1 W (‵ (partAt Arr fullShare es l₆ 0)) (array-whole 𝓤 H A W T.the-row fullShare 257 es l₆ 0) $ use1 W (some (λ (x : Val). ‵ (fat fullShare (tyArray T′.mir 257) l₆ 0 x) ⊛ ‵ (Arr .own es (x ∷ [])))) (part-out 𝓤 H A W T.the-row 257 es l₆ 0) $ pick ! (λ x. split ! $
+        move ! (0 ∷ 11 ∷ []) $ use2 W (‵ (elems T.the-row fullShare es l₆ 0)) (parts-joined 𝓤 H A W T.the-row count es l₆ 0) $ feqI ! ℕ (length es) oneMore wide $ fjoin ! $ use1 W (‵ (partAt Arr fullShare es l₆ 0)) (array-whole 𝓤 H A W T.the-row fullShare oneMore es l₆ 0) $ use1 W (some (λ (x : Val). ‵ (fat fullShare (tyArray T′.mir oneMore) l₆ 0 x) ⊛ ‵ (Arr .own es (x ∷ [])))) (part-out 𝓤 H A W T.the-row oneMore es l₆ 0) $ pick ! (λ x. split ! $
         returns ! (look ! 31 refl) $ forget ! 12 refl $ forget ! 14 refl $ forget ! 16 refl $ forget ! 18 refl $ forget ! 0 refl $ forget ! 21 refl $ forget ! 23 refl $ forget ! 25 refl $ forget ! 27 refl $ forget ! 29 refl $ forget ! 31 refl $
         move ! (31 ∷ 32 ∷ []) $ free1 ! $ move ! (29 ∷ 30 ∷ []) $ free1 ! $ move ! (27 ∷ 28 ∷ []) $ free1 ! $ move ! (25 ∷ 26 ∷ []) $ free1 ! $ move ! (23 ∷ 24 ∷ []) $ free1 ! $ move ! (21 ∷ 22 ∷ []) $ free1 ! $ move ! (0 ∷ 20 ∷ []) $ free1 ! $ move ! (17 ∷ 18 ∷ []) $ free1 ! $ move ! (15 ∷ 16 ∷ []) $ free1 ! $ move ! (13 ∷ 14 ∷ []) $ free1 ! $ move ! (11 ∷ 12 ∷ []) $ free1 ! $ free0 ! $
         keep ! (4 ∷ 3 ∷ 1 ∷ 10 ∷ 5 ∷ []) $ by ! (exits r w (zs .1 .1 .1 .0) e l-room))))))))))))
@@ -195,8 +196,8 @@ module _ {M : Type 1} (𝓤 : URA M) (H : Heap 𝓤) (A : Atoms 𝓤) (W : Given
 module _ {M : Type 1} (𝓤 : URA M) (H : Heap 𝓤) (A : Atoms 𝓤) (W : Given 𝓤 H A) (mem : Memory → SProp 𝓤) (run : Routine → Fun 𝓤) where
   fn-walks : (C : Calls 𝓤 H) (Λ : Loops 𝓤 H) → FmC 𝓤 H (W .laws) C → Triple 𝓤 (C #entries·read) (Call 𝓤 H A mem run)
       → Walks 𝓤 H A fn.ended stayed (WpFn 𝓤 H C Λ code.function) (fn.clauses 𝓤 H A mem run)
-  fn-walks C Λ fm known = walked 𝓤 H A fn.ended stayed (fn.clauses 𝓤 H A mem run) (WpFn 𝓤 H C Λ code.function) (λ κs. (uint-vals w32, (array-vals vals, (uint-vals w64, (slice-vals, (slice-vals, tt)))))) (λ κs. (uint-tells w32, (array-tells T.the-row vals (LL.tells T.the-type T′.the-laws) 257, (uint-tells w64, (shr-slice-tells (named 0) (κs .0) u8, (mut-slice-tells (named 1) (κs .1 .0) u64, tt))))))
-      (λ κs qs bounds a g are. needs 𝓤 (a .1 .1 .0 ≤ 257) _ (λ within. walk 𝓤 H A W mem run (κs .0) (κs .1 .0) (qs .0) (qs .1 .0) (a .0) (are .0 .1) (a .1 .0) (are .1 .0) (a .1 .1 .0) (are .1 .1 .0 .1) (a .1 .1 .1 .0) (are .1 .1 .1 .0 .0 .1) (a .1 .1 .1 .1 .0) (are .1 .1 .1 .1 .0 .0 .1) within C Λ fm known))
+  fn-walks C Λ fm known = walked 𝓤 H A fn.ended stayed (fn.clauses 𝓤 H A mem run) (WpFn 𝓤 H C Λ code.function) (λ κs. (uint-vals w32, (array-vals vals, (uint-vals w64, (slice-vals, (slice-vals, tt)))))) (λ κs. (uint-tells w32, (array-tells T.the-row vals (LL.tells T.the-type T′.the-laws) oneMore, (uint-tells w64, (shr-slice-tells (named 0) (κs .0) u8, (mut-slice-tells (named 1) (κs .1 .0) u64, tt))))))
+      (λ κs qs bounds a g are. needs 𝓤 (a .1 .1 .0 ≤ oneMore) _ (λ within. walk 𝓤 H A W mem run (κs .0) (κs .1 .0) (qs .0) (qs .1 .0) (a .0) (are .0 .1) (a .1 .0) (are .1 .0) (a .1 .1 .0) (are .1 .1 .0 .1) (a .1 .1 .1 .0) (are .1 .1 .1 .0 .0 .1) (a .1 .1 .1 .1 .0) (are .1 .1 .1 .1 .0 .0 .1) within C Λ fm known))
 
 fn-meets : {M : Type 1} (𝓤 : URA M) (H : Heap 𝓤) (A : Atoms 𝓤) (W : Given 𝓤 H A) (mem : Memory → SProp 𝓤) (run : Routine → Fun 𝓤) (𝓣 : Tables 𝓤 H)
     → Triple 𝓤 (𝓣 .C #entries·read) (Call 𝓤 H A mem run)

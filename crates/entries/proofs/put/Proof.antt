@@ -4,7 +4,7 @@ use mathlib.Core.Bool.{Bool, true, false}
 use mir.Val.{boolByte}
 use borrow.Author.Needs.{needs}
 use Rattle.spec.specs.Schema.{bit}
-use Rattle.entries.specs.Copied.{fiveAt}
+use Rattle.entries.specs.Copied.{storedAt}
 use Rattle.entries.proofs.put.Statement.{statement}
 use Rattle.entries.proofs.put.Tie as tie
 
@@ -14,7 +14,7 @@ byte-bit true = refl
 byte-bit false = refl
 
 returns : tie.Need-returns
-unfolding fiveAt
+unfolding storedAt
 returns c = (refl, simp byte-bit)
 
 pub put-spec : {M : Type 1} → statement M

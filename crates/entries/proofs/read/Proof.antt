@@ -56,6 +56,7 @@ use Rattle.spec.proofs.Entry as T
 use Rattle.read.specs.declared.Answer.{Answer}
 use Rattle.read.proofs.Answer as R
 use Rattle.read.proofs.Answer.Laws as R′
+use Rattle.entries.specs.Copied.{mostNumbers}
 use Rattle.entries.proofs.Locals.{part-in, part-out, big}
 use Rattle.entries.proofs.copy as copy′
 use Rattle.entries.proofs.copy.Symbol as copy′-def
@@ -74,12 +75,12 @@ use Rattle.entries.proofs.read.Proof.Facts.{Copied, Told, Ends, ends}
 
 -- the local array
 abbrev Arr : RattleType
-Arr = Array u32 1280
+Arr = Array u32 mostNumbers
 
-array-room : (a : List ℕ) → length a ≡ 1280 → Room u32 (length a)
+array-room : (a : List ℕ) → length a ≡ mostNumbers → Room u32 (length a)
 array-room a wide = subst (Room u32) (sym wide) (lit< tt, lit< tt)
 
-array-wide : (a : List ℕ) → length a ≡ 1280 → 1280 ≤ length a
+array-wide : (a : List ℕ) → length a ≡ mostNumbers → mostNumbers ≤ length a
 array-wide a wide = omega arith
 
 abbrev stayed : Stays (fn.ended .signature .params) (fn.ended .kept)
@@ -157,7 +158,7 @@ module _ {M : Type 1} (𝓤 : URA M) (H : Heap 𝓤) (A : Atoms 𝓤) (W : Given
   abbrev to-core : ℕ → ℕ → GName → List ℕ → ℕ → Core 𝓤 H A mem run .Ghost
   to-core b ν δ a n = (((ν ∷ [], (κ₁, (κ₂, tt))), (fullShare, (q₁, (q₂, tt))), tt, (types, (n, (part-of b δ a, (s, (room, tt))))), (vint w32 types ∷ [], (vint w64 n ∷ [], (sliceVal (b, 0) (length a) ∷ [], (v-s ∷ [], (v-room ∷ [], tt)))))), tt)
 
-  goes-core : (b ν : ℕ) (δ : GName) (a : List ℕ) (n : ℕ) → 1280 ≤ length a → n < 2 ^ 64
+  goes-core : (b ν : ℕ) (δ : GName) (a : List ℕ) (n : ℕ) → mostNumbers ≤ length a → n < 2 ^ 64
       → ent 𝓤 (⋆ 𝓤 H A (‵ (flft (ν ∷ []) fullShare) ∷ toks ∷ ‵ (ShrSlice (named 0) (ν ∷ []) u32 .own (part-of b δ a) (sliceVal (b, 0) (length a) ∷ [])) ∷ ‵ Own-s ∷ ‵ Own-room ∷ [])) (⋆ 𝓤 H A (raw (Core 𝓤 H A mem run .pre (to-core b ν δ a n)) ∷ ‵ Own-s ∷ []))
   goes-core b ν δ a n roomy fits =
       qed W (‵ (flft (ν ∷ []) fullShare) ∷ toks ∷ ‵ (ShrSlice (named 0) (ν ∷ []) u32 .own (part-of b δ a) (sliceVal (b, 0) (length a) ∷ [])) ∷ ‵ Own-s ∷ ‵ Own-room ∷ []) ∵
@@ -165,15 +166,15 @@ module _ {M : Type 1} (𝓤 : URA M) (H : Heap 𝓤) (A : Atoms 𝓤) (W : Given
 
   module _ (C : Calls 𝓤 H) (Λ : Loops 𝓤 H) (fm : FmC 𝓤 H (W .laws) C) (known-copy : Triple 𝓤 (C #entries·copy) (Copy 𝓤 H A mem run)) (known-core : Triple 𝓤 (C #entries·read-copied) (Core 𝓤 H A mem run)) (l₀ l₁ l₂ l₃ l₄ l₅ l₆ l₇ l₈ l₉ l₁₀ l₁₁ : ℕ) where
     abbrev En : Env 𝓤 H
-    En = (R′.mir, l₀) ∷ ((tyInt w32), l₁) ∷ ((sliceTy (tyRef (named 0) imm (pointee (T.the-row .written)))), l₂) ∷ ((sliceTy (tyRef (named 1) imm (tyInt w8))), l₃) ∷ ((sliceTy (tyRef (named 2) mut (tyInt w64))), l₄) ∷ ((tyArray (tyInt w32) 1280), l₅) ∷ ((tyInt w64), l₆) ∷ ((tyRef erased mut (tyArray (tyInt w32) 1280)), l₇) ∷ ((tyRef erased imm (tyArray (tyInt w32) 1280)), l₈) ∷ ((sliceTy (tyRef erased imm (tyInt w32))), l₉) ∷ ((tyRef erased mut (tyInt w64)), l₁₀) ∷ ((sliceTy (tyRef erased mut (tyInt w64))), l₁₁) ∷ []
+    En = (R′.mir, l₀) ∷ ((tyInt w32), l₁) ∷ ((sliceTy (tyRef (named 0) imm (pointee (T.the-row .written)))), l₂) ∷ ((sliceTy (tyRef (named 1) imm (tyInt w8))), l₃) ∷ ((sliceTy (tyRef (named 2) mut (tyInt w64))), l₄) ∷ ((tyArray (tyInt w32) mostNumbers), l₅) ∷ ((tyInt w64), l₆) ∷ ((tyRef erased mut (tyArray (tyInt w32) mostNumbers)), l₇) ∷ ((tyRef erased imm (tyArray (tyInt w32) mostNumbers)), l₈) ∷ ((sliceTy (tyRef erased imm (tyInt w32))), l₉) ∷ ((tyRef erased mut (tyInt w64)), l₁₀) ∷ ((sliceTy (tyRef erased mut (tyInt w64))), l₁₁) ∷ []
 
-    goes-on : (a₀ a : List ℕ) (n : ℕ) → length a₀ ≡ 1280 → Copied (es .now) a₀ n a → n < 2 ^ 64
-        → Sq W (‵ (partAt Arr fullShare a l₅ 0) ∷ ‵ (froom (sliceTy (tyRef erased mut (tyInt w64))) l₁₁ 0) ∷ ‵ (fdies (sliceTy (tyRef erased mut (tyInt w64))) l₁₁) ∷ ‵ (froom (tyRef erased mut (tyInt w64)) l₁₀ 0) ∷ ‵ (fdies (tyRef erased mut (tyInt w64)) l₁₀) ∷ ‵ (froom (sliceTy (tyRef erased imm (tyInt w32))) l₉ 0) ∷ ‵ (fdies (sliceTy (tyRef erased imm (tyInt w32))) l₉) ∷ ‵ (froom (tyRef erased imm (tyArray (tyInt w32) 1280)) l₈ 0) ∷ ‵ (fdies (tyRef erased imm (tyArray (tyInt w32) 1280)) l₈) ∷ ‵ (fat fullShare (tyRef erased mut (tyArray (tyInt w32) 1280)) l₇ 0 (vptr l₅ 0)) ∷ ‵ (fdies (tyRef erased mut (tyArray (tyInt w32) 1280)) l₇) ∷ ‵ (fat fullShare (tyInt w64) l₆ 0 (vint w64 n)) ∷ ‵ (fdies (tyInt w64) l₆) ∷ ‵ (fdies (tyArray (tyInt w32) 1280) l₅) ∷ ‵ (fat fullShare (sliceTy (tyRef (named 2) mut (tyInt w64))) l₄ 0 v-room) ∷ ‵ (fdies (sliceTy (tyRef (named 2) mut (tyInt w64))) l₄) ∷ ‵ (fat fullShare (sliceTy (tyRef (named 1) imm (tyInt w8))) l₃ 0 v-s) ∷ ‵ (fdies (sliceTy (tyRef (named 1) imm (tyInt w8))) l₃) ∷ ‵ (fat fullShare (sliceTy (tyRef (named 0) imm (pointee (T.the-row .written)))) l₂ 0 v-es) ∷ ‵ (fdies (sliceTy (tyRef (named 0) imm (pointee (T.the-row .written)))) l₂) ∷ ‵ (fat fullShare (tyInt w32) l₁ 0 (vint w32 types)) ∷ ‵ (fdies (tyInt w32) l₁) ∷ ‵ (froom R′.mir l₀ 0) ∷ ‵ (fdies R′.mir l₀) ∷ ‵ (flft κ₀ q₀) ∷ toks ∷ ‵ Es ∷ ‵ Own-s ∷ ‵ Own-room ∷ []) (runs C Λ En body.t-4 (atRet En Post))
+    goes-on : (a₀ a : List ℕ) (n : ℕ) → length a₀ ≡ mostNumbers → Copied (es .now) a₀ n a → n < 2 ^ 64
+        → Sq W (‵ (partAt Arr fullShare a l₅ 0) ∷ ‵ (froom (sliceTy (tyRef erased mut (tyInt w64))) l₁₁ 0) ∷ ‵ (fdies (sliceTy (tyRef erased mut (tyInt w64))) l₁₁) ∷ ‵ (froom (tyRef erased mut (tyInt w64)) l₁₀ 0) ∷ ‵ (fdies (tyRef erased mut (tyInt w64)) l₁₀) ∷ ‵ (froom (sliceTy (tyRef erased imm (tyInt w32))) l₉ 0) ∷ ‵ (fdies (sliceTy (tyRef erased imm (tyInt w32))) l₉) ∷ ‵ (froom (tyRef erased imm (tyArray (tyInt w32) mostNumbers)) l₈ 0) ∷ ‵ (fdies (tyRef erased imm (tyArray (tyInt w32) mostNumbers)) l₈) ∷ ‵ (fat fullShare (tyRef erased mut (tyArray (tyInt w32) mostNumbers)) l₇ 0 (vptr l₅ 0)) ∷ ‵ (fdies (tyRef erased mut (tyArray (tyInt w32) mostNumbers)) l₇) ∷ ‵ (fat fullShare (tyInt w64) l₆ 0 (vint w64 n)) ∷ ‵ (fdies (tyInt w64) l₆) ∷ ‵ (fdies (tyArray (tyInt w32) mostNumbers) l₅) ∷ ‵ (fat fullShare (sliceTy (tyRef (named 2) mut (tyInt w64))) l₄ 0 v-room) ∷ ‵ (fdies (sliceTy (tyRef (named 2) mut (tyInt w64))) l₄) ∷ ‵ (fat fullShare (sliceTy (tyRef (named 1) imm (tyInt w8))) l₃ 0 v-s) ∷ ‵ (fdies (sliceTy (tyRef (named 1) imm (tyInt w8))) l₃) ∷ ‵ (fat fullShare (sliceTy (tyRef (named 0) imm (pointee (T.the-row .written)))) l₂ 0 v-es) ∷ ‵ (fdies (sliceTy (tyRef (named 0) imm (pointee (T.the-row .written)))) l₂) ∷ ‵ (fat fullShare (tyInt w32) l₁ 0 (vint w32 types)) ∷ ‵ (fdies (tyInt w32) l₁) ∷ ‵ (froom R′.mir l₀ 0) ∷ ‵ (fdies R′.mir l₀) ∷ ‵ (flft κ₀ q₀) ∷ toks ∷ ‵ Es ∷ ‵ Own-s ∷ ‵ Own-room ∷ []) (runs C Λ En body.t-4 (atRet En Post))
     goes-on a₀ a n len e fits =
         -- it is lent again, as a slice
         assigns ! (addr ! (from ! (stop !))) (from ! (stop !)) (init ! 7 refl (tt, tt)) $
         assigns ! (agg ! (and-then ! (load ! (from ! (stop !)) (look ! 7 refl)) (and-then ! (big ! (record { fits = lit< tt })) (no-more !)))) (from ! (stop !)) (init ! 5 refl (tt, (tt, (record { fits = lit< tt }, tt)))) $
-        use1 W (‵ (arr-parts (shares u32) 1280 .part fullShare a l₅ 0)) (array-apart 𝓤 H A W u32 fullShare tt 1280 a l₅ 0) $ fsplit ! $ feqL ! (λ wide.
+        use1 W (‵ (arr-parts (shares u32) mostNumbers .part fullShare a l₅ 0)) (array-apart 𝓤 H A W u32 fullShare tt mostNumbers a l₅ 0) $ fsplit ! $ feqL ! (λ wide.
         rewrite ! 5 (λ (m : ℕ). ‵ (fat fullShare (sliceTy (tyRef erased imm (tyInt w32))) l₉ 0 (sliceVal (l₅, 0) m))) (sym wide) refl $
         feqI ! ℕ (length a) (length a) refl $ fjoin ! $ lft-new ! tt (λ ν.
         move ! (1 ∷ []) $ use1 W (later (some (λ (δ : GName). ‵ (ShrSlice (named 0) (ν ∷ []) u32 .own (part-of l₅ δ a) (sliceVal (l₅, 0) (length a) ∷ [])) ⊛ ‵ (flent (ν ∷ []) (arr-parts (shares u32) (length a) .part fullShare a l₅ 0))))) (lends-shr-slice 𝓤 H A W u32 (named 0) (ν ∷ []) fullShare a l₅ 0 (array-room a wide)) $ await ! tt $ pick ! (λ δ. split ! $
@@ -191,13 +192,13 @@ module _ {M : Type 1} (𝓤 : URA M) (H : Heap 𝓤) (A : Atoms 𝓤) (W : Given
         land ! (from ! (stop !)) (init ! 31 refl (LL.lawful R.the-type R′.the-laws 𝓤 H A W .typed r _ is′ .0)) $
         -- the second lifetime is ended, and the array's memory is had again
         move ! (1 ∷ []) $ split ! $ lft-end ! tt $ move ! (0 ∷ 10 ∷ []) $ lent-back ! tt $ fsplit ! $ feqL ! (λ same.
-        feqI ! ℕ (length a) 1280 wide $ fjoin ! $ use1 W (‵ (partAt Arr fullShare a l₅ 0)) (array-whole 𝓤 H A W u32 fullShare 1280 a l₅ 0) $ use1 W (some (λ (x : Val). ‵ (fat fullShare (tyArray (tyInt w32) 1280) l₅ 0 x) ⊛ ‵ (Arr .own a (x ∷ [])))) (part-out 𝓤 H A W u32 1280 a l₅ 0) $ pick ! (λ x. split ! $
+        feqI ! ℕ (length a) mostNumbers wide $ fjoin ! $ use1 W (‵ (partAt Arr fullShare a l₅ 0)) (array-whole 𝓤 H A W u32 fullShare mostNumbers a l₅ 0) $ use1 W (some (λ (x : Val). ‵ (fat fullShare (tyArray (tyInt w32) mostNumbers) l₅ 0 x) ⊛ ‵ (Arr .own a (x ∷ [])))) (part-out 𝓤 H A W u32 mostNumbers a l₅ 0) $ pick ! (λ x. split ! $
         returns ! (look ! 32 refl) $ forget ! 11 refl $ forget ! 13 refl $ forget ! 15 refl $ forget ! 17 refl $ forget ! 19 refl $ forget ! 21 refl $ forget ! 0 refl $ forget ! 24 refl $ forget ! 26 refl $ forget ! 28 refl $ forget ! 30 refl $ forget ! 32 refl $
         move ! (32 ∷ 33 ∷ []) $ free1 ! $ move ! (30 ∷ 31 ∷ []) $ free1 ! $ move ! (28 ∷ 29 ∷ []) $ free1 ! $ move ! (26 ∷ 27 ∷ []) $ free1 ! $ move ! (24 ∷ 25 ∷ []) $ free1 ! $ move ! (0 ∷ 23 ∷ []) $ free1 ! $ move ! (20 ∷ 21 ∷ []) $ free1 ! $ move ! (18 ∷ 19 ∷ []) $ free1 ! $ move ! (16 ∷ 17 ∷ []) $ free1 ! $ move ! (14 ∷ 15 ∷ []) $ free1 ! $ move ! (12 ∷ 13 ∷ []) $ free1 ! $ move ! (10 ∷ 11 ∷ []) $ free1 ! $ free0 ! $
         keep ! (2 ∷ 10 ∷ 1 ∷ 11 ∷ 9 ∷ 3 ∷ []) $ by ! (exits r w (zs .1 .1 .1 .1 .0) (ends types (es .now) (s .now) (room .now) a₀ a n r (zs .1 .1 .1 .1 .0) len wide e e′) l-room))))))))))))
 
-    copies : (a₀ : List ℕ) → length a₀ ≡ 1280
-        → Sq W (‵ (partAt Arr fullShare a₀ l₅ 0) ∷ ‵ (froom (sliceTy (tyRef erased mut (tyInt w64))) l₁₁ 0) ∷ ‵ (fdies (sliceTy (tyRef erased mut (tyInt w64))) l₁₁) ∷ ‵ (froom (tyRef erased mut (tyInt w64)) l₁₀ 0) ∷ ‵ (fdies (tyRef erased mut (tyInt w64)) l₁₀) ∷ ‵ (froom (sliceTy (tyRef erased imm (tyInt w32))) l₉ 0) ∷ ‵ (fdies (sliceTy (tyRef erased imm (tyInt w32))) l₉) ∷ ‵ (froom (tyRef erased imm (tyArray (tyInt w32) 1280)) l₈ 0) ∷ ‵ (fdies (tyRef erased imm (tyArray (tyInt w32) 1280)) l₈) ∷ ‵ (fat fullShare (tyRef erased mut (tyArray (tyInt w32) 1280)) l₇ 0 (vptr l₅ 0)) ∷ ‵ (fdies (tyRef erased mut (tyArray (tyInt w32) 1280)) l₇) ∷ ‵ (froom (tyInt w64) l₆ 0) ∷ ‵ (fdies (tyInt w64) l₆) ∷ ‵ (fdies (tyArray (tyInt w32) 1280) l₅) ∷ ‵ (fat fullShare (sliceTy (tyRef (named 2) mut (tyInt w64))) l₄ 0 v-room) ∷ ‵ (fdies (sliceTy (tyRef (named 2) mut (tyInt w64))) l₄) ∷ ‵ (fat fullShare (sliceTy (tyRef (named 1) imm (tyInt w8))) l₃ 0 v-s) ∷ ‵ (fdies (sliceTy (tyRef (named 1) imm (tyInt w8))) l₃) ∷ ‵ (fat fullShare (sliceTy (tyRef (named 0) imm (pointee (T.the-row .written)))) l₂ 0 v-es) ∷ ‵ (fdies (sliceTy (tyRef (named 0) imm (pointee (T.the-row .written)))) l₂) ∷ ‵ (fat fullShare (tyInt w32) l₁ 0 (vint w32 types)) ∷ ‵ (fdies (tyInt w32) l₁) ∷ ‵ (froom R′.mir l₀ 0) ∷ ‵ (fdies R′.mir l₀) ∷ ‵ (flft κ₀ q₀) ∷ toks ∷ ‵ Es ∷ ‵ Own-s ∷ ‵ Own-room ∷ []) (runs C Λ En body.t-3 (atRet En Post))
+    copies : (a₀ : List ℕ) → length a₀ ≡ mostNumbers
+        → Sq W (‵ (partAt Arr fullShare a₀ l₅ 0) ∷ ‵ (froom (sliceTy (tyRef erased mut (tyInt w64))) l₁₁ 0) ∷ ‵ (fdies (sliceTy (tyRef erased mut (tyInt w64))) l₁₁) ∷ ‵ (froom (tyRef erased mut (tyInt w64)) l₁₀ 0) ∷ ‵ (fdies (tyRef erased mut (tyInt w64)) l₁₀) ∷ ‵ (froom (sliceTy (tyRef erased imm (tyInt w32))) l₉ 0) ∷ ‵ (fdies (sliceTy (tyRef erased imm (tyInt w32))) l₉) ∷ ‵ (froom (tyRef erased imm (tyArray (tyInt w32) mostNumbers)) l₈ 0) ∷ ‵ (fdies (tyRef erased imm (tyArray (tyInt w32) mostNumbers)) l₈) ∷ ‵ (fat fullShare (tyRef erased mut (tyArray (tyInt w32) mostNumbers)) l₇ 0 (vptr l₅ 0)) ∷ ‵ (fdies (tyRef erased mut (tyArray (tyInt w32) mostNumbers)) l₇) ∷ ‵ (froom (tyInt w64) l₆ 0) ∷ ‵ (fdies (tyInt w64) l₆) ∷ ‵ (fdies (tyArray (tyInt w32) mostNumbers) l₅) ∷ ‵ (fat fullShare (sliceTy (tyRef (named 2) mut (tyInt w64))) l₄ 0 v-room) ∷ ‵ (fdies (sliceTy (tyRef (named 2) mut (tyInt w64))) l₄) ∷ ‵ (fat fullShare (sliceTy (tyRef (named 1) imm (tyInt w8))) l₃ 0 v-s) ∷ ‵ (fdies (sliceTy (tyRef (named 1) imm (tyInt w8))) l₃) ∷ ‵ (fat fullShare (sliceTy (tyRef (named 0) imm (pointee (T.the-row .written)))) l₂ 0 v-es) ∷ ‵ (fdies (sliceTy (tyRef (named 0) imm (pointee (T.the-row .written)))) l₂) ∷ ‵ (fat fullShare (tyInt w32) l₁ 0 (vint w32 types)) ∷ ‵ (fdies (tyInt w32) l₁) ∷ ‵ (froom R′.mir l₀ 0) ∷ ‵ (fdies R′.mir l₀) ∷ ‵ (flft κ₀ q₀) ∷ toks ∷ ‵ Es ∷ ‵ Own-s ∷ ‵ Own-room ∷ []) (runs C Λ En body.t-3 (atRet En Post))
     copies a₀ len =
         -- it is lent to `copy`, for a lifetime ν of the call
         lft-new ! tt (λ ν. move ! (1 ∷ []) $
@@ -212,13 +213,13 @@ module _ {M : Type 1} (𝓤 : URA M) (H : Heap 𝓤) (A : Atoms 𝓤) (W : Given
         -- the lifetime is ended, and the array is the function's again
         move ! (1 ∷ []) $ split ! $ move ! (1 ∷ []) $ split ! $ lft-end ! tt $ move ! (0 ∷ 8 ∷ 4 ∷ []) $ use3 W (later (‵ (partAt Arr fullShare (zs .1 .0) l₅ 0))) (ref-back 𝓤 H A W Arr (ν ∷ []) δ (zs .1 .0) l₅ 0) $ await ! tt $ keep ! (0 ∷ 7 ∷ 8 ∷ 9 ∷ 10 ∷ 11 ∷ 12 ∷ 13 ∷ 14 ∷ 15 ∷ 16 ∷ 17 ∷ 18 ∷ 19 ∷ 20 ∷ 21 ∷ 22 ∷ 23 ∷ 24 ∷ 25 ∷ 26 ∷ 27 ∷ 28 ∷ 29 ∷ 2 ∷ 30 ∷ 6 ∷ 31 ∷ 32 ∷ []) $ goes-on a₀ (zs .1 .0) n len e (is .1))))))))
 
-    begins : Sq W (‵ (froom (sliceTy (tyRef erased mut (tyInt w64))) l₁₁ 0) ∷ ‵ (fdies (sliceTy (tyRef erased mut (tyInt w64))) l₁₁) ∷ ‵ (froom (tyRef erased mut (tyInt w64)) l₁₀ 0) ∷ ‵ (fdies (tyRef erased mut (tyInt w64)) l₁₀) ∷ ‵ (froom (sliceTy (tyRef erased imm (tyInt w32))) l₉ 0) ∷ ‵ (fdies (sliceTy (tyRef erased imm (tyInt w32))) l₉) ∷ ‵ (froom (tyRef erased imm (tyArray (tyInt w32) 1280)) l₈ 0) ∷ ‵ (fdies (tyRef erased imm (tyArray (tyInt w32) 1280)) l₈) ∷ ‵ (froom (tyRef erased mut (tyArray (tyInt w32) 1280)) l₇ 0) ∷ ‵ (fdies (tyRef erased mut (tyArray (tyInt w32) 1280)) l₇) ∷ ‵ (froom (tyInt w64) l₆ 0) ∷ ‵ (fdies (tyInt w64) l₆) ∷ ‵ (froom (tyArray (tyInt w32) 1280) l₅ 0) ∷ ‵ (fdies (tyArray (tyInt w32) 1280) l₅) ∷ ‵ (fat fullShare (sliceTy (tyRef (named 2) mut (tyInt w64))) l₄ 0 v-room) ∷ ‵ (fdies (sliceTy (tyRef (named 2) mut (tyInt w64))) l₄) ∷ ‵ (fat fullShare (sliceTy (tyRef (named 1) imm (tyInt w8))) l₃ 0 v-s) ∷ ‵ (fdies (sliceTy (tyRef (named 1) imm (tyInt w8))) l₃) ∷ ‵ (fat fullShare (sliceTy (tyRef (named 0) imm (pointee (T.the-row .written)))) l₂ 0 v-es) ∷ ‵ (fdies (sliceTy (tyRef (named 0) imm (pointee (T.the-row .written)))) l₂) ∷ ‵ (fat fullShare (tyInt w32) l₁ 0 (vint w32 types)) ∷ ‵ (fdies (tyInt w32) l₁) ∷ ‵ (froom R′.mir l₀ 0) ∷ ‵ (fdies R′.mir l₀) ∷ ‵ (flft κ₀ q₀) ∷ toks ∷ ‵ Es ∷ ‵ Own-s ∷ ‵ Own-room ∷ []) (runs C Λ En body.t-1 (atRet En Post))
+    begins : Sq W (‵ (froom (sliceTy (tyRef erased mut (tyInt w64))) l₁₁ 0) ∷ ‵ (fdies (sliceTy (tyRef erased mut (tyInt w64))) l₁₁) ∷ ‵ (froom (tyRef erased mut (tyInt w64)) l₁₀ 0) ∷ ‵ (fdies (tyRef erased mut (tyInt w64)) l₁₀) ∷ ‵ (froom (sliceTy (tyRef erased imm (tyInt w32))) l₉ 0) ∷ ‵ (fdies (sliceTy (tyRef erased imm (tyInt w32))) l₉) ∷ ‵ (froom (tyRef erased imm (tyArray (tyInt w32) mostNumbers)) l₈ 0) ∷ ‵ (fdies (tyRef erased imm (tyArray (tyInt w32) mostNumbers)) l₈) ∷ ‵ (froom (tyRef erased mut (tyArray (tyInt w32) mostNumbers)) l₇ 0) ∷ ‵ (fdies (tyRef erased mut (tyArray (tyInt w32) mostNumbers)) l₇) ∷ ‵ (froom (tyInt w64) l₆ 0) ∷ ‵ (fdies (tyInt w64) l₆) ∷ ‵ (froom (tyArray (tyInt w32) mostNumbers) l₅ 0) ∷ ‵ (fdies (tyArray (tyInt w32) mostNumbers) l₅) ∷ ‵ (fat fullShare (sliceTy (tyRef (named 2) mut (tyInt w64))) l₄ 0 v-room) ∷ ‵ (fdies (sliceTy (tyRef (named 2) mut (tyInt w64))) l₄) ∷ ‵ (fat fullShare (sliceTy (tyRef (named 1) imm (tyInt w8))) l₃ 0 v-s) ∷ ‵ (fdies (sliceTy (tyRef (named 1) imm (tyInt w8))) l₃) ∷ ‵ (fat fullShare (sliceTy (tyRef (named 0) imm (pointee (T.the-row .written)))) l₂ 0 v-es) ∷ ‵ (fdies (sliceTy (tyRef (named 0) imm (pointee (T.the-row .written)))) l₂) ∷ ‵ (fat fullShare (tyInt w32) l₁ 0 (vint w32 types)) ∷ ‵ (fdies (tyInt w32) l₁) ∷ ‵ (froom R′.mir l₀ 0) ∷ ‵ (fdies R′.mir l₀) ∷ ‵ (flft κ₀ q₀) ∷ toks ∷ ‵ Es ∷ ‵ Own-s ∷ ‵ Own-room ∷ []) (runs C Λ En body.t-1 (atRet En Post))
     begins =
         -- the array is filled
-        owned ! u32 (Is u32) (uint-makes 𝓤 H A W w32) 1 (vint w32 1 ∷ []) (refl, lit< tt) $ use1 W (‵ (Arr .own (replicate 1280 1) ((arrayVal (replicate 1280 (vint w32 1))) ∷ []))) (array-repeat 𝓤 H A W u32 (uint-copy 𝓤 H A W w32) 1280 1 (vint w32 1)) $ peeks ! Arr (Is Arr) (shows 𝓤 H A Arr) (replicate 1280 1) ((arrayVal (replicate 1280 (vint w32 1))) ∷ []) (λ is.
-        assigns ! (rep ! 1280 (lit ! tt)) (from ! (stop !)) (init ! 13 refl (array-lawful 𝓤 H A W u32 (uint-lawful 𝓤 H A W w32) 1280 .typed (replicate 1280 1) _ is .0)) $
+        owned ! u32 (Is u32) (uint-makes 𝓤 H A W w32) 1 (vint w32 1 ∷ []) (refl, lit< tt) $ use1 W (‵ (Arr .own (replicate mostNumbers 1) ((arrayVal (replicate mostNumbers (vint w32 1))) ∷ []))) (array-repeat 𝓤 H A W u32 (uint-copy 𝓤 H A W w32) mostNumbers 1 (vint w32 1)) $ peeks ! Arr (Is Arr) (shows 𝓤 H A Arr) (replicate mostNumbers 1) ((arrayVal (replicate mostNumbers (vint w32 1))) ∷ []) (λ is.
+        assigns ! (rep ! mostNumbers (lit ! tt)) (from ! (stop !)) (init ! 13 refl (array-lawful 𝓤 H A W u32 (uint-lawful 𝓤 H A W w32) mostNumbers .typed (replicate mostNumbers 1) _ is .0)) $
         assigns ! (addr ! (from ! (stop !))) (from ! (stop !)) (init ! 9 refl (tt, tt)) $
-        move ! (13 ∷ 0 ∷ []) $ use2 W (‵ (partAt Arr fullShare (replicate 1280 1) l₅ 0)) (part-in 𝓤 H A W u32 1280 (replicate 1280 1) l₅ 0 (arrayVal (replicate 1280 (vint w32 1)))) $ copies (replicate 1280 1) (is .1 .0 .1))
+        move ! (13 ∷ 0 ∷ []) $ use2 W (‵ (partAt Arr fullShare (replicate mostNumbers 1) l₅ 0)) (part-in 𝓤 H A W u32 mostNumbers (replicate mostNumbers 1) l₅ 0 (arrayVal (replicate mostNumbers (vint w32 1)))) $ copies (replicate mostNumbers 1) (is .1 .0 .1))
 
   walk : (C : Calls 𝓤 H) (Λ : Loops 𝓤 H) → FmC 𝓤 H (W .laws) C → Triple 𝓤 (C #entries·copy) (Copy 𝓤 H A mem run) → Triple 𝓤 (C #entries·read-copied) (Core 𝓤 H A mem run)
       → ent 𝓤 (onEntry 𝓤 H A fn.signature κs (q₀, (q₁, (q₂, tt))) (types, (es, (s, (room, tt)))) vals) (WpFn 𝓤 H C Λ code.function (vint w32 types ∷ v-es ∷ v-s ∷ v-room ∷ []) Post)

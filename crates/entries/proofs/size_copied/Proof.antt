@@ -7,7 +7,7 @@ use lib.ListN.{take, length-take}
 use Rattle.spec.specs.Record.{recordsOf}
 use Rattle.spec.specs.Schema.{schemaOf}
 use Rattle.spec.specs.Writing.{sizing}
-use Rattle.write.specs.Answers.{told}
+use Rattle.write.specs.Answers.{answerOfWriting}
 use Rattle.entries.proofs.LentLaws.{lent-fits}
 use Rattle.entries.proofs.size_copied.Statement.{statement}
 use Rattle.entries.proofs.size_copied.Tie as tie
@@ -23,7 +23,7 @@ returns c =
     let a = p .before .before .before .before .args in
     let h = c .size .ensures in
     let same = ap (λ (k : ℕ). sizing (schemaOf (a .types) (take k (a .numbers .now))) (a .payload .now) (recordsOf (a .list .now))) (p .prefix .ensures) in
-    h ∙ ap told same
+    h ∙ ap answerOfWriting same
 
 pub size-copied-spec : {M : Type 1} → statement M
 size-copied-spec = tie.close (tie.spec (λ c κs. search needs) slice-aggregate-size (λ c κs. search needs) returns)

@@ -7,7 +7,7 @@ use Rattle.spec.specs.Record.{recordsOf}
 use Rattle.spec.specs.Schema.{entriesOf}
 use Rattle.spec.specs.Writing.{Writing, sizing}
 use Rattle.spec.specs.declared.Entry.{Entry}
-use Rattle.write.specs.Answers.{told}
+use Rattle.write.specs.Answers.{answerOfWriting}
 use Rattle.entries.proofs.LentLaws.{alike-sizing}
 use Rattle.entries.proofs.NumbersLaws.{count-fits, made-alike}
 use Rattle.entries.proofs.size_numbers.Statement.{statement}
@@ -29,7 +29,7 @@ returns c =
     let under : ℕ → List Entry → Writing = λ types es. sizing (record { types = types; entries = es }) (a .payload .now) (recordsOf (a .list .now)) in
     let same = ap₂ under (t .type-count .ensures) (f .entries-from .ensures ∙ ap (λ (k : ℕ). entriesOf k (a .numbers .now)) (n .entry-count .ensures))
     ∙ alike-sizing (made-alike (a .types) (a .numbers .now)) (a .payload .now) (recordsOf (a .list .now)) in
-    h ∙ ap told same
+    h ∙ ap answerOfWriting same
 
 pub size-numbers-spec : {M : Type 1} → statement M
 size-numbers-spec = tie.close (tie.spec (λ c κs. search needs) entries-from-requires (λ c κs. search needs) lend-size-requires returns)

@@ -8,7 +8,7 @@ use Rattle.spec.specs.Record.{recordsOf}
 use Rattle.spec.specs.Schema.{entriesOf}
 use Rattle.spec.specs.Writing.{Writing, writing, output}
 use Rattle.spec.specs.declared.Entry.{Entry}
-use Rattle.write.specs.Answers.{told}
+use Rattle.write.specs.Answers.{answerOfWriting}
 use Rattle.entries.proofs.LentLaws.{alike-writing}
 use Rattle.entries.proofs.NumbersLaws.{count-fits, made-alike}
 use Rattle.entries.proofs.write_numbers.Statement.{statement}
@@ -30,7 +30,7 @@ returns c =
     let under : ℕ → List Entry → Writing = λ types es. writing (record { types = types; entries = es }) (length (a .out .now)) (a .payload .now) (recordsOf (a .list .now)) in
     let same = ap₂ under (t .type-count .ensures) (f .entries-from .ensures ∙ ap (λ (k : ℕ). entriesOf k (a .numbers .now)) (n .entry-count .ensures))
     ∙ alike-writing (made-alike (a .types) (a .numbers .now)) (length (a .out .now)) (a .payload .now) (recordsOf (a .list .now)) in
-    (h .0 ∙ ap told same, h .1 ∙ ap (λ (w : Writing). output w (a .out .now)) same)
+    (h .0 ∙ ap answerOfWriting same, h .1 ∙ ap (λ (w : Writing). output w (a .out .now)) same)
 
 pub write-numbers-spec : {M : Type 1} → statement M
 write-numbers-spec = tie.close (tie.spec (λ c κs. search needs) entries-from-requires (λ c κs. search needs) lend-write-requires (λ c. search needs) returns)

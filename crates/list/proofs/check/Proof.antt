@@ -3,14 +3,14 @@ use native.Mathlib.Omega.{arith}
 use mathlib.Core.Path.{sym, ap, _∙_}
 use borrow.Author.Needs.{needs}
 use Rattle.spec.specs.Schema.{schemaOf}
-use Rattle.schema.specs.Told.{told as place}
-use Rattle.list.specs.Told.{told}
+use Rattle.schema.specs.Told.{badPlace as place}
+use Rattle.list.specs.Told.{asVerdict}
 use Rattle.list.proofs.CallLaws.{tables-made, check-bad, check-valid}
 use Rattle.list.proofs.check.Statement.{statement}
 use Rattle.list.proofs.check.Tie as tie
 
 returns : tie.Need-returns
-unfolding told
+unfolding asVerdict
 returns c =
     let t = c .before .before .before in
     check-bad _ _ _ (sym (t .tables .ensures .0) ∙ ap place (c .before .i .given .1))

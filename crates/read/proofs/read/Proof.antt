@@ -4,22 +4,23 @@ use native.Mathlib.Omega.{arith}
 use mathlib.Core.Path.{sym, ap, _∙_}
 use borrow.Author.Needs.{needs}
 use lib.ListN.{length}
+use Rattle.spec.specs.Names.{invalidSchema, tooLarge}
 use Rattle.spec.specs.Record.{stride}
 use Rattle.spec.specs.Schema.{schemaOf}
 use Rattle.spec.specs.Reading.{Reading, number, place, listed, roomAfter}
-use Rattle.schema.specs.Told.{told}
+use Rattle.schema.specs.Told.{badPlace}
 use Rattle.read.proofs.CallLaws.{answers-refused, reading-long, reading-bad, reads-tables}
 use Rattle.read.proofs.read.Statement.{statement}
 use Rattle.read.proofs.read.Tie as tie
 
 returns : tie.Need-returns
-returns c = answers-refused _ 11 0 _ (reading-long _ _ _ (c .if1 .taken))
+returns c = answers-refused _ tooLarge 0 _ (reading-long _ _ _ (c .if1 .taken))
 
 returns-2 : tie.Need-returns-2
 returns-2 c =
     let i = c .before in
     let t = i .before .before in
-    answers-refused _ 9 _ _ (reading-bad _ _ _ (t .before .before .before .if1 .left) (sym (t .tables .ensures .0) ∙ ap told (i .i .given .1)))
+    answers-refused _ invalidSchema _ _ (reading-bad _ _ _ (t .before .before .before .if1 .left) (sym (t .tables .ensures .0) ∙ ap badPlace (i .i .given .1)))
 
 returns-3 : tie.Need-returns-3
 returns-3 c =
@@ -30,7 +31,7 @@ returns-3 c =
     let a = i .before .before .before .before .args in
     let h = r .read-prepared .ensures in
     let same =
-    reads-tables (schemaOf (a .types) (a .numbers .now)) (length (a .room .now) / stride) (a .s .now) _ _ _ (sym (t .tables .ensures .0) ∙ ap told (e .enum-told .given .1))
+    reads-tables (schemaOf (a .types) (a .numbers .now)) (length (a .room .now) / stride) (a .s .now) _ _ _ (sym (t .tables .ensures .0) ∙ ap badPlace (e .enum-told .given .1))
     (t .tables .ensures .1) (t .tables .ensures .2) (omega arith) (i .if1 .left) in
     (h .0 ∙ ap number same, h .1 ∙ ap place same, h .2 ∙ ap (λ (q : Reading). length (listed q)) same, h .3 ∙ ap (λ (q : Reading). roomAfter q (a .room .now)) same)
 

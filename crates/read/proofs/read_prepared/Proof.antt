@@ -4,9 +4,10 @@ use borrow.Author.Needs.{needs}
 use Rattle.read.proofs.CallLaws.{answers-refused, too-long, answers-prepared}
 use Rattle.read.proofs.read_prepared.Statement.{statement}
 use Rattle.read.proofs.read_prepared.Tie as tie
+use Rattle.spec.specs.Names.{tooLarge}
 
 returns : tie.Need-returns
-returns c = answers-refused _ 11 0 _ (too-long _ _ _ (c .if1 .taken))
+returns c = answers-refused _ tooLarge 0 _ (too-long _ _ _ (c .if1 .taken))
 
 message-requires : tie.Need-message-requires
 message-requires c κs = omega (arith, c .before .if1 .left)
@@ -14,7 +15,7 @@ message-requires c κs = omega (arith, c .before .if1 .left)
 returns-2 : tie.Need-returns-2
 returns-2 c =
     let m = c .before .before .before in
-    answers-prepared _ _ _ (m .before .before .if1 .left) (m .message .ensures) (c .told .ensures)
+    answers-prepared _ _ _ (m .before .before .if1 .left) (m .message .ensures) (c .answered .ensures)
 
 pub read-prepared-spec : {M : Type 1} → statement M
 read-prepared-spec =

@@ -6,10 +6,10 @@ use Rattle.replay.proofs.serve.Statement.{statement}
 use Rattle.replay.proofs.serve.Tie as tie
 
 abbrev Inv-loop : tie.InvT-loop
-Inv-loop buf₀ bytes₀ list₀ numbers₀ room₀ output₀ out₀ from₀ have₀ turns₀ buf bytes list numbers room output out from have turns = (length buf ≡ length buf₀) × (length bytes ≡ length bytes₀) × (length list ≡ length list₀) × (length numbers ≡ length numbers₀) × (length room ≡ length room₀) × (length output ≡ length output₀) × (length out ≡ length out₀)
+Inv-loop buf₀ bytes₀ list₀ numbers₀ out₀ from₀ have₀ turns₀ buf bytes list numbers out from have turns = (length buf ≡ length buf₀) × (length bytes ≡ length bytes₀) × (length list ≡ length list₀) × (length numbers ≡ length numbers₀) × (length out ≡ length out₀)
 
 abbrev μ-loop : tie.MeasureT-loop
-μ-loop buf₀ bytes₀ list₀ numbers₀ room₀ output₀ out₀ from₀ have₀ turns₀ buf bytes list numbers room output out from have turns = turns
+μ-loop buf₀ bytes₀ list₀ numbers₀ out₀ from₀ have₀ turns₀ buf bytes list numbers out from have turns = turns
 
 pub serve-spec : {M : Type 1} → statement M
 serve-spec =
@@ -25,8 +25,6 @@ serve-spec =
     (λ c. search needs)
     (λ c. search needs)
     (λ c. search needs)
-    (λ c. search needs)
-    (λ c. search needs)
     (λ c κs. search needs)
     (λ c κs. search needs)
     (λ c. search needs)
@@ -35,11 +33,7 @@ serve-spec =
     (λ c. search needs)
     (λ c. search needs)
     (λ c. search needs)
-    (λ c. search needs)
-    (λ c. search needs)
     (λ c κs. search needs)
-    (λ c. search needs)
-    (λ c. search needs)
     (λ c. search needs)
     (λ c. search needs)
     (λ c. search needs)

@@ -4,7 +4,7 @@ use borrow.Author.Tests.{not-true, not-false}
 use mathlib.Core.Path.{sym, _∙_}
 use Prim.Native.Nat.{_-_}
 use lib.ListN.{length}
-use Rattle.schema.proofs.ValidLaws.{counts-wrong, Here, here-first, here-end, here-five, here-bad, here-next}
+use Rattle.schema.proofs.ValidLaws.{counts-wrong, Here, here-first, here-end, here-whole, here-bad, here-next}
 use Rattle.schema.proofs.check.Statement.{statement}
 use Rattle.schema.proofs.check.Tie as tie
 
@@ -25,7 +25,7 @@ loop-holds c =
     here-first (a .types) (a .numbers .now) (sym (c .before .counts-ok .ensures) ∙ not-false (c .before .counts-ok .result) (c .if1 .left))
 
 five-at-requires : tie.Need-five-at-requires Inv-loop μ-loop
-five-at-requires c κs = here-five (c .before .loop .inv) (c .loop-test .taken)
+five-at-requires c κs = here-whole (c .before .loop .inv) (c .loop-test .taken)
 
 returns-2 : tie.Need-returns-2 Inv-loop μ-loop
 returns-2 c =

@@ -3,6 +3,7 @@ use Prim.Native.Nat.{ℕ}
 use mathlib.Core.Bool.{Bool, true}
 use mathlib.Core.Path.{_≡_, refl, sym, ap₂, _∙_}
 use lib.Dec.{eqb}
+use Rattle.spec.specs.Names.{messageKind}
 use Rattle.spec.specs.Base.{if_then_else_}
 use Rattle.spec.proofs.Laws.{either-way}
 use native.Mathlib.Omega.{arith}
@@ -53,15 +54,15 @@ returns-8 c =
     let f : Five = a .f in
     let types : ℕ = a .types in
     sym (child-decides types f (omega arith) (omega arith) (omega arith) (omega arith) (omega arith) (λ z. omega arith) (omega arith)
-    ∙ ap₂ (λ (a b : Bool). if eqb (f .kind) 11 then a else b) (lt-ltb (f .child) types (omega arith)) (eq-eqb (f .child) 0 (omega arith))
-    ∙ either-way (λ (b : Bool). b ≡ true) (eqb (f .kind) 11) refl refl)
+    ∙ ap₂ (λ (a b : Bool). if eqb (f .kind) messageKind then a else b) (lt-ltb (f .child) types (omega arith)) (eq-eqb (f .child) 0 (omega arith))
+    ∙ either-way (λ (b : Bool). b ≡ true) (eqb (f .kind) messageKind) refl refl)
 
 returns-9 : tie.Need-returns-9
 returns-9 c =
     let a = c .before .before .before .before .before .before .before .before .before .before .before .before .before .before .before .before .before .before .before .args in
     let f : Five = a .f in
     let types : ℕ = a .types in
-    sym (child-decides types f (omega arith) (omega arith) (omega arith) (omega arith) (omega arith) (λ z. omega arith) (omega arith) ∙ simp (eq-eqb (f .kind) 11 (omega arith)))
+    sym (child-decides types f (omega arith) (omega arith) (omega arith) (omega arith) (omega arith) (λ z. omega arith) (omega arith) ∙ simp (eq-eqb (f .kind) messageKind (omega arith)))
 
 returns-10 : tie.Need-returns-10
 returns-10 c =

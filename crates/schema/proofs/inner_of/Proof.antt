@@ -6,25 +6,27 @@ use borrow.Author.Tests.{eq-eqb, ne-eqb, eqb-true, eqb-false}
 use mathlib.Core.Bool.{Bool, true, _&&_, not, and-false}
 use mathlib.Core.Path.{_≡_, sym, ap, _∙_}
 use lib.Dec.{eqb}
+use Rattle.spec.specs.Names.{delimitedWire}
 use Rattle.spec.specs.Base.{if_then_else_}
 use Rattle.spec.proofs.Laws.{by-test}
+use Rattle.schema.specs.Layout.{mayPack}
 use Rattle.schema.specs.Tables.{innerIn}
 use Rattle.schema.proofs.inner_of.Statement.{statement}
 use Rattle.schema.proofs.inner_of.Tie as tie
 
--- of a kind that is one number: 255 where it is repeated, and else 0
-inner-many : (w repeated child : ℕ) → (w ≡ 2 → ⊥) → repeated < 2 → child ≡ 0 → innerIn w (eqb repeated 1) child ≡ repeated * 255
+-- of a kind that is one number: `mayPack` where it is repeated, and else 0
+inner-many : (w repeated child : ℕ) → (w ≡ delimitedWire → ⊥) → repeated < 2 → child ≡ 0 → innerIn w (eqb repeated 1) child ≡ repeated * mayPack
 inner-many w repeated child n l z =
-    ap (λ (b : Bool). if eqb repeated 1 && not b then 255 else child) (ne-eqb w 2 n)
+    ap (λ (b : Bool). if eqb repeated 1 && not b then mayPack else child) (ne-eqb w delimitedWire n)
     ∙ by-test (eqb repeated 1)
-    (λ p. let e = eqb-true repeated 1 p in let o : 255 ≡ repeated * 255 = omega arith in ap (λ (b : Bool). if b && true then 255 else child) p ∙ o)
-    (λ p. let e = eqb-false repeated 1 p in let o : child ≡ repeated * 255 = omega arith in ap (λ (b : Bool). if b && true then 255 else child) p ∙ o)
+    (λ p. let e = eqb-true repeated 1 p in let o : mayPack ≡ repeated * mayPack = omega arith in ap (λ (b : Bool). if b && true then mayPack else child) p ∙ o)
+    (λ p. let e = eqb-false repeated 1 p in let o : child ≡ repeated * mayPack = omega arith in ap (λ (b : Bool). if b && true then mayPack else child) p ∙ o)
 
 returns : tie.Need-returns
 returns c =
     let a = c .before .args in
-    sym (ap (λ (b : Bool). if eqb (a .repeated) 1 && not b then 255 else a .child) (eq-eqb (a .w) 2 (c .if1 .taken))
-    ∙ ap (λ (b : Bool). if b then 255 else a .child) (and-false (eqb (a .repeated) 1)))
+    sym (ap (λ (b : Bool). if eqb (a .repeated) 1 && not b then mayPack else a .child) (eq-eqb (a .w) delimitedWire (c .if1 .taken))
+    ∙ ap (λ (b : Bool). if b then mayPack else a .child) (and-false (eqb (a .repeated) 1)))
 
 returns-2 : tie.Need-returns-2
 returns-2 c =

@@ -4,9 +4,10 @@ use borrow.Author.Needs.{needs}
 use borrow.Author.Tests.{not-true, not-false, lt-ltb, le-ltb}
 use mathlib.Core.Bool.{Bool, true, false, _&&_}
 use mathlib.Core.Path.{_≡_, sym, ap, ap₂, _∙_}
-use Prim.Native.Nat.{_+_, _*_, _^_}
+use Prim.Native.Nat.{_+_, _*_}
 use lib.Dec.{ltb}
 use Rattle.spec.specs.Schema.{goodEntry}
+use Rattle.schema.specs.Layout.{ownerUnit}
 use Rattle.schema.specs.Tables.{rank}
 use Rattle.schema.specs.Told.{entry}
 use Rattle.schema.proofs.ValidLaws.{is-entry, good-five, key-passed, key-refused}
@@ -31,7 +32,7 @@ returns-2 c =
     let a = c .before .before .before .before .before .args in
     let r = c .before .before .before .before .entry-ok in
     let good : goodEntry (a .types) (entry (a .f)) ≡ true = sym (r .ensures) ∙ not-false (r .result) (c .before .before .before .if1 .left) in
-    let key : rank (entry (a .f)) ≡ a .f .owner * 2 ^ 32 + a .f .number * 8 = ap rank (is-entry (a .f) (good-five (a .types) (a .f) good .0)) in
+    let key : rank (entry (a .f)) ≡ a .f .owner * ownerUnit + a .f .number * 8 = ap rank (is-entry (a .f) (good-five (a .types) (a .f) good .0)) in
     sym (key-refused (a .types) (a .last) (entry (a .f)) (ap₂ (_&&_) good (le-ltb (a .last) (rank (entry (a .f))) (omega arith))))
 
 returns-3 : tie.Need-returns-3
@@ -39,7 +40,7 @@ returns-3 c =
     let a = c .before .before .before .before .before .args in
     let r = c .before .before .before .before .entry-ok in
     let good : goodEntry (a .types) (entry (a .f)) ≡ true = sym (r .ensures) ∙ not-false (r .result) (c .before .before .before .if1 .left) in
-    let key : rank (entry (a .f)) ≡ a .f .owner * 2 ^ 32 + a .f .number * 8 = ap rank (is-entry (a .f) (good-five (a .types) (a .f) good .0)) in
+    let key : rank (entry (a .f)) ≡ a .f .owner * ownerUnit + a .f .number * 8 = ap rank (is-entry (a .f) (good-five (a .types) (a .f) good .0)) in
     sym (key-passed (a .types) (a .last) (entry (a .f)) (ap₂ (_&&_) good (lt-ltb (a .last) (rank (entry (a .f))) (omega arith))) ∙ key)
 
 pub next-key-spec : {M : Type 1} → statement M

@@ -7,7 +7,7 @@ use mathlib.Core.Path.{sym, ap, _∙_}
 use Prim.Native.Nat.{ℕ, _-_}
 use mathlib.Core.List.{List}
 use lib.ListN.{length, getD}
-use Rattle.schema.proofs.ValidLaws.{here-five}
+use Rattle.schema.proofs.ValidLaws.{here-whole}
 use Rattle.schema.proofs.MakingLaws.{Made, made-none, made-first, made-all, made-bad, made-fits, made-childless, made-next}
 use Rattle.schema.proofs.tables.Statement.{statement}
 use Rattle.schema.proofs.tables.Tie as tie
@@ -30,7 +30,7 @@ loop-holds c =
     made-first (a .types) (a .numbers .now) (a .keys .now) (a .info .now) (sym (d .ensures) ∙ not-false (d .result) (c .before .if1 .left))
 
 five-at-requires : tie.Need-five-at-requires Inv-loop μ-loop
-five-at-requires c κs = here-five (c .before .loop .inv .here) (c .loop-test .taken)
+five-at-requires c κs = here-whole (c .before .loop .inv .here) (c .loop-test .taken)
 
 returns-2 : tie.Need-returns-2 Inv-loop μ-loop
 returns-2 c =

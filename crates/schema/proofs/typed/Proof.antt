@@ -4,10 +4,12 @@ use mathlib.Core.Path.{sym, ap, _∙_}
 use Prim.Native.Nat.{ℕ, _+_}
 use mathlib.Core.Bool.{Bool}
 use lib.ListN.{getD}
+use Rattle.spec.specs.Names.{messageKind}
 use Rattle.spec.specs.Base.{if_then_else_}
 use Rattle.spec.specs.Schema.{Says}
 use mathlib.Core.Logic.{⊎-elim}
 use borrow.Author.Tests.{eq-eqb, ne-eqb}
+use Rattle.schema.specs.Layout.{innersAt, kindsAt}
 use Rattle.schema.proofs.AskingLaws.{typed-same, typed-packed, typed-else}
 use Rattle.schema.proofs.typed.Statement.{statement}
 use Rattle.schema.proofs.typed.Tie as tie
@@ -18,16 +20,16 @@ saying k i = record { kind = k; inner = i }
 returns : tie.Need-returns
 returns c =
     let a = c .before .before .before .before .before .args in
-    let kind : ℕ = getD (a .info .now) (512 + a .i) 0 in
-    let inner : ℕ = getD (a .info .now) (768 + a .i) 0 in
-    sym (typed-same (a .keys .now) (a .info .now) (a .i) (a .key) (a .tag) (c .before .if1 .taken) ∙ ap (λ (b : Bool). saying kind (if b then inner else 0)) (eq-eqb kind 11 (c .if2 .taken)))
+    let kind : ℕ = getD (a .info .now) (kindsAt + a .i) 0 in
+    let inner : ℕ = getD (a .info .now) (innersAt + a .i) 0 in
+    sym (typed-same (a .keys .now) (a .info .now) (a .i) (a .key) (a .tag) (c .before .if1 .taken) ∙ ap (λ (b : Bool). saying kind (if b then inner else 0)) (eq-eqb kind messageKind (c .if2 .taken)))
 
 returns-2 : tie.Need-returns-2
 returns-2 c =
     let a = c .before .before .before .before .before .args in
-    let kind : ℕ = getD (a .info .now) (512 + a .i) 0 in
-    let inner : ℕ = getD (a .info .now) (768 + a .i) 0 in
-    sym (typed-same (a .keys .now) (a .info .now) (a .i) (a .key) (a .tag) (c .before .if1 .taken) ∙ ap (λ (b : Bool). saying kind (if b then inner else 0)) (ne-eqb kind 11 (c .if2 .left)))
+    let kind : ℕ = getD (a .info .now) (kindsAt + a .i) 0 in
+    let inner : ℕ = getD (a .info .now) (innersAt + a .i) 0 in
+    sym (typed-same (a .keys .now) (a .info .now) (a .i) (a .key) (a .tag) (c .before .if1 .taken) ∙ ap (λ (b : Bool). saying kind (if b then inner else 0)) (ne-eqb kind messageKind (c .if2 .left)))
 
 returns-3 : tie.Need-returns-3
 returns-3 c =

@@ -11,16 +11,16 @@ use Rattle.utf8.proofs.lead_of.Statement.{statement}
 use Rattle.utf8.proofs.lead_of.Tie as tie
 
 module _ (b : ℕ) where
-  threes : 224 ≤ b → b < 240 → (b ≡ 224 → ⊥) → (b ≡ 237 → ⊥) → Follow 2 0x80 0xbf ≡ lead b
+  threes : 0xe0 ≤ b → b < 0xf0 → (b ≡ 0xe0 → ⊥) → (b ≡ 0xed → ⊥) → Follow 2 0x80 0xbf ≡ lead b
   unfolding lead
   threes l h p q =
       simp (lt-leb b 0x7f (omega arith), above 0xc2 0xdf b (omega arith), ne-eqb b 0xe0 p)
-      (elim (decLt b 237) [
+      (elim (decLt b 0xed) [
         | yes e ↦ simp (inside 0xe1 0xec b (omega arith) (omega arith))
         | no e ↦ simp (above 0xe1 0xec b (omega arith), ne-eqb b 0xed q, inside 0xee 0xef b (omega arith) (omega arith))
       ])
 
-  fours : 240 ≤ b → b < 244 → (b ≡ 240 → ⊥) → Follow 3 0x80 0xbf ≡ lead b
+  fours : 0xf0 ≤ b → b < 0xf4 → (b ≡ 0xf0 → ⊥) → Follow 3 0x80 0xbf ≡ lead b
   unfolding lead
   fours l h p =
       simp (
@@ -34,7 +34,7 @@ module _ (b : ℕ) where
         inside 0xf1 0xf3 b (omega arith) (omega arith),
       )
 
-  under : 128 ≤ b → b < 194 → NoLead ≡ lead b
+  under : 0x80 ≤ b → b < 0xc2 → NoLead ≡ lead b
   unfolding lead
   under l h =
       simp (
@@ -49,7 +49,7 @@ module _ (b : ℕ) where
         ne-eqb b 0xf4 (λ e. omega arith),
       )
 
-  over : 244 ≤ b → (b ≡ 244 → ⊥) → NoLead ≡ lead b
+  over : 0xf4 ≤ b → (b ≡ 0xf4 → ⊥) → NoLead ≡ lead b
   unfolding lead
   over l p =
       simp (

@@ -9,26 +9,26 @@ use Rattle.write.proofs.size.Statement.{statement}
 use Rattle.write.proofs.size.Tie as tie
 
 list-size-requires : tie.Need-list-size-requires
-unfolding verdict.told
+unfolding verdict.asVerdict
 list-size-requires c κs =
     let k = c .before .before in
     let a = k .before .before .before .before .args in
-    check-given (schemaOf (a .types) (a .numbers .now)) (a .payload .now) (a .list .now) (sym (k .check .ensures) ∙ ap verdict.told (c .enum-told .given .1)) .passed
+    check-given (schemaOf (a .types) (a .numbers .now)) (a .payload .now) (a .list .now) (sym (k .check .ensures) ∙ ap verdict.asVerdict (c .enum-told .given .1)) .passed
 
 returns : tie.Need-returns
-unfolding verdict.told
+unfolding verdict.asVerdict
 returns c =
     let k = c .before .before .before in
     let a = k .before .before .before .before .args in
-    size-faulty (schemaOf (a .types) (a .numbers .now)) (a .payload .now) (recordsOf (a .list .now)) (sym (k .check .ensures) ∙ ap verdict.told (c .before .number .given .1))
+    size-faulty (schemaOf (a .types) (a .numbers .now)) (a .payload .now) (recordsOf (a .list .now)) (sym (k .check .ensures) ∙ ap verdict.asVerdict (c .before .number .given .1))
 
 returns-2 : tie.Need-returns-2
-unfolding verdict.told
+unfolding verdict.asVerdict
 returns-2 c =
     let e = c .before .before in
     let k = e .before .before in
     let a = k .before .before .before .before .args in
-    size-fine (schemaOf (a .types) (a .numbers .now)) (a .payload .now) (recordsOf (a .list .now)) (sym (k .check .ensures) ∙ ap verdict.told (e .enum-told .given .1))
+    size-fine (schemaOf (a .types) (a .numbers .now)) (a .payload .now) (recordsOf (a .list .now)) (sym (k .check .ensures) ∙ ap verdict.asVerdict (e .enum-told .given .1))
     (c .by-size .ensures) (c .before .list-size .ensures)
 
 pub size-spec : {M : Type 1} → statement M

@@ -3,12 +3,12 @@ use mathlib.Core.Path.{ap}
 use mathlib.Core.List.{[], _∷_}
 use borrow.Author.Needs.{needs}
 use Rattle.write.specs.declared.Answer.{Answer}
-use Rattle.write.specs.Answers.{told}
+use Rattle.write.specs.Answers.{answerOfWriting}
 use Rattle.calf.proofs.writing.calf_size.Statement.{statement}
 use Rattle.calf.proofs.writing.calf_size.Tie as tie
 
 returns : tie.Need-returns
-unfolding told
+unfolding answerOfWriting
 returns c =
     let e = c .before .size .ensures in
     (ap (λ (a : Answer). a .number) e, ap (λ (a : Answer). a .size ∷ a .index ∷ []) e)

@@ -2,18 +2,18 @@
 use mathlib.Core.Path.{sym, ap}
 use borrow.Author.Needs.{needs}
 use Rattle.list.specs.declared.Verdict.{Verdict}
-use Rattle.list.specs.Told.{told}
+use Rattle.list.specs.Told.{asVerdict}
 use Rattle.calf.specs.Told.{indexOf}
 use Rattle.calf.proofs.writing.index_of.Statement.{statement}
 use Rattle.calf.proofs.writing.index_of.Tie as tie
 
 returns : tie.Need-returns
-unfolding told
-returns c = sym (ap (λ (v : Verdict). indexOf (told v)) (c .enum-told .given .1))
+unfolding asVerdict
+returns c = sym (ap (λ (v : Verdict). indexOf (asVerdict v)) (c .enum-told .given .1))
 
 returns-2 : tie.Need-returns-2
-unfolding told
-returns-2 c = sym (ap (λ (v : Verdict). indexOf (told v)) (c .before .v .given .1))
+unfolding asVerdict
+returns-2 c = sym (ap (λ (v : Verdict). indexOf (asVerdict v)) (c .before .v .given .1))
 
 pub index-of-spec : {M : Type 1} → statement M
 index-of-spec = tie.close (tie.spec (λ c. search needs) (λ c. search needs) returns returns-2)

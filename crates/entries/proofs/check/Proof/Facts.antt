@@ -7,16 +7,16 @@ use Rattle.spec.specs.Record.{recordsOf}
 use Rattle.spec.specs.Schema.{Schema, schemaOf}
 use Rattle.spec.specs.Writing.{listCheck}
 use Rattle.spec.specs.declared.Entry.{Entry}
-use Rattle.list.specs.Told.{told}
+use Rattle.list.specs.Told.{asVerdict}
 use Rattle.list.specs.declared.Verdict.{Verdict}
-use Rattle.entries.specs.Copied.{copiedTo, lentOf}
+use Rattle.entries.specs.Copied.{mostNumbers, copiedTo, lentOf}
 use Rattle.entries.proofs.LentLaws.{lent-alike, alike-check}
 
 abbrev pub Copied : List Entry → List ℕ → ℕ → List ℕ → Type 0
 Copied ys a₀ n a = (n ≡ length ys) × (a ≡ copiedTo ys a₀)
 
 abbrev Under : Schema → List ℕ → List ℕ → Verdict → Type 0
-Under sch list payload r = told r ≡ listCheck sch payload (recordsOf list)
+Under sch list payload r = asVerdict r ≡ listCheck sch payload (recordsOf list)
 
 abbrev pub Told : ℕ → ℕ → List ℕ → List ℕ → List ℕ → Verdict → Type 0
 Told types n a = Under (schemaOf types (take (lentOf n) a))
@@ -24,7 +24,7 @@ Told types n a = Under (schemaOf types (take (lentOf n) a))
 abbrev pub Ends : ℕ → List Entry → List ℕ → List ℕ → Verdict → Type 0
 Ends types ys = Under (record { types = types; entries = ys })
 
-pub ends : (types : ℕ) (ys : List Entry) (list payload a₀ a : List ℕ) (n : ℕ) (r : Verdict) → length a₀ ≡ 1280 → length a ≡ 1280 → Copied ys a₀ n a → Told types n a list payload r → Ends types ys list payload r
+pub ends : (types : ℕ) (ys : List Entry) (list payload a₀ a : List ℕ) (n : ℕ) (r : Verdict) → length a₀ ≡ mostNumbers → length a ≡ mostNumbers → Copied ys a₀ n a → Told types n a list payload r → Ends types ys list payload r
 ends types ys list payload a₀ a n r len wide e t =
     let alike = lent-alike types ys a₀ a len wide (e .1) in
     let same : listCheck (schemaOf types (take (lentOf n) a)) payload (recordsOf list) ≡ listCheck (record { types = types; entries = ys }) payload (recordsOf list) =

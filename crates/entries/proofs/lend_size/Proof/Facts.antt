@@ -5,8 +5,8 @@ use mathlib.Core.List.{List}
 use Rattle.spec.specs.Record.{recordsOf}
 use Rattle.spec.specs.Writing.{sizing}
 use Rattle.spec.specs.declared.Entry.{Entry}
-use Rattle.write.specs.Answers.{told}
+use Rattle.write.specs.Answers.{answerOfWriting}
 use Rattle.write.specs.declared.Answer.{Answer}
 
 abbrev pub Told : ℕ → List Entry → List ℕ → List ℕ → Answer → Type 0
-Told types ys list payload r = r ≡ told (sizing (record { types = types; entries = ys }) payload (recordsOf list))
+Told types ys list payload r = r ≡ answerOfWriting (sizing (record { types = types; entries = ys }) payload (recordsOf list))

@@ -9,7 +9,7 @@ use Rattle.spec.specs.Reading.{Reading, number, place, listed, roomAfter, readi
 use Rattle.spec.specs.declared.Entry.{Entry}
 use Rattle.read.specs.declared.Answer.{Answer}
 use Rattle.read.proofs.CallLaws.{Answers}
-use Rattle.entries.specs.Copied.{copiedTo, lentOf}
+use Rattle.entries.specs.Copied.{mostNumbers, copiedTo, lentOf}
 use Rattle.entries.proofs.LentLaws.{lent-alike, alike-reading}
 
 abbrev pub Copied : List Entry → List ℕ → ℕ → List ℕ → Type 0
@@ -24,7 +24,7 @@ Told types n a = Under (schemaOf types (take (lentOf n) a))
 abbrev pub Ends : ℕ → List Entry → List ℕ → List ℕ → Answer → List ℕ → Type 0
 Ends types ys = Under (record { types = types; entries = ys })
 
-pub ends : (types : ℕ) (ys : List Entry) (s room a₀ a : List ℕ) (n : ℕ) (r : Answer) (z : List ℕ) → length a₀ ≡ 1280 → length a ≡ 1280 → Copied ys a₀ n a → Told types n a s room r z → Ends types ys s room r z
+pub ends : (types : ℕ) (ys : List Entry) (s room a₀ a : List ℕ) (n : ℕ) (r : Answer) (z : List ℕ) → length a₀ ≡ mostNumbers → length a ≡ mostNumbers → Copied ys a₀ n a → Told types n a s room r z → Ends types ys s room r z
 ends types ys s room a₀ a n r z len wide e t =
     let alike = lent-alike types ys a₀ a len wide (e .1) in
     let same : reading (schemaOf types (take (lentOf n) a)) (length room / stride) s ≡ reading (record { types = types; entries = ys }) (length room / stride) s =

@@ -7,16 +7,16 @@ use Rattle.spec.specs.Record.{recordsOf}
 use Rattle.spec.specs.Schema.{Schema, schemaOf}
 use Rattle.spec.specs.Writing.{writing, output, Writing}
 use Rattle.spec.specs.declared.Entry.{Entry}
-use Rattle.write.specs.Answers.{told}
+use Rattle.write.specs.Answers.{answerOfWriting}
 use Rattle.write.specs.declared.Answer.{Answer}
-use Rattle.entries.specs.Copied.{copiedTo, lentOf}
+use Rattle.entries.specs.Copied.{mostNumbers, copiedTo, lentOf}
 use Rattle.entries.proofs.LentLaws.{lent-alike, alike-writing}
 
 abbrev pub Copied : List Entry → List ℕ → ℕ → List ℕ → Type 0
 Copied ys a₀ n a = (n ≡ length ys) × (a ≡ copiedTo ys a₀)
 
 abbrev Under : Schema → List ℕ → List ℕ → List ℕ → Answer → List ℕ → Type 0
-Under sch list payload out r z = (r ≡ told (writing sch (length out) payload (recordsOf list))) × (z ≡ output (writing sch (length out) payload (recordsOf list)) out)
+Under sch list payload out r z = (r ≡ answerOfWriting (writing sch (length out) payload (recordsOf list))) × (z ≡ output (writing sch (length out) payload (recordsOf list)) out)
 
 abbrev pub Told : ℕ → ℕ → List ℕ → List ℕ → List ℕ → List ℕ → Answer → List ℕ → Type 0
 Told types n a = Under (schemaOf types (take (lentOf n) a))
@@ -24,9 +24,9 @@ Told types n a = Under (schemaOf types (take (lentOf n) a))
 abbrev pub Ends : ℕ → List Entry → List ℕ → List ℕ → List ℕ → Answer → List ℕ → Type 0
 Ends types ys = Under (record { types = types; entries = ys })
 
-pub ends : (types : ℕ) (ys : List Entry) (list payload out a₀ a : List ℕ) (n : ℕ) (r : Answer) (z : List ℕ) → length a₀ ≡ 1280 → length a ≡ 1280 → Copied ys a₀ n a → Told types n a list payload out r z → Ends types ys list payload out r z
+pub ends : (types : ℕ) (ys : List Entry) (list payload out a₀ a : List ℕ) (n : ℕ) (r : Answer) (z : List ℕ) → length a₀ ≡ mostNumbers → length a ≡ mostNumbers → Copied ys a₀ n a → Told types n a list payload out r z → Ends types ys list payload out r z
 ends types ys list payload out a₀ a n r z len wide e t =
     let alike = lent-alike types ys a₀ a len wide (e .1) in
     let same : writing (schemaOf types (take (lentOf n) a)) (length out) payload (recordsOf list) ≡ writing (record { types = types; entries = ys }) (length out) payload (recordsOf list) =
     ap (λ (k : ℕ). writing (schemaOf types (take (lentOf k) a)) (length out) payload (recordsOf list)) (e .0) ∙ alike-writing alike (length out) payload (recordsOf list) in
-    (t .0 ∙ ap told same, t .1 ∙ ap (λ (w : Writing). output w out) same)
+    (t .0 ∙ ap answerOfWriting same, t .1 ∙ ap (λ (w : Writing). output w out) same)

@@ -1,21 +1,23 @@
 -- `list::record::ask` meets its contract. Assumes nothing.
 use native.Mathlib.Omega.{arith}
-use Prim.Native.Nat.{ℕ, _+_, _*_, _%_, _^_, _<_}
+use Prim.Native.Nat.{ℕ, _+_, _*_, _%_, _<_}
 use mathlib.Core.Path.{_≡_, sym, ap, _∙_}
 use borrow.Author.Needs.{needs}
 use lib.ListN.{getD}
+use Rattle.spec.specs.Names.{mostTypes, recordKinds}
 use Rattle.spec.specs.Kind.{wire}
 use Rattle.list.specs.Checking.{suits, differs}
 use Rattle.list.proofs.FitLaws.{type-of}
 use Rattle.list.proofs.RecordLaws.{unknown-kind, guess-other, guess-so}
 use Rattle.list.proofs.record.ask.Statement.{statement}
 use Rattle.list.proofs.record.ask.Tie as tie
+use Rattle.schema.specs.Layout.{guesses, ownerUnit}
 
 returns : tie.Need-returns
 returns c = differs (λ sch m few. unknown-kind sch _ _ _ (c .if1 .taken))
 
 -- the kind is in the table
-small : (c : tie.After-w) → c .before .before .args .kind < 25
+small : (c : tie.After-w) → c .before .before .args .kind < recordKinds
 small c = omega (arith, c .before .if1 .left)
 
 wired : (c : tie.After-w) → getD (c .before .before .args .table .now) (c .before .before .args .kind) 0 ≡ wire (c .before .before .args .kind)
@@ -24,7 +26,7 @@ wired c = type-of _ _ (c .before .before .pre .0) (small c)
 -- the guess, and its key
 guess : (c : tie.After-index) →
     let a = c .before .before .before .before .before .args in
-    c .index .result ≡ getD (a .info .now) (a .ty % 32 * 16 + a .number) 0
+    c .index .result ≡ getD (a .info .now) (a .ty % mostTypes * guesses + a .number) 0
 guess c =
     let s = c .before .before .before .before .before in
     c .index .ensures .0 ∙ ap (λ (g : ℕ). getD (s .args .info .now) (g + s .args .number) 0) (s .pre .1 .guesses-from)
@@ -32,7 +34,7 @@ guess c =
 key : (c : tie.Then3) →
     let i = c .before .before .before in
     let a = i .before .before .before .before .before .args in
-    getD (a .keys .now) (i .index .result) 0 ≡ a .ty * 2 ^ 32 + a .number * 8 + c .before .wide .result
+    getD (a .keys .now) (i .index .result) 0 ≡ a .ty * ownerUnit + a .number * 8 + c .before .wide .result
 key c =
     let s = c .before .before .before .before .before .before .before .before in
     c .if3 .taken ∙ ap (λ (o : ℕ). o + s .args .number * 8 + c .before .wide .result) (s .pre .1 .keys-from)

@@ -1,24 +1,27 @@
 -- `list::run::list_fault` meets its contract. The loop's invariant: what the list comes to is what the records from here on come to. Assumes nothing.
-use Prim.Native.Nat.{ℕ, _+_, _-_, _*_, _%_, _^_}
+use Prim.Native.Nat.{ℕ, _+_, _-_, _*_, _%_}
 use native.Mathlib.Omega.{arith}
 use mathlib.Core.Path.{refl, sym, ap, _∙_, subst}
 use mathlib.Core.Logic.{⊎-elim}
 use borrow.Author.Needs.{needs}
 use borrow.Author.Tests.{not-true, not-false}
 use lib.ListN.{length, getD, length-replicate, getD-replicate}
-use Rattle.list.specs.Told.{told}
+use Rattle.list.specs.Told.{asVerdict}
 use Rattle.list.specs.Checking.{Typed, Answers, Elapsed}
 use Rattle.list.specs.declared.record.Asked.the-variants.{Expected}
 use Rattle.list.proofs.RunTurn.{Going, Standing, here, go-end, go-rest, go-deep, go-same, go-out, wire-is, stand-other, stand-value-bad, stand-value, stand-fault, stand-low, stand-content, stand-message, stand-elements, elements-on, stand-bad-element}
 use Rattle.list.proofs.run.list_fault.Statement.{statement}
 use Rattle.list.proofs.run.list_fault.Tie as tie
+use Rattle.spec.specs.Record.{stride}
+use Rattle.spec.specs.Names.{kindColumn, mostLevels, mostTypes, numberColumn}
+use Rattle.schema.specs.Layout.{guesses, ownerUnit}
 
 abbrev Inv-loop : tie.InvT-loop
-Inv-loop keys info list payload table open₀ ty₀ owner₀ guesses₀ depth₀ at₀ «open» ty owner guesses depth at =
-    Going keys info list payload «open» ty depth at × Typed ty owner guesses
+Inv-loop keys info list payload table open₀ ty₀ owner₀ first₀ depth₀ at₀ «open» ty owner first depth at =
+    Going keys info list payload «open» ty depth at × Typed ty owner first
 
 abbrev μ-loop : tie.MeasureT-loop
-μ-loop keys info list payload table open₀ ty₀ owner₀ guesses₀ depth₀ at₀ «open» ty owner guesses depth at = length list - at
+μ-loop keys info list payload table open₀ ty₀ owner₀ first₀ depth₀ at₀ «open» ty owner first depth at = length list - at
 
 loop-holds : tie.Need-loop-holds Inv-loop μ-loop
 loop-holds c = (
@@ -26,8 +29,8 @@ loop-holds c = (
     inside = omega arith;
     whole = refl;
     shallow = omega arith;
-    long = length-replicate {A = ℕ} 101 0;
-    lies = λ sch m. here sch _ _ _ (getD-replicate 101 0 0 0 (omega arith));
+    long = length-replicate {A = ℕ} (mostLevels + 1) 0;
+    lies = λ sch m. here sch _ _ _ (getD-replicate (mostLevels + 1) 0 0 0 (omega arith));
   },
   record { keys-from = refl; guesses-from = refl },
 )
@@ -51,8 +54,8 @@ typed c =
     let t = c .before .before .before .loop .inv .1 in
     ⊎-elim
     (λ w. record {
-      keys-from = w .5 ∙ w .2 .ensures ∙ ap (λ (x : ℕ). x * 2 ^ 32) (sym (w .4));
-      guesses-from = w .6 ∙ w .3 .ensures ∙ ap (λ (x : ℕ). x % 32 * 16) (sym (w .4));
+      keys-from = w .5 ∙ w .2 .ensures ∙ ap (λ (x : ℕ). x * ownerUnit) (sym (w .4));
+      guesses-from = w .6 ∙ w .3 .ensures ∙ ap (λ (x : ℕ). x % mostTypes * guesses) (sym (w .4));
     })
     (λ w. rw (w .1, w .2, w .3) t)
     (c .if1 .came)
@@ -62,7 +65,7 @@ asked : (c : tie.After-w Inv-loop μ-loop) →
     let j = c .before .before .before .before .before .before in
     let l = j .before .before .before in
     let a = l .before .before .before .before .args in
-    Answers (a .keys .now) (a .info .now) (j .if1 .ty) (getD (a .list .now) (l .loop .at + 1) 0) (getD (a .list .now) (l .loop .at + 2) 0)
+    Answers (a .keys .now) (a .info .now) (j .if1 .ty) (getD (a .list .now) (l .loop .at + numberColumn) 0) (getD (a .list .now) (l .loop .at + kindColumn) 0)
     (Expected (c .w .given .0 .0) (c .w .given .0 .1 .0))
 asked c = subst (Answers _ _ _ _ _) (c .w .given .1) (c .before .before .ask .ensures)
 
@@ -153,13 +156,13 @@ elapsed : (c : tie.After-elements Inv-loop μ-loop) →
     let j = w .before .before .before .before .before .before in
     let l = j .before .before .before in
     let a = l .before .before .before .before .args in
-    Elapsed (a .list .now) (l .loop .at + 6) (j .if1 .depth + 1) (getD (a .list .now) (l .loop .at + 1) 0) (w .w .given .0 .1 .0) (c .elements .result)
+    Elapsed (a .list .now) (l .loop .at + stride) (j .if1 .depth + 1) (getD (a .list .now) (l .loop .at + numberColumn) 0) (w .w .given .0 .1 .0) (c .elements .result)
 elapsed c =
     let w = c .before .before .before .before .before .before .before .before .before in
     let j = w .before .before .before .before .before .before in
     let l = j .before .before .before in
     let a = l .before .before .before .before .args in
-    subst (λ (k : ℕ). Elapsed (a .list .now) (l .loop .at + 6) (j .if1 .depth + 1) (getD (a .list .now) (l .loop .at + 1) 0) k (c .elements .result))
+    subst (λ (k : ℕ). Elapsed (a .list .now) (l .loop .at + stride) (j .if1 .depth + 1) (getD (a .list .now) (l .loop .at + numberColumn) 0) k (c .elements .result))
     (c .before .wide .ensures .0) (c .elements .ensures)
 
 loop-less-3 : tie.Need-loop-less-3 Inv-loop μ-loop
@@ -211,7 +214,7 @@ returns-6 c =
     λ sch m. c .faulty6 .ensures ∙ go-rest (i .before .loop .inv .0) (c .before .if8 .taken) (i .loop-test .left) sch m
 
 returns-7 : tie.Need-returns-7 Inv-loop μ-loop
-unfolding told
+unfolding asVerdict
 returns-7 c = λ sch m. go-end (c .before .before .loop .inv .0) (c .if8 .left) sch m
 
 pub list-fault-spec : {M : Type 1} → statement M

@@ -46,7 +46,7 @@ use denote.Triple.Table.{entered, cited}
 use denote.Triple.Walked.{says, Stays, stay-none, walkOf, goes-none, Walks, ends-at, walked, walk-meets}
 use denote.Exit.{yes}
 use Rattle.spec.specs.Pull.{stepAt}
-use Rattle.pull.specs.Told.{told, asked}
+use Rattle.pull.specs.Told.{asMoved, asked}
 use Rattle.pull.proofs.ReaderLaws.{stepping, step-says}
 use Rattle.pull.specs.declared.reader.Reader.{Reader}
 use Rattle.pull.specs.declared.step.Ask.{Ask}
@@ -133,7 +133,7 @@ module _ {M : Type 1} (𝓤 : URA M) (H : Heap 𝓤) (A : Atoms 𝓤) (W : Given
   vn r = LL.val DR LR (stepping d r)
 
   abbrev Found : Moved → Type 0
-  Found r = told r ≡ stepAt (now (d .s)) (d .at) (d .level) (asked ask)
+  Found r = asMoved r ≡ stepAt (now (d .s)) (d .at) (d .level) (asked ask)
 
   -- what the callee is passed
   abbrev passed : Vals step-at.signature (κ, tt)

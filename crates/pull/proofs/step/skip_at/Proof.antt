@@ -7,7 +7,7 @@ use lib.Seq.{take-length}
 use Rattle.spec.specs.Base.{refusal, taken}
 use Rattle.spec.specs.Skip.{skipFieldForTag}
 use Rattle.spec.specs.Pull.{stepAt}
-use Rattle.pull.specs.Told.{told}
+use Rattle.pull.specs.Told.{asMoved}
 use Rattle.pull.proofs.SkipNumbers.{skip-refused, skip-told, skip-bound}
 use borrow.Author.Needs.{needs}
 use Rattle.pull.proofs.step.skip_at.Statement.{statement}
@@ -29,7 +29,7 @@ unfolding stepAt
 returns c =
     let k = c .before .before in
     let a = k .before .before .before .before .args in
-    ap told (c .refused .ensures) ∙ skip-refused (a .at) (a .tag) (a .level) (drop (a .at) (a .s .now)) (rest k .0) (rest k .1) (c .before .if1 .taken)
+    ap asMoved (c .refused .ensures) ∙ skip-refused (a .at) (a .tag) (a .level) (drop (a .at) (a .s .now)) (rest k .0) (rest k .1) (c .before .if1 .taken)
 
 add-next : tie.Need-add-next
 add-next c =

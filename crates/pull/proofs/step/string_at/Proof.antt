@@ -5,11 +5,12 @@ use mathlib.Core.Path.{_≡_, sym, ap, _∙_}
 use mathlib.Core.Bool.{true}
 use borrow.Author.Tests.{not-true, not-false}
 use lib.ListN.{length, drop}
+use Rattle.spec.specs.Names.{notUtf8}
 use Rattle.spec.specs.Base.{if_then_else_}
 use Rattle.spec.specs.Varint.{varint32}
 use Rattle.spec.specs.Skip.{content}
 use Rattle.spec.specs.Pull.{Content, Refused, says, spelled, stepAt}
-use Rattle.pull.specs.Told.{spanAt, told}
+use Rattle.pull.specs.Told.{spanAt, asMoved}
 use Rattle.pull.specs.declared.value.Span.the-variants as span
 use Rattle.pull.proofs.StepLaws.{span-in, text-told, text-refused}
 use borrow.Author.Needs.{needs}
@@ -32,7 +33,7 @@ inside c = let a = c .before .before .before .before .before .args in span-in tr
 text : (c : tie.After-is-utf8) →
     let s = c .before .before .before in
     let a = s .before .before .before .before .args in
-    (if c .is-utf8 .result then says (Content (s .start .given .0 .0) (s .start .given .0 .1 .0)) (s .start .given .0 .1 .0) else says (Refused 6 (a .at)) (a .at))
+    (if c .is-utf8 .result then says (Content (s .start .given .0 .0) (s .start .given .0 .1 .0)) (s .start .given .0 .1 .0) else says (Refused notUtf8 (a .at)) (a .at))
     ≡ spelled (a .at) (drop (a .at) (a .s .now)) (content varint32 (drop (a .at) (a .s .now)))
 text c =
     let t = c .before .before in
@@ -52,7 +53,7 @@ returns : tie.Need-returns
 unfolding stepAt
 returns c =
     let t = c .before .before in
-    ap told (c .refused .ensures) ∙ (rw (not-true (t .is-utf8 .result) (c .before .if1 .taken)) at (text t))
+    ap asMoved (c .refused .ensures) ∙ (rw (not-true (t .is-utf8 .result) (c .before .if1 .taken)) at (text t))
 
 returns-2 : tie.Need-returns-2
 unfolding stepAt
@@ -63,7 +64,7 @@ unfolding stepAt
 returns-3 c =
     let k = c .before .before in
     let a = k .before .before .before .before .args in
-    ap told (c .refused2 .ensures) ∙ text-refused (a .at) (a .s .now) (content varint32 (drop (a .at) (a .s .now))) (sym (k .k .given .1) ∙ k .before .before .span-at .ensures)
+    ap asMoved (c .refused2 .ensures) ∙ text-refused (a .at) (a .s .now) (content varint32 (drop (a .at) (a .s .now))) (sym (k .k .given .1) ∙ k .before .before .span-at .ensures)
 
 pub string-at-spec : {M : Type 1} → statement M
 string-at-spec = tie.close (tie.spec (λ c κs. search needs) (λ c. search needs) sub-is-utf8 part-is-utf8-start part-is-utf8-end (λ c κs. search needs) (λ c κs. search needs) returns (λ c. search needs) (λ c κs. search needs) returns-2 returns-3)

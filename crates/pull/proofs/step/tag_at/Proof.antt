@@ -3,7 +3,7 @@ use mathlib.Core.Path.{sym, ap, _∙_}
 use lib.ListN.{drop}
 use Rattle.spec.proofs.Laws.{takes-varint}
 use Rattle.spec.proofs.PullLaws.{raw-end, raw-tag}
-use Rattle.pull.specs.Told.{told}
+use Rattle.pull.specs.Told.{asMoved}
 use Rattle.pull.proofs.StepLaws.{number-told}
 use borrow.Author.Needs.{needs}
 use Rattle.pull.proofs.step.tag_at.Statement.{statement}
@@ -16,7 +16,7 @@ returns-2 : tie.Need-returns-2
 returns-2 c =
     let d = c .before in
     let a = d .before .before .before .args in
-    ap told (c .number-of .ensures)
+    ap asMoved (c .number-of .ensures)
     ∙ number-told (a .at) (d .narrow-found .result) (takes-varint 4 15 (drop (a .at) (a .s .now))) (d .narrow-found .ensures)
     ∙ sym (raw-tag (a .s .now) (a .at) 0 (d .before .if1 .left))
 

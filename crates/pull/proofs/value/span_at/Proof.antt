@@ -4,7 +4,7 @@ use native.Mathlib.Omega.{arith}
 use mathlib.Core.Path.{_≡_, sym, ap, _∙_}
 use lib.ListN.{drop}
 use Rattle.spec.specs.Base.{Took}
-use Rattle.wire.specs.Answers.{told}
+use Rattle.wire.specs.Answers.{asRead}
 use Rattle.wire.specs.Reached.{varintOf}
 use Rattle.pull.proofs.StepLaws.{width-placed, span-refused, span-short, span-of}
 use borrow.Author.Needs.{needs}
@@ -14,7 +14,7 @@ use Rattle.pull.proofs.value.span_at.Tie as tie
 found : (c : tie.After-known-told) →
     let a = c .before .before .before .before .before .args in
     Took (c .before .value .given .0 .0) (c .before .value .given .0 .1 .0 - a .at) ≡ varintOf (a .narrow) (drop (a .at) (a .s .now))
-found c = ap (told _) (sym (c .before .value .given .1)) ∙ c .before .before .before .varint-found .ensures
+found c = ap (asRead _) (sym (c .before .value .given .1)) ∙ c .before .before .before .varint-found .ensures
 
 sub-if1 : tie.Need-sub-if1
 sub-if1 c =
@@ -36,7 +36,7 @@ returns-2 c =
 returns-3 : tie.Need-returns-3
 returns-3 c =
     let a = c .before .before .before .before .before .args in
-    span-refused (varintOf (a .narrow)) (a .at) (a .s .now) (sym (ap (told _) (sym (c .before .k .given .1)) ∙ c .before .before .before .varint-found .ensures))
+    span-refused (varintOf (a .narrow)) (a .at) (a .s .now) (sym (ap (asRead _) (sym (c .before .k .given .1)) ∙ c .before .before .before .varint-found .ensures))
 
 pub span-at-spec : {M : Type 1} → statement M
 span-at-spec = tie.close (tie.spec (λ c κs. search needs) (λ c. search needs) sub-if1 returns (λ c. search needs) (λ c. search needs) returns-2 returns-3)

@@ -4,6 +4,7 @@ use native.Mathlib.Omega.{arith}
 use mathlib.Core.Path.{_≡_, sym, _∙_}
 use borrow.Author.Tests.{not-true, not-false}
 use borrow.Author.Needs.{needs}
+use Rattle.spec.specs.Names.{notUtf8}
 use Rattle.spec.specs.Base.{if_then_else_}
 use Rattle.spec.specs.Kind.{shape}
 use Rattle.spec.specs.Skip.{content}
@@ -40,7 +41,7 @@ part-is-utf8-end c = omega (arith, inside (c .before))
 text : (c : tie.After-is-utf8) →
     let s = c .before .before .before .before in
     let a = s .before .before .before .before .args in
-    (if c .is-utf8 .result then body.Is 0 (s .start .given .0 .0) (s .start .given .0 .1 .0) else body.Bad 6) ≡ bodied (shape (a .kind)) 0 (a .at) (drop (a .at) (a .s .now))
+    (if c .is-utf8 .result then body.Is 0 (s .start .given .0 .0) (s .start .given .0 .1 .0) else body.Bad notUtf8) ≡ bodied (shape (a .kind)) 0 (a .at) (drop (a .at) (a .s .now))
 text c =
     let t = c .before .before in
     let a = t .before .before .before .before .before .before .args in

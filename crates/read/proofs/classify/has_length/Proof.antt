@@ -2,6 +2,7 @@
 use borrow.Author.Tests.{ne-eqb}
 use Rattle.read.proofs.classify.has_length.Statement.{statement}
 use Rattle.read.proofs.classify.has_length.Tie as tie
+use Rattle.spec.specs.Names.{bytesKind, messageKind, packedHead, stringKind}
 
 returns : tie.Need-returns
 returns c = rw (c .if1 .taken)
@@ -19,10 +20,10 @@ returns-5 : tie.Need-returns-5
 returns-5 c =
     let k = c .before .before .before .before .args .kind in
     rw (
-      ne-eqb k 9 (c .before .before .before .if1 .left),
-      ne-eqb k 11 (c .before .before .if2 .left),
-      ne-eqb k 12 (c .before .if3 .left),
-      ne-eqb k 20 (c .if4 .left),
+      ne-eqb k stringKind (c .before .before .before .if1 .left),
+      ne-eqb k messageKind (c .before .before .if2 .left),
+      ne-eqb k bytesKind (c .before .if3 .left),
+      ne-eqb k packedHead (c .if4 .left),
     )
 
 pub has-length-spec : {M : Type 1} → statement M

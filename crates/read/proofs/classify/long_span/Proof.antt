@@ -6,7 +6,7 @@ use mathlib.Core.Bool.{Bool, not}
 use lib.ListN.{drop}
 use borrow.Author.Needs.{needs}
 use Rattle.spec.specs.Base.{Took}
-use Rattle.wire.specs.Answers.{told}
+use Rattle.wire.specs.Answers.{asRead}
 use Rattle.wire.specs.Reached.{varintOf}
 use Rattle.read.specs.Answers.{isHead, lengthOf}
 use Rattle.read.proofs.ClassifyLaws.{width-placed, span-refused, span-short, span-of}
@@ -16,7 +16,7 @@ use Rattle.read.proofs.classify.long_span.Tie as tie
 -- the length, as the definition reads it
 width : (c : tie.After-varint-at) →
     let a = c .before .before .before .args in
-    told (a .at) (c .varint-at .result) ≡ lengthOf (a .kind) (drop (a .at) (a .s .now))
+    asRead (a .at) (c .varint-at .result) ≡ lengthOf (a .kind) (drop (a .at) (a .s .now))
 width c =
     let a = c .before .before .before .args in
     c .varint-at .ensures ∙ ap (λ (h : Bool). varintOf (not h) (drop (a .at) (a .s .now))) (c .before .is-head .ensures)
@@ -24,7 +24,7 @@ width c =
 found : (c : tie.After-known-told) →
     let a = c .before .before .before .before .before .before .args in
     Took (c .before .value .given .0 .0) (c .before .value .given .0 .1 .0 - a .at) ≡ lengthOf (a .kind) (drop (a .at) (a .s .now))
-found c = ap (told _) (sym (c .before .value .given .1)) ∙ width (c .before .before .before)
+found c = ap (asRead _) (sym (c .before .value .given .1)) ∙ width (c .before .before .before)
 
 sub-if1 : tie.Need-sub-if1
 sub-if1 c =
@@ -46,7 +46,7 @@ returns-2 c =
 returns-3 : tie.Need-returns-3
 returns-3 c =
     let a = c .before .before .before .before .before .before .args in
-    span-refused (lengthOf (a .kind)) (a .at) (a .s .now) (sym (ap (told _) (sym (c .before .k .given .1)) ∙ width (c .before .before .before)))
+    span-refused (lengthOf (a .kind)) (a .at) (a .s .now) (sym (ap (asRead _) (sym (c .before .k .given .1)) ∙ width (c .before .before .before)))
 
 pub long-span-spec : {M : Type 1} → statement M
 long-span-spec =

@@ -8,7 +8,7 @@ use Rattle.spec.specs.Base.{Took}
 use Rattle.spec.specs.Varint.{varint32}
 use Rattle.spec.specs.Schema.{Says}
 use Rattle.spec.proofs.SkipLaws.{good-tag, bad-wire, bad-number}
-use Rattle.wire.specs.Answers.{told}
+use Rattle.wire.specs.Answers.{asRead}
 use Rattle.wire.proofs.FoundLaws.{varint-placed}
 use Rattle.read.specs.declared.classify.Tag.the-variants as tagged
 use Rattle.read.proofs.ClassifyLaws.{refused-tag, bad-tag, told-tag}
@@ -19,7 +19,7 @@ use Rattle.read.proofs.classify.long_tag.Tie as tie
 found : (c : tie.After-known-told) →
     let a = c .before .before .before .before .before .args in
     Took (c .before .value .given .0 .0) (c .before .value .given .0 .1 .0 - a .at) ≡ varint32 (drop (a .at) (a .s .now))
-found c = ap (told _) (sym (c .before .value .given .1)) ∙ c .before .before .before .decode-varint32 .ensures
+found c = ap (asRead _) (sym (c .before .value .given .1)) ∙ c .before .before .before .decode-varint32 .ensures
 
 returns : tie.Need-returns
 returns c =
@@ -42,7 +42,7 @@ returns-3 c =
     ∙ told-tag _ _ _ (v .1 .0) (found t) (good-tag (v .0) (omega arith) (omega arith))
 
 returns-4 : tie.Need-returns-4
-returns-4 c = refused-tag _ _ _ (ap (told _) (sym (c .before .k .given .1)) ∙ c .before .before .before .decode-varint32 .ensures)
+returns-4 c = refused-tag _ _ _ (ap (asRead _) (sym (c .before .k .given .1)) ∙ c .before .before .before .decode-varint32 .ensures)
 
 pub long-tag-spec : {M : Type 1} → statement M
 long-tag-spec =

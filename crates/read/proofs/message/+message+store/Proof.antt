@@ -5,6 +5,8 @@ use native.Mathlib.Omega.{arith}
 use mathlib.Core.Path.{sym, _∙_}
 use borrow.Author.Needs.{needs}
 use lib.ListN.{length}
+use Rattle.spec.specs.Names.{deepest}
+use Rattle.spec.specs.Record.{numbers}
 use Rattle.spec.specs.Reading.{read}
 use Rattle.schema.specs.Tables.{tableSays}
 use mathlib.Core.Logic.{inl, inr}
@@ -29,10 +31,10 @@ use Rattle.read.proofs.message.+message+store.{statement}
 use Rattle.read.proofs.message.+message+store.Tie.{close}
 
 abbrev μ-message : Measures 4 message-kinds.ps ℕ
-μ-message κs a = 2 * (101 - a .1 .1 .1 .1 .1 .0) + 1
+μ-message κs a = 2 * (deepest - a .1 .1 .1 .1 .1 .0) + 1
 
 abbrev μ-store : Measures 4 store-kinds.ps ℕ
-μ-store κs a = 2 * (101 - a .1 .1 .1 .1 .1 .0)
+μ-store κs a = 2 * (deepest - a .1 .1 .1 .1 .1 .0)
 
 abbrev message-at : ℕ → In 4 message-kinds.ps
 message-at t = and 4 message-kinds.ps (is 4 message-kinds.ps μ-message t) message.Pre
@@ -248,6 +250,7 @@ store-same-length : (t : ℕ) → store-lts.Need-same-length (store-claims t) (s
 store-same-length t c = search (needs, c .before .room2 .given ∙ c .before .before .before .before .before .before .before .room .given)
 
 store-returns-3 : (t : ℕ) → store-lts.Need-returns-3 (store-claims t) (store-at t) store.Post
+unfolding numbers
 store-returns-3 t c =
     let p = c .before .before .before .before .before .before .before .before in
     put-then _ _ (row-message _ (c .before .before .before .before .before .before .before .before .before .before .before .before .before .before .pre .1 .3) _ _ (c .before .before .before .before .before .if4 .taken)) (omega (arith, p .before .before .if3 .left)) (p .put .ensures .0) (p .put .ensures .1) (c .before .before .message .ensures)
@@ -279,6 +282,7 @@ store-same-length-2 : (t : ℕ) → store-lts.Need-same-length-2 (store-claims t
 store-same-length-2 t c = search (needs, c .before .room3 .given ∙ c .before .before .before .before .before .before .before .before .before .room .given)
 
 store-returns-4 : (t : ℕ) → store-lts.Need-returns-4 (store-claims t) (store-at t) store.Post
+unfolding numbers
 store-returns-4 t c =
     let p = c .before .before .before .before .before .before .before .before .before .before in
     let j = p .before .before .before in
@@ -289,6 +293,7 @@ store-same-length-3 : (t : ℕ) → store-lts.Need-same-length-3 (store-claims t
 store-same-length-3 t c = search (needs, c .before .before .before .room .given)
 
 store-returns-5 : (t : ℕ) → store-lts.Need-returns-5 (store-claims t) (store-at t) store.Post
+unfolding numbers
 store-returns-5 t c =
     let p = c .before .before .before .before in
     put-only _ _ (row-value _ (c .before .before .before .before .before .before .before .before .before .before .pre .1 .3) _ _ (c .before .if4 .left) (c .if5 .left)) (omega (arith, p .before .before .if3 .left)) (p .put .ensures .0) (p .put .ensures .1)

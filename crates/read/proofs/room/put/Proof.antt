@@ -1,7 +1,14 @@
--- `read::room::put` meets its contract: the six stores are the definition's. Assumes nothing.
+-- `read::room::put` meets its contract: its stores are those of the definition, column by column. Assumes nothing.
+use Prim.Native.Nat.{ℕ, _+_}
 use native.Mathlib.Omega.{arith}
-use lib.ListN.{length-set}
+use native.Mathlib.Nat.{add-zero}
+use mathlib.Core.Path.{_≡_, refl, sym, ap}
+use mathlib.Core.List.{List}
+use lib.ListN.{set, length-set}
 use borrow.Author.Needs.{needs}
+use Rattle.spec.specs.Names.{numberColumn, kindColumn, valueColumn, startColumn, stopColumn}
+use Rattle.spec.specs.Record.{row, numbers}
+use Rattle.read.specs.Emit.{storedFrom, placed}
 use Rattle.read.proofs.room.put.Statement.{statement}
 use Rattle.read.proofs.room.put.Tie as tie
 
@@ -19,6 +26,17 @@ slice-write-room-5 c = simp length-set (omega arith)
 
 slice-write-room-6 : tie.Need-slice-write-room-6
 slice-write-room-6 c = simp length-set (omega arith)
+
+-- the columns, one by one
+columns : (room : List ℕ) (b d n k v a e : ℕ)
+    → set (set (set (set (set (set room b d) (b + numberColumn) n) (b + kindColumn) k) (b + valueColumn) v) (b + startColumn) a) (b + stopColumn) e
+    ≡ placed room b (row d n k v a e 0)
+unfolding numbers storedFrom
+columns room b d n k v a e =
+    ap (λ (i : ℕ). set (set (set (set (set (set room i d) (b + numberColumn) n) (b + kindColumn) k) (b + valueColumn) v) (b + startColumn) a) (b + stopColumn) e) (sym (add-zero b))
+
+returns : tie.Need-returns
+returns c = (columns _ _ _ _ _ _ _ _, refl)
 
 pub put-spec : {M : Type 1} → statement M
 put-spec =
@@ -43,4 +61,4 @@ put-spec =
     slice-write-room-6
     (λ c. search needs)
     (λ c. search needs)
-    (λ c. search needs))
+    returns)

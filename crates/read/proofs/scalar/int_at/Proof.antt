@@ -11,7 +11,7 @@ returns c =
     let r = c .before in
     let v = r .before .before in
     let d = v .before .before in
-    rw (← d .before .is-narrow .ensures, ← d .varint-at .ensures, v .value .given .1, ← r .in-range .ensures, not-true (r .in-range .result) (c .if1 .taken))
+    rw (← d .before .is-varint32 .ensures, ← d .varint-at .ensures, v .value .given .1, ← r .in-range .ensures, not-true (r .in-range .result) (c .if1 .taken))
 
 returns-2 : tie.Need-returns-2
 unfolding intBy
@@ -21,7 +21,7 @@ returns-2 c =
     let v = r .before .before in
     let d = v .before .before in
     rw (
-      ← d .before .is-narrow .ensures,
+      ← d .before .is-varint32 .ensures,
       ← d .varint-at .ensures,
       v .value .given .1,
       ← r .in-range .ensures,
@@ -38,7 +38,7 @@ returns-3 c =
     let v = r .before .before in
     let d = v .before .before in
     rw (
-      ← d .before .is-narrow .ensures,
+      ← d .before .is-varint32 .ensures,
       ← d .varint-at .ensures,
       v .value .given .1,
       ← r .in-range .ensures,
@@ -51,7 +51,7 @@ returns-4 : tie.Need-returns-4
 unfolding intBy
 returns-4 c =
     let d = c .before .before .before in
-    rw (← d .before .is-narrow .ensures, ← d .varint-at .ensures, c .before .k .given .1)
+    rw (← d .before .is-varint32 .ensures, ← d .varint-at .ensures, c .before .k .given .1)
 
 pub int-at-spec : {M : Type 1} → statement M
 int-at-spec =

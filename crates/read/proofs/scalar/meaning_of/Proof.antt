@@ -6,7 +6,7 @@ use borrow.Author.Needs.{needs}
 use Rattle.spec.specs.Kind.{shape, shapes}
 use Rattle.read.specs.Answers.{meantBy, meantAs}
 use Rattle.read.specs.declared.scalar.Meant.the-variants.{Is}
-use Rattle.read.proofs.KindTests.{meant-first, meant-zero, meant-low, meant-13-14, meant-15-16, meant-17-18, meant-high}
+use Rattle.read.proofs.KindTests.{meant-first, meant-zero, meant-low, meant-uint32-enum, meant-sfixed, meant-sint, meant-high}
 use Rattle.read.proofs.scalar.meaning_of.Statement.{statement}
 use Rattle.read.proofs.scalar.meaning_of.Tie as tie
 
@@ -16,12 +16,12 @@ returns c = let a = c .before .before .args in meant-first (a .kind) (a .v) (ome
 returns-2 : tie.Need-returns-2
 returns-2 c =
     let a = c .before .before .before .before .args in
-    ap Is (c .unzigzag .ensures) ∙ meant-17-18 (a .kind) (a .v) (omega arith) (λ e. omega arith) (λ e. omega arith) (omega arith) (omega arith)
+    ap Is (c .unzigzag .ensures) ∙ meant-sint (a .kind) (a .v) (omega arith) (λ e. omega arith) (λ e. omega arith) (omega arith) (omega arith)
 
 returns-3 : tie.Need-returns-3
 returns-3 c =
     let a = c .before .before .before .before .args in
-    meant-13-14 (a .kind) (a .v) (omega arith) (λ e. omega arith) (λ e. omega arith) (omega arith) (omega arith)
+    meant-uint32-enum (a .kind) (a .v) (omega arith) (λ e. omega arith) (λ e. omega arith) (omega arith) (omega arith)
 
 returns-4 : tie.Need-returns-4
 unfolding shape shapes meantBy meantAs
@@ -35,7 +35,7 @@ returns-6 : tie.Need-returns-6
 unfolding shape shapes meantBy meantAs
 returns-6 c = rw (c .match .keys2)
 
--- from 19 on; 15 and 16; from 6 to 12; below 3
+-- our own kinds; sfixed32 and sfixed64; from fixed64 to bytes; below int64
 returns-7 : tie.Need-returns-7
 returns-7 c =
     let m = c .before in
@@ -44,7 +44,7 @@ returns-7 c =
     (λ u.
     ⊎-elim
     (λ w. meant-high (a .kind) (a .v) (omega (arith, w .1 .left)) (c .match .rest .0 .1) (c .match .rest .1) (w .1 .left))
-    (λ w. meant-15-16 (a .kind) (a .v) (omega (arith, u .1 .left)) (c .match .rest .0 .1) (c .match .rest .1) (u .1 .left) (omega (arith, w .left)))
+    (λ w. meant-sfixed (a .kind) (a .v) (omega (arith, u .1 .left)) (c .match .rest .0 .1) (c .match .rest .1) (u .1 .left) (omega (arith, w .left)))
     (m .before .if3 .came))
     (λ u.
     ⊎-elim

@@ -7,7 +7,7 @@ use borrow.Author.Needs.{needs}
 use lib.ListN.{length, drop}
 use Rattle.spec.specs.Base.{Took}
 use Rattle.spec.specs.Varint.{tag}
-use Rattle.wire.specs.Answers.{told}
+use Rattle.wire.specs.Answers.{asRead}
 use Rattle.skip.proofs.DocumentTurn.{Here, start, finish, bad-tag, bounds, opens, too-many, closes, none-open, value, lost}
 use Rattle.skip.proofs.document.is_run.Statement.{statement}
 use Rattle.skip.proofs.document.is_run.Tie as tie
@@ -23,7 +23,7 @@ tagged : (c : tie.After-known-told Inv-loop μ-loop) →
     let i = c .before .before .before .before in
     let v = c .before .value .given in
     Took (v .0 .0) (v .0 .1 .0 - i .before .loop .at) ≡ tag (drop (i .before .loop .at) (i .before .before .before .args .s .now))
-tagged c = ap (told _) (sym (c .before .value .given .1)) ∙ c .before .before .before .tag-at .ensures
+tagged c = ap (asRead _) (sym (c .before .value .given .1)) ∙ c .before .before .before .tag-at .ensures
 
 here : (c : tie.After-known-told Inv-loop μ-loop) →
     let b = c .before .before .before .before .before in Here (b .before .before .args .s .now) (b .loop .numbers) (b .loop .n) (b .loop .at)
@@ -33,7 +33,7 @@ loop-holds : tie.Need-loop-holds Inv-loop μ-loop
 loop-holds c = start _ _ refl
 
 returns : tie.Need-returns Inv-loop μ-loop
-returns c = let g = c .before .before in bad-tag (g .before .before .loop .inv) _ (g .before .loop-test .taken) (ap (told _) (sym (c .enum-told .given .1)) ∙ g .tag-at .ensures)
+returns c = let g = c .before .before in bad-tag (g .before .before .loop .inv) _ (g .before .loop-test .taken) (ap (asRead _) (sym (c .enum-told .given .1)) ∙ g .tag-at .ensures)
 
 quick-value-requires : tie.Need-quick-value-requires Inv-loop μ-loop
 quick-value-requires c κs = bounds (here c) _ _ (tagged c) .inside

@@ -9,7 +9,7 @@ use Rattle.spec.specs.Base.{Took}
 use Rattle.spec.specs.Varint.{tag}
 use Rattle.spec.specs.Skip.{innerGroup}
 use Rattle.spec.proofs.SkipLaws.{group-too-deep, group-entered, no-group}
-use Rattle.wire.specs.Answers.{told}
+use Rattle.wire.specs.Answers.{asRead}
 use Rattle.skip.specs.Passed.{behind, atEnd}
 use Rattle.skip.proofs.PastLaws.{refused-behind}
 use Rattle.skip.proofs.GroupTurn.{Here, refused, bounds, closes, lost, lost-value, onward, value, ends-refused, ends-closed}
@@ -85,7 +85,7 @@ tagged : (t : ℕ) (c : skip-group-lts.After-known-told (skip-group-claims t) (s
     let i = c .before .before .before .before in
     let v = c .before .f .given in
     Took (v .0 .0) (v .0 .1 .0 - i .before .loop .at) ≡ tag (drop (i .before .loop .at) (i .before .before .before .args .s .now))
-tagged t c = ap (told _) (sym (c .before .f .given .1)) ∙ c .before .before .before .tag-at .ensures
+tagged t c = ap (asRead _) (sym (c .before .f .given .1)) ∙ c .before .before .before .tag-at .ensures
 
 here : (t : ℕ) (c : skip-group-lts.After-known-told (skip-group-claims t) (skip-group-at t) skip-group.Post skip-group-Inv-loop skip-group-μ-loop) →
     let b = c .before .before .before .before .before in
@@ -189,7 +189,7 @@ skip-group-enum-known-f-2 t c = search needs
 skip-group-returns-4 : (t : ℕ) → skip-group-lts.Need-returns-4 (skip-group-claims t) (skip-group-at t) skip-group.Post skip-group-Inv-loop skip-group-μ-loop
 skip-group-returns-4 t c =
     let g = c .before .before .before in
-    refused (g .before .before .loop .inv) _ (g .before .loop-test .taken) (ap (told _) (sym (c .before .f2 .given .1)) ∙ g .tag-at .ensures)
+    refused (g .before .before .loop .inv) _ (g .before .loop-test .taken) (ap (asRead _) (sym (c .before .f2 .given .1)) ∙ g .tag-at .ensures)
 
 skip-group-returns-5 : (t : ℕ) → skip-group-lts.Need-returns-5 (skip-group-claims t) (skip-group-at t) skip-group.Post skip-group-Inv-loop skip-group-μ-loop
 skip-group-returns-5 t c = ends-refused (c .before .before .loop .inv) (c .before .loop-test .left) (c .if2 .taken)

@@ -1,4 +1,4 @@
--- `skip::unknown_or_group::skip_field_for_tag` meets its contract: 11, then 3, then what the field says. Assumes nothing.
+-- `skip::unknown_or_group::skip_field_for_tag` meets its contract: too many bytes, then a bad tag, then what the field says. Assumes nothing.
 use mathlib.Core.Path.{sym, ap, _∙_}
 use borrow.Author.Needs.{needs}
 use Rattle.spec.proofs.SkipLaws.{skip-field}

@@ -7,6 +7,7 @@ use mathlib.Core.Bool.{true}
 use mathlib.Core.List.{List, _++_}
 use native.Mathlib.Omega.{arith}
 use lib.ListN.{getD}
+use Rattle.spec.specs.Record.{stride}
 use Rattle.spec.specs.Writing.{tagOf}
 use Rattle.write.specs.Backward.{at, leadOf}
 use Rattle.write.proofs.InnerLaws.{values, ran-values, run, ran-run}
@@ -29,10 +30,10 @@ use Rattle.write.proofs.bytes.+put_inner+put_run.{statement}
 use Rattle.write.proofs.bytes.+put_inner+put_run.Tie.{close}
 
 abbrev μ-put-inner : Measures 4 put-inner-kinds.ps ℕ
-μ-put-inner κs a = a .1 .1 .1 .1 .1 .0 - 6 * a .1 .1 .1 .1 .0 + 1
+μ-put-inner κs a = a .1 .1 .1 .1 .1 .0 - stride * a .1 .1 .1 .1 .0 + 1
 
 abbrev μ-put-run : Measures 4 put-run-kinds.ps ℕ
-μ-put-run κs a = a .1 .1 .1 .1 .1 .0 - 6 * a .1 .1 .1 .1 .0
+μ-put-run κs a = a .1 .1 .1 .1 .1 .0 - stride * a .1 .1 .1 .1 .0
 
 abbrev put-inner-at : ℕ → In 4 put-inner-kinds.ps
 put-inner-at t = and 4 put-inner-kinds.ps (is 4 put-inner-kinds.ps μ-put-inner t) put-inner.Pre
@@ -118,8 +119,8 @@ put-run-returns : (t : ℕ) → put-run-lts.Need-returns (put-run-claims t) (put
 put-run-returns t c = ran-to (c .before .before .before .before .before .before .before .pre .1) (c .before .before .before .loop .inv) (c .before .before .loop-test .taken) (c .if1 .taken)
 
 -- nothing lies in a record at the run's own depth
-alone : (list payload : List ℕ) (b p : ℕ) → tagOf true (at list (b / 6)) ++ leadOf list payload b (p - p) ≡ tagOf true (at list (b / 6)) ++ leadOf list payload b 0
-alone list payload b p = let none : p - p ≡ 0 = omega arith in ap (λ (n : ℕ). tagOf true (at list (b / 6)) ++ leadOf list payload b n) none
+alone : (list payload : List ℕ) (b p : ℕ) → tagOf true (at list (b / stride)) ++ leadOf list payload b (p - p) ≡ tagOf true (at list (b / stride)) ++ leadOf list payload b 0
+alone list payload b p = let none : p - p ≡ 0 = omega arith in ap (λ (n : ℕ). tagOf true (at list (b / stride)) ++ leadOf list payload b n) none
 
 put-run-put-leaf-requires : (t : ℕ) → put-run-lts.Need-put-leaf-requires (put-run-claims t) (put-run-at t) put-run.Post put-run-Inv-loop put-run-μ-loop
 put-run-put-leaf-requires t c κs =
@@ -127,7 +128,7 @@ put-run-put-leaf-requires t c κs =
     let a = e .before .before .before .before .before .before .before .args in
     let l = e .before .before .before .loop in
     let x = none-in (turned t e) (omega (arith, c .before .if2 .taken)) in
-    (e .before .before .before .before .before .before .before .pre .1 .types, here (turned t e) x, room-as (alone (a .list .now) (a .payload .now) (l .b - 6) (l .p)) (room (turned t e) x))
+    (e .before .before .before .before .before .before .before .pre .1 .types, here (turned t e) x, room-as (alone (a .list .now) (a .payload .now) (l .b - stride) (l .p)) (room (turned t e) x))
 
 put-run-loop-less : (t : ℕ) → put-run-lts.Need-loop-less (put-run-claims t) (put-run-at t) put-run.Post put-run-Inv-loop put-run-μ-loop
 put-run-loop-less t c = omega (arith, c .before .before .before .before .before .before .before .loop-test .taken)
@@ -138,7 +139,7 @@ put-run-loop-again t c =
     let a = e .before .before .before .before .before .before .before .args in
     let l = e .before .before .before .loop in
     again (turned t e) (none-in (turned t e) (omega (arith, c .before .before .before .before .if2 .taken)))
-    (stored-as (sym (alone (a .list .now) (a .payload .now) (l .b - 6) (l .p))) (c .before .before .put-leaf .ensures))
+    (stored-as (sym (alone (a .list .now) (a .payload .now) (l .b - stride) (l .p))) (c .before .before .put-leaf .ensures))
 
 put-run-add-put-inner : (t : ℕ) → put-run-lts.Need-add-put-inner (put-run-claims t) (put-run-at t) put-run.Post put-run-Inv-loop put-run-μ-loop
 put-run-add-put-inner t c = omega (arith, fits (turned t (c .before .before)) (omega (arith, c .before .if2 .left, c .before .before .if1 .left)))
@@ -147,7 +148,7 @@ put-run-put-inner-requires : (t : ℕ) → put-run-lts.Need-put-inner-requires (
 put-run-put-inner-requires t c κs =
     let e = c .before .before in
     let a = e .before .before .before .before .before .before .before .args in
-    let more : a .depth < getD (a .list .now) (e .before .before .before .loop .b - 6) 0 = omega (arith, c .before .if2 .left, e .if1 .left) in
+    let more : a .depth < getD (a .list .now) (e .before .before .before .loop .b - stride) 0 = omega (arith, c .before .if2 .left, e .if1 .left) in
     (omega (arith, e .before .before .before .before .before .before .before .pre .0, level-falls (turned t e) more), (inner-run (turned t e) more, inner-in (turned t e) more))
 
 put-run-sub-b : (t : ℕ) → put-run-lts.Need-sub-b (put-run-claims t) (put-run-at t) put-run.Post put-run-Inv-loop put-run-μ-loop

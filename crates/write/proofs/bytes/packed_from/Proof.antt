@@ -7,9 +7,11 @@ use mathlib.Core.List.{List}
 use native.Mathlib.Omega.{arith}
 use borrow.Author.Tests.{eq-eqb, ne-eqb}
 use lib.ListN.{length, getD}
+use Rattle.spec.specs.Names.{kindColumn, numberColumn, packedHead}
+use Rattle.spec.specs.Record.{stride}
 use Rattle.spec.specs.Base.{if_then_else_}
 use Rattle.spec.proofs.VarintLaws.{lower-or-not}
-use Rattle.write.specs.Backward.{depthAt, kindAt, start, Upto, Inner, isPacked}
+use Rattle.write.specs.Backward.{depthAt, kindAt, start, Upto, Inner, isPacked, numberBack, kindBack}
 use Rattle.write.proofs.SpanLaws.{start-le, start-over, start-low}
 use Rattle.write.proofs.InnerLaws.{value, depth}
 use Rattle.write.proofs.bytes.packed_from.Statement.{statement}
@@ -17,31 +19,31 @@ use Rattle.write.proofs.bytes.packed_from.Tie as tie
 
 -- the loop is at the place b, in the run
 record Back (list : List ℕ) (d upto b : ℕ) : Type 0 where
-  six : b ≡ 6 * (b / 6)
-  low : start list d (upto / 6) ≤ b / 6
+  aligned : b ≡ stride * (b / stride)
+  low : start list d (upto / stride) ≤ b / stride
   high : b ≤ upto
 
 module _ {list : List ℕ} {d upto : ℕ} (u : Upto list upto) (n : Inner list d upto) where
   abbrev s : ℕ
-  s = start list d (upto / 6)
+  s = start list d (upto / stride)
 
   begin : Back list d upto upto
-  begin = record { six = u .six; low = start-le list d (upto / 6); high = omega arith }
+  begin = record { aligned = u .aligned; low = start-le list d (upto / stride); high = omega arith }
 
-  upto-is : kindAt list (s - 1) ≢ 20 → upto ≡ (if isPacked list d upto then 6 * s else upto)
-  upto-is h = simp (ne-eqb (kindAt list (s - 1)) 20 h)
+  upto-is : kindAt list (s - 1) ≢ packedHead → upto ≡ (if isPacked list d upto then stride * s else upto)
+  upto-is h = simp (ne-eqb (kindAt list (s - 1)) packedHead h)
 
   module _ {b : ℕ} (h : Back list d upto b) where
     abbrev j : ℕ
-    j = (b - 6) / 6
+    j = (b - stride) / stride
 
-    near : (6 ≤ b) × (j < upto / 6) × (b / 6 ≡ j + 1) × (b - 6 ≡ 6 * j)
-    near = (omega (arith, n .head, h .low, h .six), omega (arith, n .head, h .low, h .six, h .high, u .six), omega (arith, n .head, h .low, h .six), omega (arith, n .head, h .low, h .six))
+    near : (stride ≤ b) × (j < upto / stride) × (b / stride ≡ j + 1) × (b - stride ≡ stride * j)
+    near = (omega (arith, n .head, h .low, h .aligned), omega (arith, n .head, h .low, h .aligned, h .high, u .aligned), omega (arith, n .head, h .low, h .aligned), omega (arith, n .head, h .low, h .aligned))
 
-    read : (k m : ℕ) → m ≡ 6 * j + k → getD list m 0 ≡ getD list (6 * j + k) 0
+    read : (k m : ℕ) → m ≡ stride * j + k → getD list m 0 ≡ getD list (stride * j + k) 0
     read k m e = ap (λ (i : ℕ). getD list i 0) e
 
-    depth-is : getD list (b - 6) 0 ≡ depthAt list j
+    depth-is : getD list (b - stride) 0 ≡ depthAt list j
     depth-is = ap (λ (i : ℕ). getD list i 0) (near .3)
 
     -- where the record before b is no less deep, it is of the run
@@ -49,41 +51,41 @@ module _ {list : List ℕ} {d upto : ℕ} (u : Upto list upto) (n : Inner list d
     in-run l =
         lower-or-not j s
         (λ b. let same : s - 1 ≡ j = omega (arith, h .low, near .2) in
-        absurd (omega (arith, subst (λ (i : ℕ). depthAt list i < d) same (start-low list d (upto / 6) (n .head)))))
+        absurd (omega (arith, subst (λ (i : ℕ). depthAt list i < d) same (start-low list d (upto / stride) (n .head)))))
         (λ b. b)
 
     out-run : depthAt list j < d → s ≡ j + 1
     out-run l =
         lower-or-not j s
         (λ b. omega (arith, h .low, near .2))
-        (λ b. absurd (omega (arith, start-over list d (upto / 6) j b (near .1))))
+        (λ b. absurd (omega (arith, start-over list d (upto / stride) j b (near .1))))
 
-    again : getD list (b - 6) 0 ≡ d → Back list d upto (b - 6)
-    again e = record { six = near .3; low = in-run (omega (arith, depth-is)); high = omega (arith, h .high) }
+    again : getD list (b - stride) 0 ≡ d → Back list d upto (b - stride)
+    again e = record { aligned = near .3; low = in-run (omega (arith, depth-is)); high = omega (arith, h .high) }
 
     -- another number, another depth
-    other-number : getD list (b - 6) 0 ≡ d → getD list (b - 5) 0 ≢ getD list (upto - 5) 0 → kindAt list (s - 1) ≢ 20
+    other-number : getD list (b - stride) 0 ≡ d → getD list (b - numberBack) 0 ≢ getD list (upto - numberBack) 0 → kindAt list (s - 1) ≢ packedHead
     other-number e f packed =
-        let l : ℕ = upto / 6 - 1 in
-        let last : upto - 5 ≡ 6 * l + 1 = omega (arith, u .six, n .some) in
+        let l : ℕ = upto / stride - 1 in
+        let last : upto - numberBack ≡ stride * l + numberColumn = omega (arith, u .aligned, n .some) in
         let here = value u n packed j (in-run (omega (arith, depth-is))) (near .1) .number in
         let there = value u n packed l (omega (arith, n .some)) (omega (arith, n .some)) .number in
-        f (read 1 (b - 5) (omega (arith, near .0, near .3)) ∙ here ∙ sym there ∙ sym (ap (λ (i : ℕ). getD list i 0) last))
+        f (read numberColumn (b - numberBack) (omega (arith, near .0, near .3)) ∙ here ∙ sym there ∙ sym (ap (λ (i : ℕ). getD list i 0) last))
 
-    other-depth : getD list (b - 6) 0 ≢ d → d ≤ getD list (b - 6) 0 → kindAt list (s - 1) ≢ 20
+    other-depth : getD list (b - stride) 0 ≢ d → d ≤ getD list (b - stride) 0 → kindAt list (s - 1) ≢ packedHead
     other-depth e l packed = e (depth-is ∙ depth u n packed j (in-run (omega (arith, depth-is))) (near .1))
 
-    found : getD list (b - 4) 0 ≡ 20 → getD list (b - 6) 0 < d → b ≡ (if isPacked list d upto then 6 * s else upto)
+    found : getD list (b - kindBack) 0 ≡ packedHead → getD list (b - stride) 0 < d → b ≡ (if isPacked list d upto then stride * s else upto)
     found e l =
         let same : s - 1 ≡ j = omega (arith, out-run (omega (arith, depth-is))) in
-        let k : kindAt list (s - 1) ≡ 20 = ap (kindAt list) same ∙ sym (read 2 (b - 4) (omega (arith, near .0, near .3))) ∙ e in
-        simp (eq-eqb (kindAt list (s - 1)) 20 k) (omega (arith, out-run (omega (arith, depth-is)), near .2, h .six))
+        let k : kindAt list (s - 1) ≡ packedHead = ap (kindAt list) same ∙ sym (read kindColumn (b - kindBack) (omega (arith, near .0, near .3))) ∙ e in
+        simp (eq-eqb (kindAt list (s - 1)) packedHead k) (omega (arith, out-run (omega (arith, depth-is)), near .2, h .aligned))
 
-    other-kind : getD list (b - 4) 0 ≢ 20 → getD list (b - 6) 0 ≢ d → kindAt list (s - 1) ≢ 20
+    other-kind : getD list (b - kindBack) 0 ≢ packedHead → getD list (b - stride) 0 ≢ d → kindAt list (s - 1) ≢ packedHead
     other-kind e f packed =
-        lower-or-not (getD list (b - 6) 0) d
+        lower-or-not (getD list (b - stride) 0) d
         (λ l. let same : s - 1 ≡ j = omega (arith, out-run (omega (arith, depth-is))) in
-        e (read 2 (b - 4) (omega (arith, near .0, near .3)) ∙ sym (ap (kindAt list) same) ∙ packed))
+        e (read kindColumn (b - kindBack) (omega (arith, near .0, near .3)) ∙ sym (ap (kindAt list) same) ∙ packed))
         (λ l. other-depth f l packed)
 
 abbrev Inv-loop : tie.InvT-loop
@@ -93,7 +95,7 @@ abbrev μ-loop : tie.MeasureT-loop
 μ-loop list depth upto number b₀ b = b
 
 sub-number : tie.Need-sub-number Inv-loop μ-loop
-sub-number c = omega (arith, c .pre .0 .six, c .pre .1 .some)
+sub-number c = omega (arith, c .pre .0 .aligned, c .pre .1 .some)
 
 mul-number : tie.Need-mul-number Inv-loop μ-loop
 mul-number c = omega (arith, c .pre .0 .inside)
@@ -101,13 +103,13 @@ mul-number c = omega (arith, c .pre .0 .inside)
 shared-slice-read-number : tie.Need-shared-slice-read-number Inv-loop μ-loop
 shared-slice-read-number c =
     let o = c .before in
-    omega (arith, o .pre .0 .six, o .pre .1 .some, o .pre .0 .inside)
+    omega (arith, o .pre .0 .aligned, o .pre .1 .some, o .pre .0 .inside)
 
 loop-holds : tie.Need-loop-holds Inv-loop μ-loop
 loop-holds c = begin (c .before .pre .0) (c .before .pre .1)
 
 -- where the loop is
-inside : (c : tie.At-loop Inv-loop μ-loop) → (6 ≤ c .loop .b) × (c .loop .b ≤ length (c .before .before .args .list .now))
+inside : (c : tie.At-loop Inv-loop μ-loop) → (stride ≤ c .loop .b) × (c .loop .b ≤ length (c .before .before .args .list .now))
 inside c =
     let o = c .before .before in
     (near (o .pre .0) (o .pre .1) (c .loop .inv) .0, omega (arith, c .loop .inv .high, o .pre .0 .inside))

@@ -8,6 +8,8 @@ use mathlib.Core.List.{List, [], _++_, append-nil}
 use native.Mathlib.Omega.{arith}
 use borrow.Author.Needs.{needs}
 use lib.ListN.{length, getD, length-append}
+use Rattle.spec.specs.Record.{stride}
+use Rattle.spec.specs.Names.{delimitedWire, kindColumn, startColumn, stopColumn, valueColumn}
 use Rattle.spec.specs.Base.{part}
 use Rattle.spec.specs.Varint.{encode}
 use Rattle.spec.specs.Kind.{shape, wire, isScalar}
@@ -20,8 +22,8 @@ use Rattle.write.proofs.bytes.put_body.Tie as tie
 -- the number of a scalar
 plain-is : (c : tie.Then1) →
     let a = c .before .before .before .before .before .args in
-    let kind = getD (a .list .now) (a .b + 2) 0 in
-    (isScalar (shape kind) ≡ true) × (plain (shape kind) (getD (a .list .now) (a .b + 3) 0) ≡ leadOf (a .list .now) (a .payload .now) (a .b) 0)
+    let kind = getD (a .list .now) (a .b + kindColumn) 0 in
+    (isScalar (shape kind) ≡ true) × (plain (shape kind) (getD (a .list .now) (a .b + valueColumn) 0) ≡ leadOf (a .list .now) (a .payload .now) (a .b) 0)
 plain-is c =
     let o = c .before .before .before .before .before in
     number-lead (o .pre .0) 0 (λ e. c .if1 .taken (o .pre .1 ∙ e))
@@ -30,30 +32,30 @@ put-plain-requires : tie.Need-put-plain-requires
 put-plain-requires c κs =
     let o = c .before .before .before .before .before .before .before in
     let x = plain-is (c .before .before) in
-    (o .pre .1 ∙ ap wire (sym (read (o .pre .0) 2)), x .0, room-as (sym (x .1)) (o .pre .2))
+    (o .pre .1 ∙ ap wire (sym (read (o .pre .0) kindColumn)), x .0, room-as (sym (x .1)) (o .pre .2))
 
 returns : tie.Need-returns
 returns c = stored-as (plain-is (c .before .before .before .before .before) .1) (c .before .before .put-plain .ensures)
 
 -- the content of a record that is no head
 no-head : (c : tie.After-is-head) → not (c .is-head .result) ≡ true →
-    let a = c .before .before .before .before .before .before .args in isHead (kindAt (a .list .now) (a .b / 6)) ≡ false
+    let a = c .before .before .before .before .before .before .args in isHead (kindAt (a .list .now) (a .b / stride)) ≡ false
 no-head c e =
     let o = c .before .before .before .before .before .before in
-    sym (ap isHead (read (o .pre .0) 2)) ∙ sym (c .is-head .ensures) ∙ sym (Bool·not-not (c .is-head .result)) ∙ ap not e
+    sym (ap isHead (read (o .pre .0) kindColumn)) ∙ sym (c .is-head .ensures) ∙ sym (Bool·not-not (c .is-head .result)) ∙ ap not e
 
-delimited : (c : tie.After-is-head) → let a = c .before .before .before .before .before .before .args in wire (kindAt (a .list .now) (a .b / 6)) ≡ 2
+delimited : (c : tie.After-is-head) → let a = c .before .before .before .before .before .before .args in wire (kindAt (a .list .now) (a .b / stride)) ≡ delimitedWire
 delimited c =
     let o = c .before .before .before .before .before .before in
-    let two : o .args .w ≡ 2 = omega arith in
-    sym (o .pre .1) ∙ two
+    let is-delimited : o .args .w ≡ delimitedWire = omega arith in
+    sym (o .pre .1) ∙ is-delimited
 
 put-content-requires : tie.Need-put-content-requires
 put-content-requires c κs =
     let t = c .before .before .before in
     let o = t .before .before .before .before .before .before .before in
     let x = content-at (o .pre .0) (delimited (t .before)) (no-head (t .before) (t .if2 .taken)) in
-    let a : List ℕ = part (getD (o .args .list .now) (o .args .b + 4) 0) (getD (o .args .list .now) (o .args .b + 5) 0) (o .args .payload .now) in (
+    let a : List ℕ = part (getD (o .args .list .now) (o .args .b + startColumn) 0) (getD (o .args .list .now) (o .args .b + stopColumn) 0) (o .args .payload .now) in (
       x .0,
       x .1,
       record {
@@ -79,12 +81,12 @@ content c =
     (λ w.
     let none = no-head (c .before) (w .0 .taken) in
     let x = content-at (o .pre .0) (delimited (c .before)) none in
-    let new : List ℕ = part (getD (a .list .now) (a .b + 4) 0) (getD (a .list .now) (a .b + 5) 0) (a .payload .now) in
+    let new : List ℕ = part (getD (a .list .now) (a .b + startColumn) 0) (getD (a .list .now) (a .b + stopColumn) 0) (a .payload .now) in
     let s : Stored new (a .p) (a .out .now) (c .if2 .q) (c .if2 .out) = stored-at (w .4 .ensures) (w .8) (w .7) in
     let count : a .p - c .if2 .q ≡ length new = omega (arith, s .starts) in
     record { new = new; stored = s; is = ap (λ (m : ℕ). encode m ++ new) count ∙ sym (x .2 0); before = omega (arith, s .starts) })
     (λ w.
-    let is = sym (ap isHead (read (o .pre .0) 2)) ∙ sym (c .before .is-head .ensures) ∙ sym (Bool·not-not (c .before .is-head .result)) ∙ ap not (w .0 .left) in
+    let is = sym (ap isHead (read (o .pre .0) kindColumn)) ∙ sym (c .before .is-head .ensures) ∙ sym (Bool·not-not (c .before .is-head .result)) ∙ ap not (w .0 .left) in
     let count : a .p - c .if2 .q ≡ 0 = omega (arith, w .2) in
     record {
       new = [];

@@ -6,17 +6,17 @@ use native.Mathlib.Omega.{arith}
 use borrow.Author.Needs.{needs}
 use lib.ListN.{length}
 use Rattle.spec.specs.Varint.{encode}
-use Rattle.write.specs.Backward.{four}
+use Rattle.write.specs.Backward.{four, nineBytes, fourGroups}
 use Rattle.write.proofs.EncodeLaws.{encode-four}
 use Rattle.write.proofs.StoreLaws.{stored-then, stored-as}
 use Rattle.write.proofs.bytes.put_far.Statement.{statement}
 use Rattle.write.proofs.bytes.put_far.Tie as tie
 
-whole : (v : ℕ) → 72057594037927936 ≤ v → v < 2 ^ 64 → encode v ≡ four v ++ (four (v / 268435456) ++ encode (v / 268435456 / 268435456))
-whole v h l = encode-four v (omega arith) l ∙ ap (λ (x : List ℕ). four v ++ x) (encode-four (v / 268435456) (omega arith) (omega arith))
+whole : (v : ℕ) → nineBytes ≤ v → v < 2 ^ 64 → encode v ≡ four v ++ (four (v / fourGroups) ++ encode (v / fourGroups / fourGroups))
+whole v h l = encode-four v (omega arith) l ∙ ap (λ (x : List ℕ). four v ++ x) (encode-four (v / fourGroups) (omega arith) (omega arith))
 
 -- how many bytes go before p
-parts : (c : tie.Start) → 8 + length (encode (c .args .v / 268435456 / 268435456)) ≤ c .args .p
+parts : (c : tie.Start) → 8 + length (encode (c .args .v / fourGroups / fourGroups)) ≤ c .args .p
 parts c = omega (arith, c .pre .1 .few, ap length (whole (c .args .v) (c .pre .0) (omega arith)))
 
 put-varint-requires : tie.Need-put-varint-requires

@@ -1,5 +1,5 @@
 -- `write::bytes::put_fixed64` meets its contract: eight bytes are the low four and the high four. Assumes nothing.
-use Prim.Native.Nat.{ℕ, _/_}
+use Prim.Native.Nat.{ℕ, _/_, _^_}
 use mathlib.Core.Path.{_≡_, ap}
 use mathlib.Core.List.{_++_}
 use native.Mathlib.Omega.{arith}
@@ -9,9 +9,9 @@ use Rattle.write.proofs.StoreLaws.{stored-then, stored-as}
 use Rattle.write.proofs.bytes.put_fixed64.Statement.{statement}
 use Rattle.write.proofs.bytes.put_fixed64.Tie as tie
 
-halves : (v : ℕ) → little 4 v ++ little 4 (v / 4294967296) ≡ little 8 v
+halves : (v : ℕ) → little 4 v ++ little 4 (v / 2 ^ 32) ≡ little 8 v
 unfolding little
-halves v = let high : v / 4294967296 ≡ v / 256 / 256 / 256 / 256 = omega arith in ap (λ (w : ℕ). little 4 v ++ little 4 w) high
+halves v = let high : v / 2 ^ 32 ≡ v / 256 / 256 / 256 / 256 = omega arith in ap (λ (w : ℕ). little 4 v ++ little 4 w) high
 
 put-fixed32-requires : tie.Need-put-fixed32-requires
 unfolding little

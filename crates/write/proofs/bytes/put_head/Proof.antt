@@ -3,6 +3,7 @@ use Prim.Native.Nat.{_+_, _*_, _-_, _≤_}
 use native.Mathlib.Omega.{arith}
 use borrow.Author.Needs.{needs}
 use lib.ListN.{length, getD, length-append}
+use Rattle.spec.specs.Names.{kindColumn, numberColumn}
 use Rattle.spec.specs.Varint.{encode}
 use Rattle.write.proofs.StoreLaws.{stored-then}
 use Rattle.write.proofs.bytes.put_head.Statement.{statement}
@@ -11,11 +12,11 @@ use Rattle.write.proofs.bytes.put_head.Tie as tie
 -- how many bytes the tag and the length take
 parts : (c : tie.Start) →
     let a = c .args in
-    let tag = encode (getD (a .list .now) (a .b + 1) 0 * 8 + getD (a .table .now) (getD (a .list .now) (a .b + 2) 0) 0) in
+    let tag = encode (getD (a .list .now) (a .b + numberColumn) 0 * 8 + getD (a .table .now) (getD (a .list .now) (a .b + kindColumn) 0) 0) in
     length tag + length (encode (a .mark - a .p)) ≤ a .p
 parts c =
     let a = c .args in
-    omega (arith, c .pre .2 .few, length-append (encode (getD (a .list .now) (a .b + 1) 0 * 8 + getD (a .table .now) (getD (a .list .now) (a .b + 2) 0) 0)) (encode (a .mark - a .p)))
+    omega (arith, c .pre .2 .few, length-append (encode (getD (a .list .now) (a .b + numberColumn) 0 * 8 + getD (a .table .now) (getD (a .list .now) (a .b + kindColumn) 0) 0)) (encode (a .mark - a .p)))
 
 put-varint-requires : tie.Need-put-varint-requires
 put-varint-requires c κs =

@@ -8,7 +8,7 @@ use borrow.Author.Needs.{needs}
 use lib.ListN.{length, drop}
 use lib.Seq.{take-all}
 use Rattle.spec.specs.Base.{filled}
-use Rattle.spec.specs.Record.{recordsOf}
+use Rattle.spec.specs.Record.{recordsOf, stride}
 use Rattle.spec.specs.Writing.{written}
 use Rattle.spec.proofs.VarintLaws.{lower-or-not}
 use Rattle.spec.proofs.WritingLaws.{bytesIn}
@@ -21,17 +21,17 @@ use Rattle.write.proofs.bytes.put_list.Statement.{statement}
 use Rattle.write.proofs.bytes.put_list.Tie as tie
 
 module _ (list payload : List ℕ) (passed : Passed (recordsOf list)) where
-  from-front : start list 0 (length list / 6) ≡ 0
+  from-front : start list 0 (length list / stride) ≡ 0
   from-front =
-      lower-or-not 0 (start list 0 (length list / 6)) (λ l. absurd (omega (arith, start-low list 0 (length list / 6) l))) (λ l. omega arith)
+      lower-or-not 0 (start list 0 (length list / stride)) (λ l. absurd (omega (arith, start-low list 0 (length list / stride) l))) (λ l. omega arith)
 
-  all-records : span list 0 (length list / 6) ≡ recordsOf list
+  all-records : span list 0 (length list / stride) ≡ recordsOf list
   unfolding span
-  all-records = take-all (length list / 6 - 0) (recordsOf list) (omega (arith, whole list passed, records-count (length list) list (omega arith) .1))
+  all-records = take-all (length list / stride - 0) (recordsOf list) (omega (arith, whole list passed, records-count (length list) list (omega arith) .1))
 
   list-bytes : runBytes true list payload 0 (length list) ≡ written payload (recordsOf list)
   unfolding written
-  list-bytes = ap (λ (i : ℕ). bytesIn true payload (span list i (length list / 6))) from-front ∙ ap (λ x. bytesIn true payload x) all-records
+  list-bytes = ap (λ (i : ℕ). bytesIn true payload (span list i (length list / stride))) from-front ∙ ap (λ x. bytesIn true payload x) all-records
 
 -- from the front, what the output holds
 stored-front : {new out now : List ℕ} {p q : ℕ} → Stored new p out q now → p ≡ length new → now ≡ filled new out
@@ -47,7 +47,7 @@ put-run-requires c κs =
     record {
       types = o .pre .0;
       given = o .pre .1;
-      ends = record { passed = passed; six = whole (a .list .now) passed; inside = omega arith };
+      ends = record { passed = passed; aligned = whole (a .list .now) passed; inside = omega arith };
       room = record { few = omega (arith, ap length (list-bytes (a .list .now) (a .payload .now) passed), o .pre .2); inside = o .pre .3 };
     }
 

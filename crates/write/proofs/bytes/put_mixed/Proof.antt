@@ -7,13 +7,13 @@ use native.Mathlib.Omega.{arith}
 use borrow.Author.Needs.{needs}
 use lib.ListN.{length, set, length-set}
 use Rattle.spec.specs.Varint.{encode}
-use Rattle.write.specs.Backward.{Stored}
+use Rattle.write.specs.Backward.{Stored, threeBytes, fourBytes, twoGroups}
 use Rattle.write.proofs.EncodeLaws.{encode-ends, encode-two, encode-three}
 use Rattle.write.proofs.StoreLaws.{stored-as, stored-end, stored-three}
 use Rattle.write.proofs.bytes.put_mixed.Statement.{statement}
 use Rattle.write.proofs.bytes.put_mixed.Tie as tie
 
-high : (v : ℕ) → v < 2097152 → v / 16384 % 256 ≡ v / 128 / 128
+high : (v : ℕ) → v < fourBytes → v / twoGroups % 256 ≡ v / 128 / 128
 high v f = omega arith
 
 -- three bytes before p, the last of which are the varint of v
@@ -21,25 +21,25 @@ module _ (v p z q a b c : ℕ) (out : List ℕ) (h : 3 ≤ p) (l : p ≤ length 
   abbrev three : List ℕ
   three = set (set (set out (p - 3) a) (p - 2) b) (p - 1) c
 
-  of-one : v < 128 → z ≡ v * 16384 → q ≡ p - 1 → c ≡ z / 16384 % 256 → Stored (encode v) p out q three
+  of-one : v < 128 → z ≡ v * twoGroups → q ≡ p - 1 → c ≡ z / twoGroups % 256 → Stored (encode v) p out q three
   of-one f e g i =
       let last : c ≡ v = omega arith in
       stored-end (a ∷ b ∷ []) (encode v) (stored-as (ap (λ (x : List ℕ). a ∷ b ∷ x) (ap (λ (n : ℕ). n ∷ []) last ∙ sym (encode-ends v f))) (stored-three a b c p out h l))
       (omega (arith, ap length (encode-ends v f)))
 
-  of-two : 128 ≤ v → v < 16384 → z ≡ v * 128 → q ≡ p - 2 → b ≡ (z / 128 % 128 + 128) % 256 → c ≡ z / 16384 % 256 → Stored (encode v) p out q three
+  of-two : 128 ≤ v → v < threeBytes → z ≡ v * 128 → q ≡ p - 2 → b ≡ (z / 128 % 128 + 128) % 256 → c ≡ z / twoGroups % 256 → Stored (encode v) p out q three
   of-two k f e g j i =
       let first : b ≡ 128 + v % 128 = omega arith in
       let last : c ≡ v / 128 = omega arith in
       let same : b ∷ c ∷ [] ≡ encode v = ap₂ (λ (x y : ℕ). x ∷ y ∷ []) first last ∙ sym (encode-two v k f) in
       stored-end (a ∷ []) (encode v) (stored-as (ap (_∷_ a) same) (stored-three a b c p out h l)) (omega (arith, ap length same))
 
-  of-three : 16384 ≤ v → v < 2097152 → z ≡ v → q ≡ p - 3 → a ≡ (z % 128 + 128) % 256 → b ≡ (z / 128 % 128 + 128) % 256 → c ≡ z / 16384 % 256 → Stored (encode v) p out q three
+  of-three : threeBytes ≤ v → v < fourBytes → z ≡ v → q ≡ p - 3 → a ≡ (z % 128 + 128) % 256 → b ≡ (z / 128 % 128 + 128) % 256 → c ≡ z / twoGroups % 256 → Stored (encode v) p out q three
   of-three k f e g m j i =
       let first : a ≡ 128 + v % 128 = omega arith in
       let middle : b ≡ (v / 128 % 128 + 128) % 256 = j ∙ ap (λ (n : ℕ). (n / 128 % 128 + 128) % 256) e in
       let next : b ≡ 128 + v / 128 % 128 = omega (arith, middle) in
-      let last : c ≡ v / 128 / 128 = i ∙ ap (λ (n : ℕ). n / 16384 % 256) e ∙ high v f in
+      let last : c ≡ v / 128 / 128 = i ∙ ap (λ (n : ℕ). n / twoGroups % 256) e ∙ high v f in
       let same : a ∷ b ∷ c ∷ [] ≡ encode v = ap₂ (λ (x y : ℕ). x ∷ y ∷ c ∷ []) first next ∙ ap (λ (n : ℕ). (128 + v % 128) ∷ (128 + v / 128 % 128) ∷ n ∷ []) last ∙ sym (encode-three v k f) in
       stored-end [] (encode v) (stored-as same (stored-three a b c p out h l)) (omega (arith, ap length same))
 

@@ -4,8 +4,9 @@ use mathlib.Core.Path.{ap}
 use native.Mathlib.Omega.{arith}
 use borrow.Author.Needs.{needs}
 use lib.ListN.{length, getD, length-append}
+use Rattle.spec.specs.Names.{kindColumn, numberColumn, valueColumn}
 use Rattle.spec.specs.Varint.{encode}
-use Rattle.rt.specs.SizeParts.{coded}
+use Rattle.sizes.specs.SizeParts.{coded}
 use Rattle.write.proofs.StoreLaws.{stored-then, stored-as}
 use Rattle.write.proofs.bytes.put_number.Statement.{statement}
 use Rattle.write.proofs.bytes.put_number.Tie as tie
@@ -13,10 +14,10 @@ use Rattle.write.proofs.bytes.put_number.Tie as tie
 -- how many bytes go before p
 parts : (c : tie.Start) →
     let a = c .args in
-    length (encode (getD (a .list .now) (a .b + 1) 0 * 8 + a .w)) + length (encode (coded (getD (a .list .now) (a .b + 2) 0) (getD (a .list .now) (a .b + 3) 0))) ≤ a .p
+    length (encode (getD (a .list .now) (a .b + numberColumn) 0 * 8 + a .w)) + length (encode (coded (getD (a .list .now) (a .b + kindColumn) 0) (getD (a .list .now) (a .b + valueColumn) 0))) ≤ a .p
 parts c =
     let a = c .args in
-    omega (arith, c .pre .3 .few, length-append (encode (getD (a .list .now) (a .b + 1) 0 * 8 + a .w)) (encode (coded (getD (a .list .now) (a .b + 2) 0) (getD (a .list .now) (a .b + 3) 0))))
+    omega (arith, c .pre .3 .few, length-append (encode (getD (a .list .now) (a .b + numberColumn) 0 * 8 + a .w)) (encode (coded (getD (a .list .now) (a .b + kindColumn) 0) (getD (a .list .now) (a .b + valueColumn) 0))))
 
 put-value-requires : tie.Need-put-value-requires
 put-value-requires c κs =

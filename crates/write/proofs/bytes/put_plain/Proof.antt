@@ -2,6 +2,7 @@
 use mathlib.Core.Path.{_≡_, sym, ap, _∙_}
 use borrow.Author.Needs.{needs}
 use borrow.Author.Tests.{lt-ltb, le-ltb}
+use Rattle.spec.specs.Names.{fixed32Wire, fixed64Wire}
 use Rattle.spec.specs.Varint.{encode, little}
 use Rattle.spec.specs.Kind.{shape}
 use Rattle.write.specs.Backward.{plain}
@@ -13,19 +14,19 @@ use Rattle.write.proofs.bytes.put_plain.Tie as tie
 varint : (c : tie.After-coded-of) → let a = c .before .before .before .before .args in plain (shape (a .kind)) (a .v) ≡ encode (c .coded-of .result)
 varint c =
     let o = c .before .before .before .before in
-    simp (lt-ltb (o .args .w) 1 (c .before .before .if1 .taken)) at (plain-by-wire (o .args .kind) (o .args .v) (o .args .w) (o .pre .1) (o .pre .0))
+    simp (lt-ltb (o .args .w) fixed64Wire (c .before .before .if1 .taken)) at (plain-by-wire (o .args .kind) (o .args .v) (o .args .w) (o .pre .1) (o .pre .0))
     ∙ ap encode (sym (c .coded-of .ensures))
 
 eight : (c : tie.Then2) → let a = c .before .before .before .args in plain (shape (a .kind)) (a .v) ≡ little 8 (a .v)
 eight c =
     let o = c .before .before .before in
-    simp (le-ltb (o .args .w) 1 (c .before .if1 .left), lt-ltb (o .args .w) 5 (c .if2 .taken)) at
+    simp (le-ltb (o .args .w) fixed64Wire (c .before .if1 .left), lt-ltb (o .args .w) fixed32Wire (c .if2 .taken)) at
     (plain-by-wire (o .args .kind) (o .args .v) (o .args .w) (o .pre .1) (o .pre .0))
 
 four : (c : tie.Else2) → let a = c .before .before .before .args in plain (shape (a .kind)) (a .v) ≡ little 4 (a .v)
 four c =
     let o = c .before .before .before in
-    simp (le-ltb (o .args .w) 1 (c .before .if1 .left), le-ltb (o .args .w) 5 (c .if2 .left)) at
+    simp (le-ltb (o .args .w) fixed64Wire (c .before .if1 .left), le-ltb (o .args .w) fixed32Wire (c .if2 .left)) at
     (plain-by-wire (o .args .kind) (o .args .v) (o .args .w) (o .pre .1) (o .pre .0))
 
 put-varint-requires : tie.Need-put-varint-requires

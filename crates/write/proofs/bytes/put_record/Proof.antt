@@ -5,6 +5,8 @@ use mathlib.Core.Bool.{true}
 use native.Mathlib.Omega.{arith}
 use borrow.Author.Needs.{needs}
 use lib.ListN.{length, length-append}
+use Rattle.spec.specs.Names.{numberColumn}
+use Rattle.spec.specs.Record.{stride}
 use Rattle.spec.specs.Writing.{tagOf}
 use Rattle.write.specs.Backward.{at, leadOf}
 use Rattle.write.proofs.StoreLaws.{stored-then, stored-as}
@@ -16,9 +18,9 @@ element-copy-out-w : tie.Need-element-copy-out-w
 element-copy-out-w c = kind-small (c .before .before .before .before .before .pre .1)
 
 -- how many bytes go before p
-parts : (c : tie.Start) → let a = c .args in let own = at (a .list .now) (a .b / 6) in let body = leadOf (a .list .now) (a .payload .now) (a .b) 0 in
+parts : (c : tie.Start) → let a = c .args in let own = at (a .list .now) (a .b / stride) in let body = leadOf (a .list .now) (a .payload .now) (a .b) 0 in
     length (tagOf true own) + length body ≤ a .p
-parts c = omega (arith, c .pre .2 .few, length-append (tagOf true (at (c .args .list .now) (c .args .b / 6))) (leadOf (c .args .list .now) (c .args .payload .now) (c .args .b) 0))
+parts c = omega (arith, c .pre .2 .few, length-append (tagOf true (at (c .args .list .now) (c .args .b / stride))) (leadOf (c .args .list .now) (c .args .payload .now) (c .args .b) 0))
 
 put-body-requires : tie.Need-put-body-requires
 put-body-requires c κs =
@@ -28,7 +30,7 @@ put-body-requires c κs =
 mul-tag : tie.Need-mul-tag
 mul-tag c =
     let o = c .before .before .before .before .before .before .before .before .before .before in
-    omega (arith, read (o .pre .1) 1, fit (o .pre .1) .small)
+    omega (arith, read (o .pre .1) numberColumn, fit (o .pre .1) .small)
 
 cast-tag : tie.Need-cast-tag
 cast-tag c =
@@ -38,7 +40,7 @@ cast-tag c =
 add-tag : tie.Need-add-tag
 add-tag c =
     let o = c .before .before .before .before .before .before .before .before .before .before in
-    omega (arith, read (o .pre .1) 1, fit (o .pre .1) .small, byte-at (o .pre .1) (o .pre .0))
+    omega (arith, read (o .pre .1) numberColumn, fit (o .pre .1) .small, byte-at (o .pre .1) (o .pre .0))
 
 put-varint-requires : tie.Need-put-varint-requires
 put-varint-requires c κs =

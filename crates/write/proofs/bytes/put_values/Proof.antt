@@ -7,12 +7,13 @@ use mathlib.Core.List.{List, _++_}
 use native.Mathlib.Omega.{arith}
 use borrow.Author.Needs.{needs}
 use lib.ListN.{length, getD, length-append}
+use Rattle.spec.specs.Names.{recordKinds, valueColumn}
 use Rattle.spec.specs.Kind.{Shape, one, other, shape, wire, isScalar}
-use Rattle.spec.specs.Record.{Record}
+use Rattle.spec.specs.Record.{Record, stride}
 use Rattle.spec.specs.Writing.{body}
 use Rattle.spec.proofs.WritingLaws.{bytesIn}
 use Rattle.spec.proofs.RunLaws.{kind-small}
-use Rattle.write.specs.Backward.{Stored, Room, depthAt, kindAt, at, span, plain, Values}
+use Rattle.write.specs.Backward.{Stored, Room, depthAt, kindAt, at, span, plain, Values, kindBack, valueBack}
 use Rattle.write.proofs.StoreLaws.{stored-then, stored-as, stored-none}
 use Rattle.write.proofs.SpanLaws.{bytes-none, bytes-at, bytes-from}
 use Rattle.write.proofs.CheckedLaws.{fit-at}
@@ -27,82 +28,82 @@ body-plain (other x) payload r inner h = absurd (false≢true h)
 
 -- the bytes of the values from index j on
 abbrev rest : List ℕ → List ℕ → ℕ → ℕ → List ℕ
-rest list payload upto j = bytesIn false payload (span list j (upto / 6))
+rest list payload upto j = bytesIn false payload (span list j (upto / stride))
 
 -- those from the place b on are stored
 record Back (list payload out : List ℕ) (first upto pos b p : ℕ) (now : List ℕ) : Type 0 where
-  six : b ≡ 6 * (b / 6)
+  aligned : b ≡ stride * (b / stride)
   low : first ≤ b
   high : b ≤ upto
-  stored : Stored (rest list payload upto (b / 6)) pos out p now
+  stored : Stored (rest list payload upto (b / stride)) pos out p now
 
 module _ {table list payload out : List ℕ} {first upto pos : ℕ} (v : Values table list payload out first upto pos) where
   abbrev kind : ℕ
-  kind = getD list (upto - 4) 0
+  kind = getD list (upto - kindBack) 0
 
-  rest-cons : (j : ℕ) → first / 6 ≤ j → j < upto / 6 → plain (shape kind) (getD list (6 * j + 3) 0) ++ rest list payload upto (j + 1) ≡ rest list payload upto j
+  rest-cons : (j : ℕ) → first / stride ≤ j → j < upto / stride → plain (shape kind) (getD list (stride * j + valueColumn) 0) ++ rest list payload upto (j + 1) ≡ rest list payload upto j
   rest-cons j h l =
       let k : kindAt list j ≡ kind = v .kinds j h l in
-      let next : j + 1 < upto / 6 → depthAt list (j + 1) ≤ depthAt list j = λ b. omega (arith, v .depths j h l, v .depths (j + 1) (omega arith) b) in
-      sym (bytes-at list j (j + 1) (upto / 6) (omega arith) (omega arith) (omega (arith, v .ends .six, v .ends .inside)) next false payload
+      let next : j + 1 < upto / stride → depthAt list (j + 1) ≤ depthAt list j = λ b. omega (arith, v .depths j h l, v .depths (j + 1) (omega arith) b) in
+      sym (bytes-at list j (j + 1) (upto / stride) (omega arith) (omega arith) (omega (arith, v .ends .aligned, v .ends .inside)) next false payload
       (λ i g b. absurd (omega arith))
       ∙ ap (λ (x : List ℕ). x ++ rest list payload upto (j + 1))
       (body-plain (shape (kindAt list j)) payload (at list j) _ (ap (λ (n : ℕ). isScalar (shape n)) k ∙ v .scalar)
-      ∙ ap (λ (n : ℕ). plain (shape n) (getD list (6 * j + 3) 0)) k))
+      ∙ ap (λ (n : ℕ). plain (shape n) (getD list (stride * j + valueColumn) 0)) k))
 
-  rest-few : (j : ℕ) → first / 6 ≤ j → j < upto / 6 → length (rest list payload upto j) ≤ pos
+  rest-few : (j : ℕ) → first / stride ≤ j → j < upto / stride → length (rest list payload upto j) ≤ pos
   rest-few j h l =
       omega (
         arith,
         v .room .few,
-        bytes-from list false payload (depthAt list (first / 6)) (first / 6) j (upto / 6) h (omega arith)
-            (omega (arith, v .ends .six, v .ends .inside)) (λ i g b. omega (arith, v .depths i g (omega arith))) (λ b. omega (arith, v .depths j h l)),
+        bytes-from list false payload (depthAt list (first / stride)) (first / stride) j (upto / stride) h (omega arith)
+            (omega (arith, v .ends .aligned, v .ends .inside)) (λ i g b. omega (arith, v .depths i g (omega arith))) (λ b. omega (arith, v .depths j h l)),
       )
 
   start : Back list payload out first upto pos upto pos out
   start = record {
-    six = v .ends .six;
+    aligned = v .ends .aligned;
     low = omega (arith, v .some);
     high = omega arith;
-    stored = stored-as (sym (bytes-none list false payload (upto / 6) (upto / 6) (omega arith))) (stored-none pos out);
+    stored = stored-as (sym (bytes-none list false payload (upto / stride) (upto / stride) (omega arith))) (stored-none pos out);
   }
 
-  kind-few : kind < 25
+  kind-few : kind < recordKinds
   kind-few =
-      let j : ℕ = upto / 6 - 1 in
-      let k : kindAt list j ≡ kind = v .kinds j (omega (arith, v .six, v .ends .six, v .some)) (omega (arith, v .six, v .ends .six, v .some)) in
-      omega (arith, kind-small (fit-at list (v .ends .passed) j (omega (arith, v .six, v .ends .six, v .some, v .ends .inside))))
+      let j : ℕ = upto / stride - 1 in
+      let k : kindAt list j ≡ kind = v .kinds j (omega (arith, v .aligned, v .ends .aligned, v .some)) (omega (arith, v .aligned, v .ends .aligned, v .some)) in
+      omega (arith, kind-small (fit-at list (v .ends .passed) j (omega (arith, v .aligned, v .ends .aligned, v .some, v .ends .inside))))
 
   type : getD table kind 0 ≡ wire kind
   type = type-of table kind (v .types) kind-few
 
   module _ {b p : ℕ} {now : List ℕ} (h : Back list payload out first upto pos b p now) (more : first < b) where
     abbrev j : ℕ
-    j = (b - 6) / 6
+    j = (b - stride) / stride
 
-    near : (first / 6 ≤ j) × (j < upto / 6) × (b / 6 ≡ j + 1) × (b - 6 ≡ 6 * j)
+    near : (first / stride ≤ j) × (j < upto / stride) × (b / stride ≡ j + 1) × (b - stride ≡ stride * j)
     near =
-        (omega (arith, v .six, h .six), omega (arith, v .six, h .six, h .high, v .ends .six), omega (arith, v .six, h .six), omega (arith, v .six, h .six))
+        (omega (arith, v .aligned, h .aligned), omega (arith, v .aligned, h .aligned, h .high, v .ends .aligned), omega (arith, v .aligned, h .aligned), omega (arith, v .aligned, h .aligned))
 
-    value : getD list (b - 3) 0 ≡ getD list (6 * j + 3) 0
-    value = let there : b - 3 ≡ 6 * j + 3 = omega (arith, near .2, near .3, v .six, h .six) in ap (λ (n : ℕ). getD list n 0) there
+    value : getD list (b - valueBack) 0 ≡ getD list (stride * j + valueColumn) 0
+    value = let there : b - valueBack ≡ stride * j + valueColumn = omega (arith, near .2, near .3, v .aligned, h .aligned) in ap (λ (n : ℕ). getD list n 0) there
 
-    whole : plain (shape kind) (getD list (b - 3) 0) ++ rest list payload upto (b / 6) ≡ rest list payload upto j
+    whole : plain (shape kind) (getD list (b - valueBack) 0) ++ rest list payload upto (b / stride) ≡ rest list payload upto j
     whole =
-        ap (λ (n : ℕ). plain (shape kind) n ++ rest list payload upto (b / 6)) value
-        ∙ ap (λ (n : ℕ). plain (shape kind) (getD list (6 * j + 3) 0) ++ rest list payload upto n) (near .2)
+        ap (λ (n : ℕ). plain (shape kind) n ++ rest list payload upto (b / stride)) value
+        ∙ ap (λ (n : ℕ). plain (shape kind) (getD list (stride * j + valueColumn) 0) ++ rest list payload upto n) (near .2)
         ∙ rest-cons j (near .0) (near .1)
 
-    room : Room (plain (shape kind) (getD list (b - 3) 0)) p now
+    room : Room (plain (shape kind) (getD list (b - valueBack) 0)) p now
     room = record {
-      few = omega (arith, rest-few j (near .0) (near .1), ap length whole, length-append (plain (shape kind) (getD list (b - 3) 0)) (rest list payload upto (b / 6)), h .stored .starts);
+      few = omega (arith, rest-few j (near .0) (near .1), ap length whole, length-append (plain (shape kind) (getD list (b - valueBack) 0)) (rest list payload upto (b / stride)), h .stored .starts);
       inside = omega (arith, h .stored .starts, v .room .inside, h .stored .long);
     }
 
-    again : {q : ℕ} {next : List ℕ} → Stored (plain (shape kind) (getD list (b - 3) 0)) p now q next → Back list payload out first upto pos (b - 6) q next
+    again : {q : ℕ} {next : List ℕ} → Stored (plain (shape kind) (getD list (b - valueBack) 0)) p now q next → Back list payload out first upto pos (b - stride) q next
     again s = record {
-      six = near .3;
-      low = omega (arith, near .0, near .3, v .six);
+      aligned = near .3;
+      low = omega (arith, near .0, near .3, v .aligned);
       high = omega (arith, h .high);
       stored = stored-as whole (stored-then (h .stored) s);
     }
@@ -116,12 +117,12 @@ abbrev μ-loop : tie.MeasureT-loop
 sub-kind : tie.Need-sub-kind Inv-loop μ-loop
 sub-kind c =
     let v = c .before .before .before .pre in
-    omega (arith, v .six, v .ends .six, v .some)
+    omega (arith, v .aligned, v .ends .aligned, v .some)
 
 shared-slice-read-kind : tie.Need-shared-slice-read-kind Inv-loop μ-loop
 shared-slice-read-kind c =
     let v = c .before .before .before .before .pre in
-    omega (arith, v .six, v .ends .six, v .some, v .ends .inside)
+    omega (arith, v .aligned, v .ends .aligned, v .some, v .ends .inside)
 
 element-copy-out-w : tie.Need-element-copy-out-w Inv-loop μ-loop
 element-copy-out-w c = kind-few (c .before .before .before .before .pre)
@@ -167,7 +168,7 @@ returns c =
     let l = c .before in
     let a = l .before .before .before .before .before .before .args in
     let done : l .loop .b ≡ a .first = omega (arith, l .loop .inv .low) in
-    stored-as (ap (λ (n : ℕ). rest (a .list .now) (a .payload .now) (a .upto) (n / 6)) done) (l .loop .inv .stored)
+    stored-as (ap (λ (n : ℕ). rest (a .list .now) (a .payload .now) (a .upto) (n / stride)) done) (l .loop .inv .stored)
 
 same-length : tie.Need-same-length Inv-loop μ-loop
 same-length c = c .before .loop .inv .stored .long

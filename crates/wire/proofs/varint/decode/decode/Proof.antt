@@ -5,7 +5,7 @@ use mathlib.Core.Path.{sym, ap, _∙_}
 use native.Mathlib.Omega.{arith}
 use lib.ListN.{drop}
 use borrow.Author.Needs.{needs}
-use Rattle.wire.specs.Answers.{told}
+use Rattle.wire.specs.Answers.{asRead}
 use Rattle.wire.proofs.VarintSteps.{begin, ended, either-width, one-byte, first-byte, stopped}
 use Rattle.wire.proofs.varint.decode.decode.Statement.{statement}
 use Rattle.wire.proofs.varint.decode.decode.Tie as tie
@@ -34,7 +34,7 @@ returns-3 c =
     stopped {s = a .s .now} {at = a .at} (omega arith) (first-byte (suc (suc (suc k))) last _ _ (omega arith) (first .if2 .left)) (c .if4 .taken)
 
 returns-5 : tie.Need-returns-5
-returns-5 c = let k = c .before in ap (told _) (sym (k .f .given .1)) ∙ k .before .before .long .ensures
+returns-5 c = let k = c .before in ap (asRead _) (sym (k .f .given .1)) ∙ k .before .before .long .ensures
 
 pub decode-spec : {M : Type 1} → statement M
 decode-spec =

@@ -1,10 +1,11 @@
 -- `wire::varint::encode::store_eight` meets its contract: the law of a byte behind which another stands, eight times.
 -- Assumes nothing.
-use Prim.Native.Nat.{_+_, _<_}
+use Prim.Native.Nat.{ℕ, _+_, _<_}
+use mathlib.Core.List.{List}
 use native.Mathlib.Omega.{arith}
 use mathlib.Core.Path.{refl}
 use borrow.Author.Needs.{needs}
-use lib.ListN.{length, length-set}
+use lib.ListN.{length, set, length-set}
 use Rattle.wire.proofs.VarintStores.{Storing, bytes-beyond, storing-begins, stored-byte}
 use Rattle.wire.proofs.varint.encode.store_eight.Statement.{statement}
 use Rattle.wire.proofs.varint.encode.store_eight.Tie as tie
@@ -13,47 +14,70 @@ use Rattle.wire.proofs.varint.encode.store_eight.Tie as tie
 eight : (c : tie.Start) → c .args .at + 8 < length (c .args .out .now)
 eight c = omega (arith, c .pre .1, bytes-beyond 8 (c .args .value) (c .pre .0) (omega arith))
 
+-- each place is inside, whatever was stored before it
+module _ (out : List ℕ) (at : ℕ) (room : at + 8 < length out) where
+  in-1 : (b1 : ℕ) → at + 1 < length (set out at b1)
+  in-1 b1 = simp length-set (omega arith)
+
+  in-2 : (b1 b2 : ℕ) → at + 2 < length (set (set out at b1) (at + 1) b2)
+  in-2 b1 b2 = simp length-set (omega arith)
+
+  in-3 : (b1 b2 b3 : ℕ) → at + 3 < length (set (set (set out at b1) (at + 1) b2) (at + 2) b3)
+  in-3 b1 b2 b3 = simp length-set (omega arith)
+
+  in-4 : (b1 b2 b3 b4 : ℕ) → at + 4 < length (set (set (set (set out at b1) (at + 1) b2) (at + 2) b3) (at + 3) b4)
+  in-4 b1 b2 b3 b4 = simp length-set (omega arith)
+
+  in-5 : (b1 b2 b3 b4 b5 : ℕ) → at + 5 < length (set (set (set (set (set out at b1) (at + 1) b2) (at + 2) b3) (at + 3) b4) (at + 4) b5)
+  in-5 b1 b2 b3 b4 b5 = simp length-set (omega arith)
+
+  in-6 : (b1 b2 b3 b4 b5 b6 : ℕ) → at + 6 < length (set (set (set (set (set (set out at b1) (at + 1) b2) (at + 2) b3) (at + 3) b4) (at + 4) b5) (at + 5) b6)
+  in-6 b1 b2 b3 b4 b5 b6 = simp length-set (omega arith)
+
+  in-7 : (b1 b2 b3 b4 b5 b6 b7 : ℕ) → at + 7 < length (set (set (set (set (set (set (set out at b1) (at + 1) b2) (at + 2) b3) (at + 3) b4) (at + 4) b5) (at + 5) b6) (at + 6) b7)
+  in-7 b1 b2 b3 b4 b5 b6 b7 = simp length-set (omega arith)
+
 slice-write-out : tie.Need-slice-write-out
 slice-write-out c = omega (arith, eight c)
 
 slice-write-out-2 : tie.Need-slice-write-out-2
-slice-write-out-2 c = simp length-set (omega (arith, eight c))
+slice-write-out-2 c = in-1 (c .args .out .now) (c .args .at) (eight c) _
 
 add-out-3 : tie.Need-add-out-3
 add-out-3 c = omega (arith, eight c)
 
 slice-write-out-3 : tie.Need-slice-write-out-3
-slice-write-out-3 c = simp length-set (omega (arith, eight c))
+slice-write-out-3 c = in-2 (c .args .out .now) (c .args .at) (eight c) _ _
 
 add-out-5 : tie.Need-add-out-5
 add-out-5 c = omega (arith, eight c)
 
 slice-write-out-4 : tie.Need-slice-write-out-4
-slice-write-out-4 c = simp length-set (omega (arith, eight c))
+slice-write-out-4 c = in-3 (c .args .out .now) (c .args .at) (eight c) _ _ _
 
 add-out-7 : tie.Need-add-out-7
 add-out-7 c = omega (arith, eight c)
 
 slice-write-out-5 : tie.Need-slice-write-out-5
-slice-write-out-5 c = simp length-set (omega (arith, eight c))
+slice-write-out-5 c = in-4 (c .args .out .now) (c .args .at) (eight c) _ _ _ _
 
 add-out-9 : tie.Need-add-out-9
 add-out-9 c = omega (arith, eight c)
 
 slice-write-out-6 : tie.Need-slice-write-out-6
-slice-write-out-6 c = simp length-set (omega (arith, eight c))
+slice-write-out-6 c = in-5 (c .args .out .now) (c .args .at) (eight c) _ _ _ _ _
 
 add-out-11 : tie.Need-add-out-11
 add-out-11 c = omega (arith, eight c)
 
 slice-write-out-7 : tie.Need-slice-write-out-7
-slice-write-out-7 c = simp length-set (omega (arith, eight c))
+slice-write-out-7 c = in-6 (c .args .out .now) (c .args .at) (eight c) _ _ _ _ _ _
 
 add-out-13 : tie.Need-add-out-13
 add-out-13 c = omega (arith, eight c)
 
 slice-write-out-8 : tie.Need-slice-write-out-8
-slice-write-out-8 c = simp length-set (omega (arith, eight c))
+slice-write-out-8 c = in-7 (c .args .out .now) (c .args .at) (eight c) _ _ _ _ _ _ _
 
 add-out-15 : tie.Need-add-out-15
 add-out-15 c = omega (arith, eight c)

@@ -4,6 +4,7 @@ use mathlib.Core.Path.{sym, ap, _∙_}
 use native.Mathlib.Omega.{arith}
 use borrow.Author.Needs.{needs}
 use borrow.Author.Tests.{le-leb, lt-leb}
+use Rattle.spec.specs.Names.{fixed32Wire, largestNumber}
 use Rattle.spec.specs.Base.{Took}
 use Rattle.spec.specs.Varint.{makeTag}
 use Rattle.wire.specs.FormatTold.{wireTold}
@@ -19,7 +20,7 @@ returns-2 : tie.Need-returns-2
 unfolding makeTag
 returns-2 c =
     let n : ℕ = c .before .before .args .number in
-    simp (le-leb 1 n (omega arith), lt-leb n 536870911 (omega arith))
+    simp (le-leb 1 n (omega arith), lt-leb n largestNumber (omega arith))
 
 returns-3 : tie.Need-returns-3
 unfolding makeTag
@@ -27,7 +28,7 @@ returns-3 c =
     let n : ℕ = c .before .before .before .before .before .before .args .number in
     let w : ℕ = c .before .before .before .before .before .before .args .wire-type in
     let is = known w (c .before .known .given .0 .0) (sym (ap wireTold (c .before .known .given .1)) ∙ c .before .before .before .new .ensures) in
-    simp (le-leb 1 n (omega arith), le-leb n 536870911 (omega arith), le-leb w 5 (is .0)) (ap (λ (x : ℕ). Took (n * 8 + x) 0) (is .1))
+    simp (le-leb 1 n (omega arith), le-leb n largestNumber (omega arith), le-leb w fixed32Wire (is .0)) (ap (λ (x : ℕ). Took (n * 8 + x) 0) (is .1))
 
 returns-4 : tie.Need-returns-4
 unfolding makeTag
@@ -35,7 +36,7 @@ returns-4 c =
     let n : ℕ = c .before .before .before .before .before .args .number in
     let w : ℕ = c .before .before .before .before .before .args .wire-type in
     let is = unknown w (sym (ap wireTold (c .enum-told .given .1)) ∙ c .before .before .new .ensures) in
-    simp (le-leb 1 n (omega arith), le-leb n 536870911 (omega arith), lt-leb w 5 is)
+    simp (le-leb 1 n (omega arith), le-leb n largestNumber (omega arith), lt-leb w fixed32Wire is)
 
 pub make-spec : {M : Type 1} → statement M
 make-spec =

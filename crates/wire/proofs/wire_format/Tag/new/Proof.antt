@@ -4,6 +4,7 @@ use mathlib.Core.Path.{_≡_, sym, ap, _∙_}
 use native.Mathlib.Omega.{arith}
 use borrow.Author.Needs.{needs}
 use borrow.Author.Tests.{le-leb, lt-leb}
+use Rattle.spec.specs.Names.{fixed32Wire}
 use Rattle.spec.specs.Base.{Took, require}
 use Rattle.wire.specs.FormatTold.{wireNumber, wireTold}
 use Rattle.wire.proofs.FormatLaws.{known, unknown}
@@ -15,7 +16,7 @@ unfolding require
 returns c =
     let v : ℕ = c .before .before .before .before .before .args .value in
     let is = known (v % 8) (c .before .before .wire-type .given .0 .0) (sym (ap wireTold (c .before .before .wire-type .given .1)) ∙ c .before .before .before .before .new .ensures) in
-    simp (le-leb (v % 8) 5 (is .0), lt-leb 1 (v / 8) (omega arith))
+    simp (le-leb (v % 8) fixed32Wire (is .0), lt-leb 1 (v / 8) (omega arith))
 
 returns-2 : tie.Need-returns-2
 unfolding require
@@ -23,14 +24,14 @@ returns-2 c =
     let v : ℕ = c .before .before .before .before .before .args .value in
     let is = known (v % 8) (c .before .before .wire-type .given .0 .0) (sym (ap wireTold (c .before .before .wire-type .given .1)) ∙ c .before .before .before .before .new .ensures) in
     let whole : v / 8 * 8 + wireNumber (c .before .before .wire-type .given .0 .0) ≡ v = omega (arith, is .1) in
-    simp (le-leb (v % 8) 5 (is .0), le-leb 1 (v / 8) (omega arith)) (ap (λ (x : ℕ). Took x 0) whole)
+    simp (le-leb (v % 8) fixed32Wire (is .0), le-leb 1 (v / 8) (omega arith)) (ap (λ (x : ℕ). Took x 0) whole)
 
 returns-3 : tie.Need-returns-3
 unfolding require
 returns-3 c =
     let v : ℕ = c .before .before .before .args .value in
     let is = unknown (v % 8) (sym (ap wireTold (c .enum-told .given .1)) ∙ c .before .before .new .ensures) in
-    simp (lt-leb (v % 8) 5 is)
+    simp (lt-leb (v % 8) fixed32Wire is)
 
 pub new-spec : {M : Type 1} → statement M
 new-spec =

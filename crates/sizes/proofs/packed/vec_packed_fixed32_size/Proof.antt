@@ -1,0 +1,16 @@
+-- `sizes::packed::vec_packed_fixed32_size` meets its contract: each value takes 4 bytes. Assumes nothing.
+use mathlib.Core.Path.{refl, _∙_}
+use borrow.Author.Needs.{needs}
+use Rattle.spec.specs.Names.{fixed32Kind}
+use Rattle.spec.specs.Kind.{shapes, shape}
+use Rattle.spec.specs.Sizes.{scalarSize, valueSize}
+use Rattle.sizes.proofs.PackedLaws.{packed-same-plain}
+use Rattle.sizes.proofs.packed.vec_packed_fixed32_size.Statement.{statement}
+use Rattle.sizes.proofs.packed.vec_packed_fixed32_size.Tie as tie
+
+returns : tie.Need-returns
+unfolding shapes shape scalarSize valueSize
+returns c = c .packed-fixed .ensures ∙ packed-same-plain fixed32Kind (c .before .before .args .number) 4 (λ v. refl) (c .before .before .args .values .now)
+
+pub vec-packed-fixed32-size-spec : {M : Type 1} → statement M
+vec-packed-fixed32-size-spec = tie.close (tie.spec (λ c κs. search needs) returns)
