@@ -6,7 +6,7 @@ use printing::put_listing;
 use read::Answer;
 use spec::columns::ENTRY_STRIDE;
 use spec::columns::STRIDE;
-use spec::kinds;
+use spec::kinds32;
 use spec::refusals;
 
 // The buffer of the input: the longest message, and one byte by which a longer one is known.
@@ -18,22 +18,6 @@ const ROOM: usize = 1024 * STRIDE;
 // The characters of the listing.
 const OUTPUT: usize = 65536;
 
-const FLOAT: u32 = kinds::FLOAT as u32;
-
-const INT32: u32 = kinds::INT32 as u32;
-
-const BOOL: u32 = kinds::BOOL as u32;
-
-const STRING: u32 = kinds::STRING as u32;
-
-const MESSAGE: u32 = kinds::MESSAGE as u32;
-
-const BYTES: u32 = kinds::BYTES as u32;
-
-const UINT32: u32 = kinds::UINT32 as u32;
-
-const SINT32: u32 = kinds::SINT32 as u32;
-
 // How many message types schema A has.
 const TYPES: u32 = 2;
 
@@ -41,47 +25,47 @@ const TYPES: u32 = 2;
 const SCHEMA: [u32; 9 * ENTRY_STRIDE] = [
     0,
     1,
-    INT32,
+    kinds32::INT32,
     0,
     0,
     0,
     2,
-    STRING,
+    kinds32::STRING,
     0,
     0,
     0,
     3,
-    MESSAGE,
+    kinds32::MESSAGE,
     0,
     1,
     0,
     4,
-    SINT32,
+    kinds32::SINT32,
     1,
     0,
     0,
     5,
-    FLOAT,
+    kinds32::FLOAT,
     0,
     0,
     0,
     7,
-    BOOL,
+    kinds32::BOOL,
     0,
     0,
     1,
     1,
-    UINT32,
+    kinds32::UINT32,
     0,
     0,
     1,
     2,
-    BYTES,
+    kinds32::BYTES,
     0,
     0,
     1,
     3,
-    MESSAGE,
+    kinds32::MESSAGE,
     0,
     1,
 ];

@@ -26,6 +26,7 @@ use skip::unknown_or_group::read_unknown_or_skip_group;
 use skip::unknown_or_group::skip_field_for_tag;
 use spec::refusals;
 use wire::put::Put;
+use wire::varint::LONGEST;
 use wire::varint::decode::decode_varint32;
 use wire::varint::decode::decode_varint64;
 use wire::varint::encode::put_varint64;
@@ -34,9 +35,6 @@ use wire::wire_format::Sized;
 use wire::wire_format::Tag;
 use wire::wire_format::Tagged;
 use wire::wire_format::WireType;
-
-// The most bytes of a varint.
-const LONGEST_VARINT: usize = 10;
 
 // `zenc32 PATTERN`: what stands for the number of this pattern.
 fn zenc32(value: u64) -> Answer {
@@ -136,7 +134,7 @@ fn put_front(bytes: &[u8], n: usize, out: &mut [u8]) -> usize {
 
 // `encode V`: the shortest varint.
 pub fn encode(value: u64, out: &mut [u8]) -> usize {
-    let mut bytes = [0u8; LONGEST_VARINT];
+    let mut bytes = [0u8; LONGEST];
     match put_varint64(value, &mut bytes, 0) {
         Put::Next(n) => put_front(&bytes, n, out),
         Put::NoRoom => 0,

@@ -6,42 +6,14 @@ use crate::answers::sized;
 use crate::signs::fits32;
 use crate::signs::signed;
 use crate::signs::signed32;
-use spec::kinds;
-
-const DOUBLE: u32 = kinds::DOUBLE as u32;
-
-const FLOAT: u32 = kinds::FLOAT as u32;
-
-const INT64: u32 = kinds::INT64 as u32;
-
-const UINT64: u32 = kinds::UINT64 as u32;
-
-const INT32: u32 = kinds::INT32 as u32;
-
-const FIXED32: u32 = kinds::FIXED32 as u32;
-
-const BOOL: u32 = kinds::BOOL as u32;
-
-const STRING: u32 = kinds::STRING as u32;
-
-const MESSAGE: u32 = kinds::MESSAGE as u32;
-
-const UINT32: u32 = kinds::UINT32 as u32;
-
-const ENUM: u32 = kinds::ENUM as u32;
-
-const SFIXED32: u32 = kinds::SFIXED32 as u32;
-
-const SINT32: u32 = kinds::SINT32 as u32;
-
-const SINT64: u32 = kinds::SINT64 as u32;
+use spec::kinds32;
 
 // Whether a pattern is a number of 32 bits, signed or not, as far as the kind has that width; bool is 0 or 1.
 fn fits(kind: u32, value: u64) -> bool {
     match kind {
-        FLOAT | FIXED32 | UINT32 => value <= 0xffff_ffff,
-        INT32 | ENUM | SFIXED32 | SINT32 => fits32(value),
-        BOOL => value <= 1,
+        kinds32::FLOAT | kinds32::FIXED32 | kinds32::UINT32 => value <= 0xffff_ffff,
+        kinds32::INT32 | kinds32::ENUM | kinds32::SFIXED32 | kinds32::SINT32 => fits32(value),
+        kinds32::BOOL => value <= 1,
         _ => true,
     }
 }
@@ -49,7 +21,7 @@ fn fits(kind: u32, value: u64) -> bool {
 // Whether it is a kind that a field of its own has.
 fn is_kind(kind: u32) -> bool {
     match kind {
-        DOUBLE..=STRING | MESSAGE..=SINT64 => true,
+        kinds32::DOUBLE..=kinds32::STRING | kinds32::MESSAGE..=kinds32::SINT64 => true,
         _ => false,
     }
 }
@@ -63,11 +35,11 @@ pub fn fieldsize(kind: u32, number: u32, value: u64) -> Answer {
         return bad();
     }
     match kind {
-        INT64 => one(sizes::int64_size(number, signed(value))),
-        UINT64 => one(sizes::uint64_size(number, value)),
-        INT32 | ENUM => one(sizes::int32_size(number, signed32(value))),
-        SINT32 => one(sizes::sint32_size(number, signed32(value))),
-        SINT64 => one(sizes::sint64_size(number, signed(value))),
+        kinds32::INT64 => one(sizes::int64_size(number, signed(value))),
+        kinds32::UINT64 => one(sizes::uint64_size(number, value)),
+        kinds32::INT32 | kinds32::ENUM => one(sizes::int32_size(number, signed32(value))),
+        kinds32::SINT32 => one(sizes::sint32_size(number, signed32(value))),
+        kinds32::SINT64 => one(sizes::sint64_size(number, signed(value))),
         _ => sized(sizes::field_size(kind, number, value)),
     }
 }
@@ -87,7 +59,7 @@ fn all_fit(kind: u32, values: &[u64]) -> bool {
 // Whether fields of this kind may be packed.
 fn is_packable(kind: u32) -> bool {
     match kind {
-        DOUBLE..=BOOL | UINT32..=SINT64 => true,
+        kinds32::DOUBLE..=kinds32::BOOL | kinds32::UINT32..=kinds32::SINT64 => true,
         _ => false,
     }
 }
