@@ -13,7 +13,7 @@ use Rattle.spec.specs.Varint.{zigzag}
 use Rattle.spec.specs.Kind.{Scalar, int32, uint32, uint64, bool, sint32, sint64, fixed32, sfixed32, fixed64, Shape, one, other, string, bytes, message, packed, startGroup, endGroup, nothing, shape, wire}
 use Rattle.spec.specs.Schema.{Schema, badSchema, lookup, unknownKind}
 use Rattle.spec.specs.Record.{Record, deeper}
-use Rattle.spec.specs.Reading.{Done, reading, after}
+use Rattle.spec.specs.Reading.{Mode, Done, readingAs, after}
 use Rattle.spec.specs.Writing.{bytesOf, written, Fine, listCheck, Wrote, writing}
 use Rattle.spec.specs.declared.Entry.{Entry}
 
@@ -25,8 +25,8 @@ pub data Fewer : List Entry → List Entry → Type 0 where
   keep : {e : Entry} {es fs : List Entry} → Fewer es fs → Fewer (e ∷ es) (e ∷ fs)
   leave-out : {e : Entry} {es fs : List Entry} → Fewer es fs → Fewer es (e ∷ fs)
 
+-- The counts of types may differ, as long as both are valid (`Given`).
 pub record Older (old new : Schema) : Type 0 where
-  pub same-types : old .types ≡ new .types
   pub fewer-entries : Fewer (old .entries) (new .entries)
 
 -- ---- what a record shows
@@ -138,16 +138,16 @@ pub record Given (old new : Schema) (payload : List ℕ) (rs : List Record) (roo
 
 -- What it promises: the list is written under the new schema, which gives the bytes s; the old one reads s without refusal, as a list; that list shows what is to
 -- be read, and has no more records than were written; and writing it under the old schema, with s for its payload, gives s again.
-pub record GoesOnward (old new : Schema) (payload : List ℕ) (rs : List Record) (room space : ℕ) (s : List ℕ) : Type 0 where
+pub record GoesOnward (mode : Mode) (old new : Schema) (payload : List ℕ) (rs : List Record) (room space : ℕ) (s : List ℕ) : Type 0 where
   pub list : List Record
   pub writes : writing new space payload rs ≡ Wrote s
-  pub reads : reading old room s ≡ after list Done
+  pub reads : readingAs mode old room s ≡ after list Done
   pub shows : map (seen s) list ≡ onward old payload rs
   pub no-more : length list ≤ length rs
   pub again : writing old space s list ≡ Wrote s
 
--- The demand. OnwardLaws.demand-three proves it.
+-- The demand, in every mode of reading. OnwardLaws.demand-three proves it.
 abbrev pub DemandThree : Type 0
 DemandThree =
-    (old new : Schema) (payload : List ℕ) (rs : List Record) (room space : ℕ)
-    → Given old new payload rs room space → GoesOnward old new payload rs room space (written payload rs)
+    (mode : Mode) (old new : Schema) (payload : List ℕ) (rs : List Record) (room space : ℕ)
+    → Given old new payload rs room space → GoesOnward mode old new payload rs room space (written payload rs)

@@ -16,7 +16,7 @@ use Rattle.spec.specs.Varint.{varint, fixed, tag, varint32, varint64}
 use Rattle.spec.specs.Utf8.{utf8}
 use Rattle.spec.specs.Kind.{Scalar, int32, uint32, uint64, bool, sint32, sint64, fixed32, sfixed32, fixed64, Shape, one, other, string, bytes, message, packed, startGroup, endGroup, nothing, shape, scalar}
 use Rattle.spec.specs.Skip.{content, plain, skipField, skipGroup, innerGroup, outerGroup}
-use Rattle.spec.specs.Reading.{Look, Field, Value, Message, Packed, Dropped, Fault, given, shaped, field, used}
+use Rattle.spec.specs.Reading.{Mode, Look, Field, Value, Message, Packed, Dropped, Fault, given, shaped, field, used}
 use Rattle.spec.proofs.Laws.{either-way, chosen, Takes, took, none, takes-tag}
 use Rattle.spec.proofs.SkipLaws.{takes-skipField, takes-skipGroup, group-step}
 use Rattle.spec.proofs.VarintLaws.{lower-or-not}
@@ -314,25 +314,26 @@ kept-behind f g n s u h (kept l e q) some =
 kept-behind f g n s u h faulty some = absurd (omega arith)
 
 -- by the shape of the field
-shaped-kept : (x : Shape) (depth inner m kind n : ℕ) (s u : List ℕ) → Kept n (shaped x depth inner m kind n) s u (shaped x depth inner m kind n s)
+shaped-kept : (mode : Mode) (x : Shape) (depth inner m kind n : ℕ) (s u : List ℕ) → Kept n (shaped mode x depth inner m kind n) s u (shaped mode x depth inner m kind n s)
 unfolding shaped used
-shaped-kept (one c) depth inner m kind n s u = kept-given n s u _ _ (λ v l. refl) (again-scalar c s u)
-shaped-kept (other string) depth inner m kind n s u = kept-string n s u _ utf8 _ (λ a z. refl) (content-found _ _ s)
-shaped-kept (other bytes) depth inner m kind n s u = kept-given n s u _ _ (λ a z. refl) (again-content _ _ s u)
-shaped-kept (other message) depth inner m kind n s u =
+shaped-kept mode (one c) depth inner m kind n s u = kept-given n s u _ _ (λ v l. refl) (again-scalar c s u)
+shaped-kept mode (other string) depth inner m kind n s u = kept-string n s u _ utf8 _ (λ a z. refl) (content-found _ _ s)
+shaped-kept mode (other bytes) depth inner m kind n s u = kept-given n s u _ _ (λ a z. refl) (again-content _ _ s u)
+shaped-kept mode (other message) depth inner m kind n s u =
     lower-or-not depth mostLevels
-    (λ c. kept-same n s u _ _ (λ x. message-head depth inner m kind n x c) (kept-given n s u _ _ (λ a z. refl) (again-content _ _ s u)))
-    (λ c. subst (Kept n _ s u) (sym (message-too-deep depth inner m kind n s c)) faulty)
-shaped-kept (other packed) depth inner m kind n s u = kept-given n s u _ _ (λ a z. refl) (again-content _ _ s u)
-shaped-kept (other startGroup) depth inner m kind n s u = kept-given n s u _ _ (λ v l. refl) (again-outerGroup depth s u)
-shaped-kept (other endGroup) depth inner m kind n s u = faulty
-shaped-kept (other nothing) depth inner m kind n s u = faulty
+    (λ c. kept-same n s u _ _ (λ x. message-head mode depth inner m kind n x c) (kept-given n s u _ _ (λ a z. refl) (again-content _ _ s u)))
+    (λ c. subst (Kept n _ s u) (sym (message-too-deep mode depth inner m kind n s c)) faulty)
+shaped-kept mode (other packed) depth inner m kind n s u = kept-given n s u _ _ (λ a z. refl) (again-content _ _ s u)
+shaped-kept mode (other startGroup) depth inner m kind n s u = kept-given n s u _ _ (λ v l. refl) (again-outerGroup depth s u)
+shaped-kept mode (other endGroup) depth inner m kind n s u = faulty
+shaped-kept mode (other nothing) depth inner m kind n s u = faulty
 
 module _ (look : Look) (depth type : ℕ) where
   -- the field behind a tag t of n bytes
   abbrev behind : ℕ → ℕ → List ℕ → Field
   behind t n s =
-      shaped (shape (look type t .kind)) depth (look type t .inner) (t / 8) (look type t .kind) n s
+      let x = look .says type t in
+      shaped (look .mode) (shape (x .kind)) depth (x .inner) (t / 8) (x .kind) n s
 
   field-behind : (s : List ℕ) (t n : ℕ) → n ≤ length s → (y : List ℕ) → Again tag s y (Took t n) → field look depth type (take n s ++ y) ≡ behind t n y
   unfolding field given
@@ -349,7 +350,7 @@ module _ (look : Look) (depth type : ℕ) where
       go : (r : Read) → Takes 1 (length s) r → ((y : List ℕ) → Again tag s y r) → 1 ≤ used (given r λ t n. behind t n (drop n s))
           → field look depth type (take (used (given r λ t n. behind t n (drop n s))) s ++ u) ≡ given r (λ t n. behind t n (drop n s))
       go (Took t n) (took h j) f =
-          kept-behind (field look depth type) (behind t n) n s u (λ y. field-behind s t n j y (f y)) (shaped-kept _ depth _ (t / 8) _ n (drop n s) u)
+          kept-behind (field look depth type) (behind t n) n s u (λ y. field-behind s t n j y (f y)) (shaped-kept (look .mode) _ depth _ (t / 8) _ n (drop n s) u)
       go (No k) none f = λ h. absurd (omega arith)
 
 -- ---- a content of bytes
@@ -367,19 +368,19 @@ unfolding given
 of-given (Took v n) f h = h v n
 of-given (No j) f h = of-fault
 
-shaped-of : (x : Shape) (depth inner m k n : ℕ) (s : List ℕ) → Of k (shaped x depth inner m k n s)
+shaped-of : (mode : Mode) (x : Shape) (depth inner m k n : ℕ) (s : List ℕ) → Of k (shaped mode x depth inner m k n s)
 unfolding shaped
-shaped-of (one c) depth inner m k n s = of-given _ _ λ v l. of-value
-shaped-of (other string) depth inner m k n s = of-given _ _ λ a z. either-way (Of k) (utf8 (part a z s)) of-value of-fault
-shaped-of (other bytes) depth inner m k n s = of-given _ _ λ a z. of-value
-shaped-of (other message) depth inner m k n s =
+shaped-of mode (one c) depth inner m k n s = of-given _ _ λ v l. of-value
+shaped-of mode (other string) depth inner m k n s = of-given _ _ λ a z. either-way (Of k) (utf8 (part a z s)) of-value of-fault
+shaped-of mode (other bytes) depth inner m k n s = of-given _ _ λ a z. of-value
+shaped-of mode (other message) depth inner m k n s =
     lower-or-not depth mostLevels
-    (λ c. subst (Of k) (sym (message-head depth inner m k n s c)) (of-given _ _ λ a z. of-message))
-    (λ c. subst (Of k) (sym (message-too-deep depth inner m k n s c)) of-fault)
-shaped-of (other packed) depth inner m k n s = of-given _ _ λ a z. of-packed
-shaped-of (other startGroup) depth inner m k n s = of-given _ _ λ v l. of-dropped
-shaped-of (other endGroup) depth inner m k n s = of-fault
-shaped-of (other nothing) depth inner m k n s = of-fault
+    (λ c. subst (Of k) (sym (message-head mode depth inner m k n s c)) (of-given _ _ λ a z. of-message))
+    (λ c. subst (Of k) (sym (message-too-deep mode depth inner m k n s c)) of-fault)
+shaped-of mode (other packed) depth inner m k n s = of-given _ _ λ a z. of-packed
+shaped-of mode (other startGroup) depth inner m k n s = of-given _ _ λ v l. of-dropped
+shaped-of mode (other endGroup) depth inner m k n s = of-fault
+shaped-of mode (other nothing) depth inner m k n s = of-fault
 
 -- What g reads in s, behind a tag of n bytes, is a content that it does not look at: behind where that starts, any bytes will do that are enough.
 data Unseen (n : ℕ) (g : List ℕ → Field) (s : List ℕ) : Field → Type 0 where
@@ -387,9 +388,9 @@ data Unseen (n : ℕ) (g : List ℕ → Field) (s : List ℕ) : Field → Type 0
       → Unseen n g s (Value m k v (n + a) (n + (a + l)))
   faulty : {k p : ℕ} → Unseen n g s (Fault k p)
 
-bytes-unseen : (depth inner m k n : ℕ) (s : List ℕ) → Unseen n (shaped (other bytes) depth inner m k n) s (shaped (other bytes) depth inner m k n s)
+bytes-unseen : (mode : Mode) (depth inner m k n : ℕ) (s : List ℕ) → Unseen n (shaped mode (other bytes) depth inner m k n) s (shaped mode (other bytes) depth inner m k n s)
 unfolding shaped given
-bytes-unseen depth inner m k n s = go (content-found _ _ s)
+bytes-unseen mode depth inner m k n s = go (content-found _ _ s)
   where
     go : {r : Read} → Found (content varint32) s r
         → Unseen n (λ x. given (content varint32 x) λ a z. Value m k 0 (n + a) (n + z)) s (given r λ a z. Value m k 0 (n + a) (n + z))
@@ -413,11 +414,11 @@ module _ (look : Look) (depth type : ℕ) where
       go : (r : Read) → Takes 1 (length s) r → ((x : List ℕ) → Again tag s x r) → given r (λ t n. behind look depth type t n (drop n s)) ≡ Value m kind v a e
           → field look depth type (take a s ++ y) ≡ Value m kind v a e
       go (Took t n) (took h j) f p =
-          let i : ℕ = look type t .inner in
-          let k : ℕ = look type t .kind in
-          let g : Shape → List ℕ → Field = λ x. shaped x depth i (t / 8) k n in
-          let is : shape k ≡ other bytes = ap shape (same-kind (subst (Of k) p (shaped-of (shape k) depth i (t / 8) k n (drop n s)))) ∙ q in
+          let i : ℕ = look .says type t .inner in
+          let k : ℕ = look .says type t .kind in
+          let g : Shape → List ℕ → Field = λ x. shaped (look .mode) x depth i (t / 8) k n in
+          let is : shape k ≡ other bytes = ap shape (same-kind (subst (Of k) p (shaped-of (look .mode) (shape k) depth i (t / 8) k n (drop n s)))) ∙ q in
           unseen-behind (field look depth type) (g (shape k)) n s (λ x. field-behind look depth type s t n j x (f x))
           (subst (Unseen n (g (shape k)) (drop n s)) p
-          (subst (λ (x : Shape). Unseen n (g x) (drop n s) (g x (drop n s))) (sym is) (bytes-unseen depth i (t / 8) k n (drop n s)))) y l
+          (subst (λ (x : Shape). Unseen n (g x) (drop n s) (g x (drop n s))) (sym is) (bytes-unseen (look .mode) depth i (t / 8) k n (drop n s)))) y l
       go (No k) none f p = cc

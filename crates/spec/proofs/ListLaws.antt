@@ -14,11 +14,11 @@ use Rattle.spec.specs.Base.{if_then_else_, between, part, limit}
 use Rattle.spec.specs.Utf8.{utf8}
 use Rattle.spec.specs.Kind.{Scalar, Shape, Special, one, other, string, bytes, message, packed, startGroup, endGroup, nothing, shapes, shape, wire, isScalar, encoded, fits}
 use mathlib.Core.Option.{none}
-use Rattle.spec.specs.Schema.{Schema, badSchema, lookup, unknownKind, kindOf, says}
+use Rattle.spec.specs.Schema.{Schema, badSchema, lookup, unknownKind, kindOf}
 use Rattle.spec.proofs.Laws.{both, by-test}
 use Rattle.spec.specs.Record.{Record, deeper}
 use Rattle.spec.specs.declared.Entry.{Entry}
-use Rattle.spec.specs.Reading.{Done, read, after}
+use Rattle.spec.specs.Reading.{Mode, looking, Done, read, after}
 use Rattle.spec.specs.Writing.{prefixed, body, tagOf, bytesOf, written, Place, Fields, Elements, recorded, expected, lies, fitting, nextDeeper, around, inside, recordFault, Verdict, Fine, orElse, listFault}
 use Rattle.spec.proofs.VarintLaws.{lower-or-not}
 use Rattle.spec.proofs.SchemaLaws.{schema-kinds}
@@ -477,8 +477,8 @@ module _ (sch : Schema) (payload : List ℕ) where
 
 -- ---- what is written reads back as the list: the same depths, numbers, kinds, values and contents, and no refusal
 
-pub round-trip : (sch : Schema) (payload : List ℕ) (rs : List Record) → badSchema sch ≡ none → listFault sch payload 0 (Fields 0 ∷ []) rs ≡ Fine
+pub round-trip : (mode : Mode) (sch : Schema) (payload : List ℕ) (rs : List Record) → badSchema sch ≡ none → listFault sch payload 0 (Fields 0 ∷ []) rs ≡ Fine
     → length (written payload rs) ≤ limit
-    → (qs : List Record) × (read (says sch) 0 0 0 (written payload rs) ≡ after qs Done) × Alike (written payload rs) payload qs rs × Tree sch (written payload rs) 0 0 qs (written payload rs)
-round-trip sch payload rs valid fine small =
-    back sch payload (written payload rs) (valid-tree sch payload (schema-kinds sch valid) rs fine) 0 (stands-self sch payload (written payload rs) (written payload rs)) small
+    → (qs : List Record) × (read (looking mode sch) 0 0 0 (written payload rs) ≡ after qs Done) × Alike (written payload rs) payload qs rs × Tree sch (written payload rs) 0 0 qs (written payload rs)
+round-trip mode sch payload rs valid fine small =
+    back sch payload (written payload rs) mode (valid-tree sch payload (schema-kinds sch valid) rs fine) 0 (stands-self sch payload (written payload rs) (written payload rs)) small

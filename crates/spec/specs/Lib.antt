@@ -11,4 +11,5 @@ pub mod Document
 pub mod Reading
 pub mod Sizes
 pub mod Writing
+pub mod Valid
 pub mod Pull
