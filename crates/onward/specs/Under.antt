@@ -9,7 +9,7 @@ use lib.ListN.{length, take, drop}
 use lib.Dec.{eqb}
 use Rattle.spec.specs.Names.{messageKind, packedHead}
 use Rattle.spec.specs.Base.{if_then_else_, limit}
-use Rattle.spec.specs.Kind.{shape}
+use Rattle.spec.specs.Kind.{shape, headKind}
 use Rattle.spec.specs.Schema.{Schema, badSchema, lookup, insideOf}
 use Rattle.spec.specs.Record.{Record, row, deeper}
 use Rattle.spec.specs.Reading.{Mode, looking, Reading, Done, contents, read, after}
@@ -20,7 +20,7 @@ use Rattle.onward.specs.Onward.{seen, unknown}
 
 -- of a message, or of a packed field
 abbrev pub isHead : Record → Bool
-isHead r = eqb (r .kind) messageKind || eqb (r .kind) packedHead
+isHead r = headKind (r .kind)
 
 -- The record r stands among the records of a message of this type, or in a message among them, at any depth. `under` are the records under it, and `inner` is what the
 -- schema says is in it: the type of a message's fields, or the kind of a packed field's elements.

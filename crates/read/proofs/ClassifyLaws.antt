@@ -116,7 +116,7 @@ width-placed true s at e = let p = varint-placed 4 15 s at e refl in (p .past, p
 width-placed false s at e = let p = varint-placed 9 1 s at e refl in (p .past, p .inside)
 
 content-took : (len : List ℕ → Read) (s : List ℕ) {m n : ℕ} → len s ≡ Took m n → n + m ≤ length s → content len s ≡ Took n (n + m)
-unfolding content _>>=_ longer
+unfolding content
 content-took len s {m} {n} e h = rw (e, le-leb (n + m) (length s) h)
 
 module _ (len : List ℕ → Read) (at : ℕ) (s : List ℕ) where

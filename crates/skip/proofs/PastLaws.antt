@@ -69,11 +69,11 @@ fixed-short (suc n) (b ∷ s) h = ap (digit 256 b) (fixed-short n s (omega arith
 module _ (len : List ℕ → Read) (s : List ℕ) where
   module _ {m n : ℕ} (e : len s ≡ Took m n) where
     pub content-ends : n + m ≤ length s → Ends (n + m) (content len s)
-    unfolding content _>>=_ longer
+    unfolding content
     content-ends h = rw (e, le-leb (n + m) (length s) h) ends
 
     pub content-short : length s < n + m → content len s ≡ No endsEarly
-    unfolding content _>>=_ longer
+    unfolding content
     content-short h = rw (e, lt-leb (n + m) (length s) h) refl
 
   pub content-refused : {k : ℕ} → len s ≡ No k → content len s ≡ No k

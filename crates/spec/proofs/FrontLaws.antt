@@ -15,7 +15,7 @@ use Rattle.spec.specs.Base.{if_then_else_, part, Read, Took, No, refusal
 use Rattle.spec.specs.Varint.{varint, fixed, tag, varint32, varint64}
 use Rattle.spec.specs.Utf8.{utf8}
 use Rattle.spec.specs.Kind.{Scalar, int32, uint32, uint64, bool, sint32, sint64, fixed32, sfixed32, fixed64, Shape, one, other, string, bytes, message, packed, startGroup, endGroup, nothing, shape, scalar}
-use Rattle.spec.specs.Skip.{content, plain, skipField, skipGroup, innerGroup, outerGroup}
+use Rattle.spec.specs.Skip.{content, spanned, plain, skipField, skipGroup, innerGroup, outerGroup}
 use Rattle.spec.specs.Reading.{Mode, Look, Field, Value, Message, Packed, Dropped, Fault, given, shaped, field, used}
 use Rattle.spec.proofs.Laws.{either-way, chosen, Takes, took, none, takes-tag}
 use Rattle.spec.proofs.SkipLaws.{takes-skipField, takes-skipGroup, group-step}
@@ -97,20 +97,20 @@ pub data Found (p : List ℕ → Read) (s : List ℕ) : Read → Type 0 where
   not-found : {k : ℕ} → Found p s (No k)
 
 pub content-found : (k last : ℕ) (s : List ℕ) → Found (content (varint k last)) s (content (varint k last) s)
-unfolding content _>>=_ longer
+unfolding content
 content-found k last s = go (varint k last s) (λ t. again-varint k last s t)
   where
     go : (r : Read) → ((t : List ℕ) → Again (varint k last) s t r)
-        → Found (content (varint k last)) s (r >>= λ m n. if leb (n + m) (length s) then Took n m else No endsEarly)
+        → Found (content (varint k last)) s (spanned (length s) r)
     go (No j) f = not-found
     go (Took m n) f =
-        chosen (λ (x : Read). Found (content (varint k last)) s (longer n x)) (leb (n + m) (length s))
+        chosen (Found (content (varint k last)) s) (leb (n + m) (length s))
         (λ t.
         let h : n + m ≤ length s = leb-true (n + m) (length s) t in
         found h λ y l.
         let x : List ℕ = take n s ++ y in
-        ap (λ (r : Read). r >>= λ m n. if leb (n + m) (length x) then Took n m else No endsEarly) (again-read (f y))
-        ∙ ap (λ (c : Bool). longer n (if c then Took n m else No endsEarly))
+        ap (spanned (length x)) (again-read (f y))
+        ∙ ap (λ (c : Bool). if c then Took n (n + m) else No endsEarly)
         (le-leb (n + m) (length x) (omega (arith, length-append (take n s) y, length-take-le n s (omega arith)))))
         (λ t. not-found)
 

@@ -14,7 +14,7 @@ use Rattle.spec.specs.Names.{endsEarly, outOfRange}
 use Rattle.spec.specs.Base.{if_then_else_, between, Read, Took, No, meaning, require, longer, _>>=_, digit}
 use Rattle.spec.specs.Varint.{varint, shortest, encode, unzigzag, fixed}
 use Rattle.spec.specs.Kind.{Scalar, int32, uint32, uint64, bool, sint32, sint64, fixed32, sfixed32, fixed64, signed32, extend, scalar, encoded, fits}
-use Rattle.spec.specs.Skip.{content}
+use Rattle.spec.specs.Skip.{content, spanned}
 use Rattle.spec.proofs.Laws.{either-way, chosen, both-true, Takes, took, takes-varint}
 use Rattle.spec.proofs.VarintLaws.{lower-or-not, shortest-ends, shortest-goes-on, top, Spelled, spelled, varint-spelled, zigzag-there, length-little}
 use Rattle.spec.proofs.RoundTrip.{encode-pos}
@@ -94,13 +94,13 @@ pub data Framed (most : ℕ) : Read → Type 0 where
   no-frame : {k : ℕ} → Framed most (No k)
 
 pub content-framed : (k last : ℕ) (s : List ℕ) → last < 128 → Framed (length s) (content (varint k last) s)
-unfolding content _>>=_ longer
+unfolding content
 content-framed k last s h = go (varint k last s) (varint-least k last 9 s h) (takes-varint k last s)
   where
-    go : (r : Read) → Least 9 r → Takes 1 (length s) r → Framed (length s) (r >>= λ m n. if leb (n + m) (length s) then Took n m else No endsEarly)
+    go : (r : Read) → Least 9 r → Takes 1 (length s) r → Framed (length s) (spanned (length s) r)
     go (No j) l t = no-frame
     go (Took m n) (least l) (took p q) =
-        chosen (λ (r : Read). Framed (length s) (longer n r)) (leb (n + m) (length s))
+        chosen (Framed (length s)) (leb (n + m) (length s))
         (λ e. framed {a = n} {m = m} p (leb-true (n + m) (length s) e) (λ x i. omega (arith, shortest-mono 9 x m i))) (λ e. no-frame)
 
 -- ---- numbers

@@ -13,13 +13,13 @@ use Rattle.spec.specs.Names.{fixed32Wire, largestNumber, messageKind, mo
 use Rattle.spec.specs.Base.{if_then_else_, between, part, limit}
 use Rattle.spec.specs.Utf8.{utf8}
 use Rattle.spec.specs.Kind.{Scalar, Shape, Special, one, other, string, bytes, message, packed, startGroup, endGroup, nothing, shapes, shape, wire, isScalar, encoded, fits}
-use mathlib.Core.Option.{none}
+use mathlib.Core.Option.{Option, none, some}
 use Rattle.spec.specs.Schema.{Schema, badSchema, lookup, unknownKind, kindOf}
 use Rattle.spec.proofs.Laws.{both, by-test}
 use Rattle.spec.specs.Record.{Record, deeper}
 use Rattle.spec.specs.declared.Entry.{Entry}
 use Rattle.spec.specs.Reading.{Mode, looking, Done, read, after}
-use Rattle.spec.specs.Writing.{prefixed, body, tagOf, bytesOf, written, Place, Fields, Elements, recorded, expected, lies, fitting, nextDeeper, around, inside, recordFault, Verdict, Fine, orElse, listFault}
+use Rattle.spec.specs.Writing.{prefixed, body, tagOf, bytesOf, written, Place, Fields, Elements, recorded, expected, lies, fitting, nextDeeper, around, inside, recordFault, Verdict, Fine, orElse, listFault, schemaFirst}
 use Rattle.spec.proofs.VarintLaws.{lower-or-not}
 use Rattle.spec.proofs.SchemaLaws.{schema-kinds}
 use Rattle.spec.proofs.WritingLaws.{bytesIn, bytes-cons}
@@ -39,6 +39,12 @@ pass false k y e = absurd (omega arith)
 pass-not : (b : Bool) (k y : ℕ) → (if b then suc k else y) ≡ 0 → (b ≡ false) × (y ≡ 0)
 pass-not true k y e = absurd (omega arith)
 pass-not false k y e = (refl, e)
+
+-- a list that is accepted: the schema is valid, and no record has a fault
+pub accepted : (bad : Option ℕ) (v : Verdict) → schemaFirst bad v ≡ Fine → (bad ≡ none) × (v ≡ Fine)
+unfolding schemaFirst
+accepted none v e = (refl, e)
+accepted (some i) v e = let z : _≡_ {A = ℕ} 0 1 = cc in absurd (omega arith)
 
 -- ---- which kind has a shape: one test of the table
 

@@ -25,6 +25,8 @@ use Rattle.spec.proofs.RecordLaws.{after-append, after-followed}
 use Rattle.spec.proofs.KindLaws.{scalar-encoded}
 use Rattle.spec.proofs.WritingLaws.{field-written, scalar-written, from, to, bytes-written, string-written, message-written, packed-written}
 use Rattle.spec.specs.declared.Entry.{Entry}
+-- with the laws below, as whoever cites one needs these names too
+pub use Rattle.spec.specs.Tree.{Expected, tagBytes, Values, no-value, value, Tree, no-field, number, text, blob, inner, row-of}
 
 -- ---- what is compared
 
@@ -99,19 +101,9 @@ read-at mode sch depth type at (b ∷ s) x e h =
     read-cons (looking mode sch) depth type at b s
     ∙ ap (λ (y : Field). records mode (λ c a u. read (looking mode sch) (depth + 1) c a u) depth at (b ∷ s) y followed-by read (looking mode sch) depth type (at + used y) (drop (used y) (b ∷ s))) e
 
--- a record's number and kind are what reading gives in a message of type t
-pub record Expected (sch : Schema) (t : ℕ) (r : Record) : Type 0 where
-  pub low : 1 ≤ r .number
-  pub high : r .number ≤ largestNumber
-  pub wired : wire (r .kind) ≤ fixed32Wire
-  pub reads : kindOf (lookup (sch .entries) t (r .number)) (wire (r .kind)) ≡ r .kind
-
 -- another record of this number and kind
 pub again : {sch : Schema} {t : ℕ} {r : Record} {d v a e g : ℕ} → Expected sch t r → Expected sch t (row d (r .number) (r .kind) v a e g)
 again x = record { low = x .low; high = x .high; wired = x .wired; reads = x .reads }
-
-abbrev pub tagBytes : Record → List ℕ
-tagBytes r = encode (r .number * 8 + wire (r .kind))
 
 -- the entry of a record's number
 abbrev entryFor : Schema → ℕ → Record → Entry
@@ -128,33 +120,7 @@ field-is mode sch depth t r u h x e k p =
     ∙ ap (λ (z : Shape). shaped mode z depth (insideOf (r .kind) y) (r .number) (r .kind) n u) e
     ∙ ap (λ (j : ℕ). shaped mode x depth (insideOf j y) (r .number) (r .kind) n u) p
 
--- ---- a list by its nesting, with its bytes
-
--- values of a packed field: number, kind, and the scalar that the kind is
-pub data Values (c : Scalar) (m k d : ℕ) : List Record → List ℕ → Type 0 where
-  no-value : Values c m k d [] []
-  value : {r : Record} {rs : List Record} {b : List ℕ} → r .depth ≡ d → r .number ≡ m → r .kind ≡ k → fits c (r .value) ≡ true
-      → Values c m k d rs b → Values c m k d (r ∷ rs) (encoded c (r .value) ++ b)
-
-pub data Tree (sch : Schema) (payload : List ℕ) : (t d : ℕ) → List Record → List ℕ → Type 0 where
-  no-field : {t d : ℕ} → Tree sch payload t d [] []
-  number : {t d : ℕ} {r : Record} {rs : List Record} {b : List ℕ} (c : Scalar) → r .depth ≡ d → Expected sch t r
-      → shape (r .kind) ≡ one c → fits c (r .value) ≡ true
-      → Tree sch payload t d rs b → Tree sch payload t d (r ∷ rs) (tagBytes r ++ encoded c (r .value) ++ b)
-  text : {t d : ℕ} {r : Record} {rs : List Record} {b : List ℕ} → r .depth ≡ d → Expected sch t r
-      → shape (r .kind) ≡ other string → r .value ≡ 0 → lies payload r ≡ true → utf8 (part (r .start) (r .stop) payload) ≡ true
-      → Tree sch payload t d rs b → Tree sch payload t d (r ∷ rs) (tagBytes r ++ prefixed (part (r .start) (r .stop) payload) ++ b)
-  blob : {t d : ℕ} {r : Record} {rs : List Record} {b : List ℕ} → r .depth ≡ d → Expected sch t r
-      → shape (r .kind) ≡ other bytes → r .value ≡ 0 → lies payload r ≡ true
-      → Tree sch payload t d rs b → Tree sch payload t d (r ∷ rs) (tagBytes r ++ prefixed (part (r .start) (r .stop) payload) ++ b)
-  inner : {t d : ℕ} {r : Record} {rs qs : List Record} {b i : List ℕ} → r .depth ≡ d → Expected sch t r
-      → r .kind ≡ messageKind → r .value ≡ 0 → d < mostLevels
-      → Tree sch payload (lookup (sch .entries) t (r .number) .child) (d + 1) qs i
-      → Tree sch payload t d rs b → Tree sch payload t d (r ∷ (qs ++ rs)) (tagBytes r ++ prefixed i ++ b)
-  row-of : {t d : ℕ} {r : Record} {rs qs : List Record} {b i : List ℕ} (c : Scalar) → r .depth ≡ d → Expected sch t r
-      → r .kind ≡ packedHead → r .value ≡ 0 → shape (lookup (sch .entries) t (r .number) .kind) ≡ one c
-      → Values c (r .number) (lookup (sch .entries) t (r .number) .kind) (d + 1) qs i → 1 ≤ length qs
-      → Tree sch payload t d rs b → Tree sch payload t d (r ∷ (qs ++ rs)) (tagBytes r ++ prefixed i ++ b)
+-- ---- reading a tree's bytes
 
 abbrev pub Back : Mode → Schema → List ℕ → List ℕ → (t d at : ℕ) → List Record → List ℕ → Type 0
 Back mode sch payload s t d at rs b = (qs : List Record) × (read (looking mode sch) d t at b ≡ after qs Done) × Alike s payload qs rs × Tree sch s t d qs b

@@ -15,7 +15,7 @@ use Rattle.spec.specs.Varint.{varint, encode, tag, goodTag}
 use Rattle.spec.specs.Utf8.{utf8}
 use Rattle.spec.specs.Kind.{Scalar, one, other, string, bytes, message, packed, shape, encoded, fits}
 use Rattle.spec.specs.Schema.{Schema, lookup, Says, saysOf, says}
-use Rattle.spec.specs.Skip.{content}
+use Rattle.spec.specs.Skip.{content, spanned}
 use Rattle.spec.specs.Reading.{Mode, looking, Field, Value, Message, Packed, Fault, shaped, field}
 use Rattle.spec.specs.Record.{Record, deeper}
 use Rattle.spec.proofs.Laws.{either-way, both-true}
@@ -36,15 +36,15 @@ tag-written m w u h i j =
 -- a prefixed content is found again, whichever width its length is read in
 pub content-written : (k last : ℕ) (c u : List ℕ) → k ≤ 9 → last < 128 → length c < top k last
     → content (varint k last) (prefixed c ++ u) ≡ Took (length (encode (length c))) (length (prefixed c))
-unfolding content _>>=_ longer
+unfolding content
 content-written k last c u h i j =
     let p : List ℕ = encode (length c) in
     let x : List ℕ = p ++ c ++ u in
     let reads : varint k last x ≡ Took (length c) (length p) = ap (varint k last) (append-assoc p c u) ∙ varint-shortest k 9 last (length c) (c ++ u) h i j in
     let fits : leb (length p + length c) (length x) ≡ true =
     le-leb (length p + length c) (length x) (omega (arith, length-append (p ++ c) u, length-append p c)) in
-    ap (λ (r : Read). r >>= λ m n. if leb (n + m) (length x) then Took n m else No endsEarly) reads
-    ∙ ap (λ (b : Bool). longer (length p) (if b then Took (length p) (length c) else No endsEarly)) fits
+    ap (spanned (length x)) reads
+    ∙ ap (λ (b : Bool). if b then Took (length p) (length p + length c) else No endsEarly) fits
     ∙ ap (Took (length p)) (sym (length-append p c))
 
 pub part-written : (c u : List ℕ) → part (length (encode (length c))) (length (prefixed c)) (prefixed c ++ u) ≡ c
