@@ -2,7 +2,7 @@
 -- receives an unknown field from an older reader, and has the newer schema, has everything. Assumes nothing: these are definitions.
 use Prim.Native.Nat.{ℕ, _+_, _-_, _≤_}
 use mathlib.Core.Path.{_≡_}
-use mathlib.Core.Bool.{Bool, true, _||_}
+use mathlib.Core.Bool.{Bool, true}
 use mathlib.Core.List.{List, _∷_, map}
 use mathlib.Core.Option.{none}
 use lib.ListN.{length, take, drop}

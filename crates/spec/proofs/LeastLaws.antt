@@ -5,13 +5,13 @@ use native.Mathlib.Omega.{arith}
 use native.Mathlib.Nat.{pow-suc}
 use mathlib.Core.Path.{_≡_, sym, ap, _∙_, subst}
 use mathlib.Core.Bool.{Bool, true, _||_}
-use mathlib.Core.List.{List, [], _∷_, _++_}
+use mathlib.Core.List.{List, [], _∷_}
 use lib.ListN.{length, take, drop, List·getD-eq-default}
 use lib.Seq.{getD-drop, getD-take}
 use lib.Dec.{leb, ltb, eqb}
 use borrow.Author.Tests.{leb-true, ltb-true, le-ltb, lt-ltb, le-leb, eq-eqb, ne-eqb}
-use Rattle.spec.specs.Names.{endsEarly, outOfRange}
-use Rattle.spec.specs.Base.{if_then_else_, between, Read, Took, No, meaning, require, longer, _>>=_, digit}
+use Rattle.spec.specs.Names.{outOfRange}
+use Rattle.spec.specs.Base.{if_then_else_, between, Read, Took, No, meaning, require, digit}
 use Rattle.spec.specs.Varint.{varint, shortest, encode, unzigzag, fixed}
 use Rattle.spec.specs.Kind.{Scalar, int32, uint32, uint64, bool, sint32, sint64, fixed32, sfixed32, fixed64, signed32, extend, scalar, encoded, fits}
 use Rattle.spec.specs.Skip.{content, spanned}

@@ -1,6 +1,6 @@
 -- Written bytes read back as the list: depths, numbers, kinds, values and contents. `Tree` is a valid list, by its nesting, with its bytes.
 -- Assumes nothing.
-use Prim.Native.Nat.{ℕ, zero, suc, _+_, _-_, _*_, _≤_, _<_}
+use Prim.Native.Nat.{ℕ, zero, suc, _+_, _-_, _*_, _≤_}
 use native.Mathlib.Omega.{arith}
 use mathlib.Core.Path.{_≡_, refl, sym, ap, ap₂, _∙_, subst}
 use mathlib.Core.Bool.{Bool, true, false, false≢true}
@@ -9,14 +9,14 @@ use lib.ListN.{length, take, drop, length-append}
 use lib.Seq.{drop-append-seam, take-append-seam, drop-at}
 use lib.Dec.{eqb}
 use borrow.Author.Tests.{le-leb, ne-eqb}
-use Rattle.spec.specs.Names.{largestNumber, messageKind, mostLevels, packedHead, fixed32Wire}
+use Rattle.spec.specs.Names.{messageKind, packedHead}
 use Rattle.spec.specs.Base.{if_then_else_, part, Read, Took, require, limit}
 use Rattle.spec.specs.Varint.{varint, encode, shortest, tag}
 use Rattle.spec.specs.Record.{Record, row}
 use Rattle.spec.proofs.VarintLaws.{lower-or-not, shortest-ends, shortest-goes-on}
 use Rattle.spec.specs.Utf8.{utf8}
 use Rattle.spec.specs.Kind.{Scalar, Shape, Special, one, other, string, bytes, message, packed, startGroup, endGroup, nothing, shape, wire, scalar, encoded, fits}
-use Rattle.spec.specs.Schema.{Schema, lookup, kindOf, insideOf, saysOf}
+use Rattle.spec.specs.Schema.{Schema, lookup, insideOf, saysOf}
 use Rattle.spec.specs.Reading.{Mode, looking, Field, Value, Message, Packed, given, shaped, field, used, Reading, Done, _then_, _followed-by_, element, elements, contents, records, read, after}
 use Rattle.spec.specs.Writing.{prefixed, lies}
 use Rattle.spec.proofs.Laws.{both-true, Takes, took, takes-scalar}

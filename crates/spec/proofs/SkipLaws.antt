@@ -200,13 +200,13 @@ tag-read s t n e = go (varint32 s) e
 -- ---- the two calls: 11, then 3, then what the field says
 
 module _ (t : ℕ) (s : List ℕ) where
-  checked-long : (r : Read) → limit < length s → checked t s r ≡ No tooLarge
+  pub checked-long : (r : Read) → limit < length s → checked t s r ≡ No tooLarge
   checked-long r h = if-so (ltb _ (length s)) _ (λ e. omega (arith, ltb-false _ (length s) e))
 
-  checked-bad : (r : Read) → length s ≤ limit → goodTag t ≡ false → checked t s r ≡ No badTag
+  pub checked-bad : (r : Read) → length s ≤ limit → goodTag t ≡ false → checked t s r ≡ No badTag
   checked-bad r h g = if-not (ltb _ (length s)) _ (λ e. omega (arith, ltb-true _ (length s) e)) ∙ simp g
 
-  checked-good : (r : Read) → length s ≤ limit → goodTag t ≡ true → checked t s r ≡ r
+  pub checked-good : (r : Read) → length s ≤ limit → goodTag t ≡ true → checked t s r ≡ r
   checked-good r h g = if-not (ltb _ (length s)) _ (λ e. omega (arith, ltb-true _ (length s) e)) ∙ simp g
 
 module _ (t level : ℕ) (s : List ℕ) where

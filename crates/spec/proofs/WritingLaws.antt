@@ -10,7 +10,7 @@ use lib.Seq.{drop-append-seam, take-append-seam}
 use lib.Dec.{leb, ltb, eqb}
 use borrow.Author.Tests.{le-leb}
 use Rattle.spec.specs.Names.{badTag, endsEarly, fixed32Wire, largestNumber, mostLevels, notUtf8, packedHead}
-use Rattle.spec.specs.Base.{if_then_else_, part, Read, Took, No, require, longer, _>>=_, limit}
+use Rattle.spec.specs.Base.{if_then_else_, part, Took, No, require, limit}
 use Rattle.spec.specs.Varint.{varint, encode, tag, goodTag}
 use Rattle.spec.specs.Utf8.{utf8}
 use Rattle.spec.specs.Kind.{Scalar, one, other, string, bytes, message, packed, shape, encoded, fits}
