@@ -11,7 +11,7 @@ use lib.ListN.{length, drop, getD, length-drop}
 use lib.Seq.{drop-cons, drop-drop}
 use borrow.Author.Tests.{le-leb, lt-leb}
 use Rattle.spec.specs.Names.{badTag, endsEarly}
-use Rattle.spec.specs.Base.{Read, Took, No, longer, require, _>>=_, digit}
+use Rattle.spec.specs.Base.{Read, Took, No, longer, require, digit}
 use Rattle.spec.specs.Varint.{varint, varint32, fixed, tag, goodTag}
 use Rattle.spec.specs.Skip.{content}
 use Rattle.spec.proofs.Laws.{chosen}
@@ -72,12 +72,16 @@ module _ (len : List ℕ → Read) (s : List ℕ) where
     unfolding content
     content-ends h = rw (e, le-leb (n + m) (length s) h) ends
 
+    pub content-took : n + m ≤ length s → content len s ≡ Took n (n + m)
+    unfolding content
+    content-took h = rw (e, le-leb (n + m) (length s) h) refl
+
     pub content-short : length s < n + m → content len s ≡ No endsEarly
     unfolding content
     content-short h = rw (e, lt-leb (n + m) (length s) h) refl
 
   pub content-refused : {k : ℕ} → len s ≡ No k → content len s ≡ No k
-  unfolding content _>>=_
+  unfolding content
   content-refused e = rw e refl
 
 -- ---- a tag: the varint, if it is a good one

@@ -2,10 +2,9 @@
 ghost use mathlib.Core.Path.{_≡_};
 ghost use Prim.Native.Nat.{_≤_};
 ghost use lib.ListN.{length, drop};
-ghost use Rattle.spec.specs.Base.{refusal, taken};
-ghost use Rattle.spec.specs.Skip.{skipField, skipGroup, innerGroup, outerGroup, skipFieldForTag, readUnknownOrSkipGroup};
+ghost use Rattle.spec.specs.Base.{Took, refusal, taken};
+ghost use Rattle.spec.specs.Skip.{skipField, skipGroup, innerGroup, outerGroup, checked, skipFieldForTag, readUnknownOrSkipGroup};
 ghost use Rattle.skip.specs.Passed.{past, behind, atEnd};
-ghost use Rattle.skip.specs.Checked.{Checked};
 use crate::field::Past;
 use crate::field::past_plain;
 use crate::field::quick_value;
@@ -104,7 +103,7 @@ fn used_of(p: Past) -> Skipped
 
 // Before all else: the refusal of more bytes than may be read, then that of a bad tag; 0 where neither is so.
 fn checked(tag: u32, s: &[u8]) -> u32
-    ensures { λ r. ⌜ Checked tag (now (s .entry)) r ⌝ }
+    ensures { λ r. ⌜ r ≡ refusal (checked tag (now (s .entry)) (Took 0 0)) ⌝ }
 {
     if limits::MOST_BYTES < s.len() {
         return refusals::TOO_LARGE;
