@@ -5,12 +5,14 @@ ghost use mathlib.Core.Bool.{true, false};
 ghost use Prim.Native.Nat.{_+_, _^_, _≤_, _<_};
 ghost use lib.ListN.{length, drop};
 ghost use Rattle.spec.specs.Varint.{tag};
-ghost use Rattle.spec.specs.Kind.{shape};
+ghost use Rattle.spec.specs.Kind.{shape, headKind};
 ghost use Rattle.spec.specs.Skip.{content};
-ghost use Rattle.spec.specs.Reading.{field};
+ghost use Rattle.spec.specs.Reading.{plainly, field};
 ghost use Rattle.schema.specs.Layout.{keyCount};
 ghost use Rattle.schema.specs.Tables.{tableSays};
-ghost use Rattle.read.specs.Answers.{tagAt, quickTag, isHead, lengthOf, spanAt, hasLength, bodied, fromBody, asked, resolved};
+ghost use Rattle.skip.specs.Spans.{spanAt};
+ghost use Rattle.read.specs.Answers.{tagAt, quickTag, lengthOf, hasLength, bodied, fromBody, asked, resolved};
+ghost use Rattle.read.specs.Prepared.{prepared};
 use crate::scalar::index;
 use crate::scalar::scalar_at;
 use crate::scalar::varint_at;
@@ -18,6 +20,7 @@ use crate::scalar::wide;
 use crate::scalar::wide32;
 use schema::layout;
 use schema::says;
+use skip::content::Span;
 use spec::kinds;
 use spec::limits;
 use spec::refusals;
@@ -60,12 +63,6 @@ enum Tag {
         inner: u32,
         next: usize,
     },
-    Bad(u32),
-}
-
-// The content of a field with a length.
-enum Span {
-    Of { start: usize, end: usize },
     Bad(u32),
 }
 
@@ -167,7 +164,7 @@ fn tag_at(
 // ---- contents
 
 fn is_head(kind: u64) -> bool
-    ensures { λ r. ⌜ r ≡ isHead kind ⌝ }
+    ensures { λ r. ⌜ r ≡ headKind kind ⌝ }
 {
     kind == kinds::MESSAGE || kind == kinds::PACKED_HEAD
 }
@@ -314,8 +311,8 @@ pub fn field_at(
     ty: u32,
     depth: u32,
 ) -> Field
-    ensures { λ r. ⌜ (resolved depth at (now (s .entry)) r ≡ field (tableSays (now (keys .entry)) (now (info .entry))) depth ty (drop at (now (s .entry))))
-        × (r ≡ asked (tableSays (now (keys .entry)) (now (info .entry))) depth ty at (now (s .entry))) ⌝ }
+    ensures { λ r. ⌜ (resolved depth at (now (s .entry)) r ≡ field (prepared plainly (now (keys .entry)) (now (info .entry))) depth ty (drop at (now (s .entry))))
+        × (r ≡ asked (prepared plainly (now (keys .entry)) (now (info .entry))) depth ty at (now (s .entry))) ⌝ }
 {
     match tag_at(keys, info, s, at, ty) {
         Tag::Of {

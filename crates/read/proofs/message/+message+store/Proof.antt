@@ -7,8 +7,8 @@ use borrow.Author.Needs.{needs}
 use lib.ListN.{length}
 use Rattle.spec.specs.Names.{deepest}
 use Rattle.spec.specs.Record.{numbers}
-use Rattle.spec.specs.Reading.{read}
-use Rattle.schema.specs.Tables.{tableSays}
+use Rattle.spec.specs.Reading.{plainly, read}
+use Rattle.read.specs.Prepared.{prepared}
 use mathlib.Core.Logic.{inl, inr}
 use Rattle.read.specs.Answers.{Held}
 use Rattle.read.proofs.AskedLaws.{asked-held}
@@ -52,7 +52,7 @@ abbrev message-claims : ℕ → message-lts.Claims
 message-claims t = (short-ints-reads.Asked, short-ints-reads.Learnt, field-at-reads.Asked, field-at-reads.Learnt, store-below t, store.Post, skip-unknown-group-reads.Asked, skip-unknown-group-reads.Learnt)
 
 abbrev message-Inv-loop : message-lts.InvT-loop
-message-Inv-loop keys info s off ty depth room₀ from at₀ to₀ room at to = Here (read (tableSays keys info) depth ty) s off room₀ 0 from room at to
+message-Inv-loop keys info s off ty depth room₀ from at₀ to₀ room at to = Here (read (prepared plainly keys info) depth ty) s off room₀ 0 from room at to
 
 abbrev message-μ-loop : message-lts.MeasureT-loop
 message-μ-loop keys info s off ty depth room₀ from at₀ to₀ room at to = length s - at
@@ -60,7 +60,7 @@ message-μ-loop keys info s off ty depth room₀ from at₀ to₀ room at to = l
 -- where the field stands that is asked for next: behind the short ones, if those were looked for
 joined : (t : ℕ) (c : message-lts.Joined1 (message-claims t) (message-at t) message.Post message-Inv-loop message-μ-loop) →
     let a = c .before .before .before .before .before .args in
-    Here (read (tableSays (a .keys .now) (a .info .now)) (a .depth) (a .ty)) (a .s .now) (a .off) (a .room .now) 0 (a .from) (c .if1 .room) (c .if1 .at) (c .if1 .to)
+    Here (read (prepared plainly (a .keys .now) (a .info .now)) (a .depth) (a .ty)) (a .s .now) (a .off) (a .room .now) 0 (a .from) (c .if1 .room) (c .if1 .at) (c .if1 .to)
     × (c .before .before .loop .at ≤ c .if1 .at) × (c .if1 .at < length (a .s .now))
 joined t c =
     elim (c .if1 .came) [
