@@ -21,7 +21,7 @@ use Rattle.spec.proofs.ListLaws.{around-here}
 use Rattle.spec.proofs.RunLaws.{records-at}
 use Rattle.list.specs.Checking.{rowAt, Elapsed, passed, faulty}
 use Rattle.list.specs.declared.run.Behind.the-variants.{To, Bad}
-use Rattle.list.proofs.RecordLaws.{fault-other, fault-rest, rest-number}
+use Rattle.list.proofs.RecordLaws.{fault-unexpected, fault-expected, other-number}
 use Rattle.list.proofs.OpenLaws.{first-good, first-bad, popped, none-left}
 
 -- the records from a place on
@@ -98,7 +98,7 @@ module _ {list : List ℕ} {from depth number kind at : ℕ} (h : Ahead list fro
       -- of another number or kind, it has a fault
       pub elements-other : (getD list (at + numberColumn) 0 ≡ number → getD list (at + kindColumn) 0 ≡ kind → ⊥) → Elapsed list from depth number kind (Bad at)
       elements-other n =
-          bad (λ sch payload out c s. fault-other sch payload (Elements number kind) out (rowAt list at) (recordsFrom list (at + stride)) (unexpected sch n))
+          bad (λ sch payload out c s. fault-unexpected sch payload (Elements number kind) out (rowAt list at) (recordsFrom list (at + stride)) (unexpected sch n))
 
       module _ (num : getD list (at + numberColumn) 0 ≡ number) (kin : getD list (at + kindColumn) 0 ≡ kind) {b : Bool}
           (value : (c : Scalar) → shape kind ≡ one c → b ≡ fits c (getD list (at + valueColumn) 0)) where
@@ -106,9 +106,9 @@ module _ {list : List ℕ} {from depth number kind at : ℕ} (h : Ahead list fro
             → recordFault sch payload (Elements number kind ∷ out) (rowAt list at) (recordsFrom list (at + stride)) ≡ (if b then 0 else invalidList)
         unfolding expected
         fault-is sch payload out c s =
-            fault-rest sch payload (Elements number kind) out (rowAt list at) (recordsFrom list (at + stride))
+            fault-expected sch payload (Elements number kind) out (rowAt list at) (recordsFrom list (at + stride))
             (both-true (eq-eqb (getD list (at + numberColumn) 0) number num) (eq-eqb (getD list (at + kindColumn) 0) kind kin))
-            ∙ rest-number payload (rowAt list at) (recordsFrom list (at + stride)) c (ap shape kin ∙ s)
+            ∙ other-number payload (rowAt list at) (recordsFrom list (at + stride)) c (ap shape kin ∙ s)
             ∙ sym (ap (λ (x : Bool). if x then 0 else invalidList) (value c s))
 
         pub elements-value : b ≡ false → Elapsed list from depth number kind (Bad at)

@@ -2,11 +2,11 @@
 -- Record i has the numbers of the list from stride * i on. Assumes nothing: these are definitions.
 use Prim.Native.Nat.{ℕ, zero, suc, _+_, _-_, _*_, _/_, _%_, _^_, _≤_, _<_}
 use mathlib.Core.Path.{_≡_}
-use mathlib.Core.Bool.{Bool, true, false, _||_}
+use mathlib.Core.Bool.{Bool, true, false}
 use mathlib.Core.List.{List, [], _∷_, _++_}
 use lib.ListN.{length, take, drop, getD}
 use lib.Dec.{ltb, eqb}
-use Rattle.spec.specs.Names.{largestNumber, messageKind, packedHead, kindColumn, noWire, numberColumn, recordKinds, startColumn, stopColumn, valueColumn}
+use Rattle.spec.specs.Names.{largestNumber, packedHead, kindColumn, noWire, numberColumn, recordKinds, startColumn, stopColumn, valueColumn}
 use Rattle.spec.specs.Base.{if_then_else_, part}
 use Rattle.spec.specs.Varint.{encode}
 use Rattle.spec.specs.Kind.{Shape, one, other, string, bytes, message, packed, startGroup, endGroup, nothing, wires, shape, isScalar, encoded}
@@ -117,10 +117,6 @@ lead (other packed) payload r n = encode n
 lead (other startGroup) payload r n = []
 lead (other endGroup) payload r n = []
 lead (other nothing) payload r n = []
-
--- a kind whose record may have others in it
-abbrev pub isHead : ℕ → Bool
-isHead kind = eqb kind messageKind || eqb kind packedHead
 
 -- ---- what is asked
 
