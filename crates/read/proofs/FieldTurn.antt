@@ -69,9 +69,9 @@ part-at at a e s h =
     let y : at + (a - at) ≡ a = omega arith in
     rw (x, drop-drop, y)
 
-module _ (inner : ℕ → ℕ → List ℕ → Reading) {depth at most : ℕ} {f : Row} (h : Held depth at most f) (off : ℕ) (s : List ℕ) where
+module _ (mode : spec.Mode) (inner : ℕ → ℕ → List ℕ → Reading) {depth at most : ℕ} {f : Row} (h : Held depth at most f) (off : ℕ) (s : List ℕ) where
   abbrev recs : Reading
-  recs = records inner depth (off + at) (drop at s) (rowField at f)
+  recs = records mode inner depth (off + at) (drop at s) (rowField at f)
 
   abbrev this : Record
   this = row depth (f .number) (f .kind) (f .value) (off + f .start) (off + f .end) (off + at)

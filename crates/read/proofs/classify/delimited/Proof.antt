@@ -2,14 +2,14 @@
 use Prim.Native.Nat.{_≤_}
 use native.Mathlib.Omega.{arith}
 use mathlib.Core.Path.{_≡_, sym, _∙_}
+use mathlib.Core.Bool.{not}
 use borrow.Author.Tests.{not-true, not-false}
 use borrow.Author.Needs.{needs}
 use Rattle.spec.specs.Names.{notUtf8}
 use Rattle.spec.specs.Base.{if_then_else_}
-use Rattle.spec.specs.Kind.{shape}
+use Rattle.spec.specs.Kind.{shape, headKind}
 use Rattle.spec.specs.Skip.{content}
 use lib.ListN.{length, drop}
-use Rattle.spec.specs.Kind.{headKind}
 use Rattle.skip.specs.Spans.{spanAt}
 use Rattle.skip.proofs.SpanLaws.{span-in}
 use Rattle.read.specs.Answers.{lengthOf, bodied}
