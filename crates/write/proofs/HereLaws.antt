@@ -17,7 +17,7 @@ use Rattle.spec.specs.Record.{Record, stride}
 use Rattle.spec.specs.Writing.{prefixed, tagOf}
 use Rattle.spec.proofs.RoundTrip.{hasContent, shape-message, shape-packed}
 use Rattle.spec.proofs.Laws.{both}
-use Rattle.spec.proofs.RunLaws.{Fit, is-number, is-content}
+use Rattle.spec.proofs.RunLaws.{Fit, kind-small as kind-below, is-number, is-content}
 use Rattle.write.specs.Backward.{at, kindAt, plain, lead, Here, leadOf, numberOf, headOf, Leads}
 use Rattle.list.proofs.FitLaws.{type-of, type-small}
 use Rattle.write.proofs.KindLaws.{Head, of-message, of-packed, head}
