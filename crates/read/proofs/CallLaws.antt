@@ -1,11 +1,11 @@
 -- Laws of the two calls: what a reading from the start of the room answers, and what is refused before it. Assumes nothing.
-use Prim.Native.Nat.{ℕ, _-_, _/_, _^_, _≤_, _<_}
+use Prim.Native.Nat.{ℕ, _/_, _≤_, _<_}
 use native.Mathlib.Omega.{arith}
 use mathlib.Core.Path.{_≡_, refl, sym, ap, ap₂, _∙_}
 use mathlib.Core.Bool.{_&&_}
 use mathlib.Core.Option.{Option, none, some}
 use mathlib.Core.List.{List}
-use lib.ListN.{length, replicate}
+use lib.ListN.{length}
 use lib.Dec.{leb}
 use borrow.Author.Tests.{lt-ltb, le-ltb, leb-true}
 use Rattle.spec.specs.Names.{invalidSchema, tooLarge, mostEntries, mostTypes}
@@ -13,11 +13,9 @@ use Rattle.spec.specs.Base.{between, limit}
 use Rattle.spec.specs.Record.{stride, stored}
 use Rattle.spec.specs.Reading.{Look, Reading, Refused, within, number, place, listed, roomAfter, read, reading, refusedOr}
 use Rattle.spec.specs.Schema.{Schema, badSchema, says}
-use Rattle.spec.specs.declared.Entry.{Entry}
 use Rattle.spec.proofs.Laws.{by-test, both}
-use Rattle.schema.specs.Layout.{infoLength, keyCount}
-use Rattle.schema.specs.Tables.{soundOf, keysWith, infoWith, tableSays}
-use Rattle.schema.proofs.TableLaws.{sound-valid, made-says, said-message}
+use Rattle.schema.specs.Tables.{keysOf, infoOf, tableSays}
+use Rattle.schema.proofs.TableLaws.{table-says, said-message}
 use Rattle.read.specs.Answers.{readingBy, answered}
 use Rattle.read.specs.Emit.{left, emit}
 use Rattle.read.specs.declared.Answer.{Answer}
@@ -99,18 +97,14 @@ valid-types sch e =
     (leb-true 1 (sch .types) (q .0), leb-true (sch .types) mostTypes (q .1)))
     (λ p. let bad : _≡_ {A = Option ℕ} (some 0) none = rw p at e in let z : _≡_ {A = ℕ} 0 1 = cc in absurd (omega arith))
 
--- its tables, made of arrays as a reader clears them, read what it says
-pub reads-tables : (sch : Schema) (n : ℕ) (s : List ℕ) (keys info info₀ : List ℕ) → badSchema sch ≡ none → keys ≡ keysWith 0 (soundOf sch) (replicate keyCount (2 ^ 64 - 1))
-    → info ≡ infoWith 0 (soundOf sch) info₀ → infoLength ≤ length info₀ → length s ≤ limit → readingBy (tableSays keys info) n s ≡ reading sch n s
-reads-tables sch n s keys info info₀ valid k i wide h =
+-- its tables read what it says
+pub reads-tables : (sch : Schema) (n : ℕ) (s : List ℕ) → badSchema sch ≡ none → length s ≤ limit → readingBy (tableSays (keysOf sch) (infoOf sch)) n s ≡ reading sch n s
+reads-tables sch n s valid h =
     let few = valid-types sch valid in
-    let es = sound-valid sch valid in
-    let keys-are : keys ≡ keysWith 0 (sch .entries) (replicate keyCount (2 ^ 64 - 1)) = k ∙ ap (λ (x : List Entry). keysWith 0 x (replicate keyCount (2 ^ 64 - 1))) es in
-    let info-is : info ≡ infoWith 0 (sch .entries) info₀ = i ∙ ap (λ (x : List Entry). infoWith 0 x info₀) es in
-    not-too-long (tableSays keys info) n s h
-    ∙ ap (within n) (rw (keys-are, info-is)
-    (sym (read-cong (sch .types) (says sch) (tableSays (keysWith 0 (sch .entries) (replicate keyCount (2 ^ 64 - 1))) (infoWith 0 (sch .entries) info₀))
-    (λ type t a b c d. sym (made-says sch valid info₀ wide type t (omega (arith, a, few .1)) b c d))
+    not-too-long (tableSays (keysOf sch) (infoOf sch)) n s h
+    ∙ ap (within n)
+    (sym (read-cong (sch .types) (says sch) (tableSays (keysOf sch) (infoOf sch))
+    (λ type t a b c d. sym (table-says sch valid type t (omega (arith, a, few .1)) b c d))
     (λ type t d. said-message sch valid type t d)
-    0 0 0 s (omega (arith, few .0)))))
+    0 0 0 s (omega (arith, few .0))))
     ∙ sym (reading-valid sch n s h valid)

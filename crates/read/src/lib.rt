@@ -18,7 +18,7 @@ use crate::message::message;
 use crate::room::Step;
 use schema::Verdict;
 use schema::layout;
-use schema::tables;
+use schema::note_entries;
 use spec::columns;
 use spec::limits;
 use spec::refusals;
@@ -88,7 +88,7 @@ pub fn read(types: u32, numbers: &[u32], s: &[u8], room: &mut [u64]) -> Answer
     }
     let mut keys: [u64; layout::KEYS] = [layout::NO_KEY; layout::KEYS];
     let mut info: [u8; layout::INFO] = [0; layout::INFO];
-    match tables(types, numbers, &mut keys, &mut info) {
+    match note_entries(types, numbers, &mut keys, &mut info) {
         Verdict::Bad(i) => Answer {
             number: refusals::INVALID_SCHEMA,
             count: 0,

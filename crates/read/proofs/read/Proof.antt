@@ -1,14 +1,16 @@
 -- `read::read` meets its contract. Assumes nothing.
-use Prim.Native.Nat.{_/_}
-use native.Mathlib.Omega.{arith}
-use mathlib.Core.Path.{sym, ap, _∙_}
+use Prim.Native.Nat.{ℕ, _/_}
+use mathlib.Core.Path.{sym, ap, ap₂, _∙_}
+use mathlib.Core.List.{List}
 use borrow.Author.Needs.{needs}
 use lib.ListN.{length}
 use Rattle.spec.specs.Names.{invalidSchema, tooLarge}
 use Rattle.spec.specs.Record.{stride}
 use Rattle.spec.specs.Schema.{schemaOf}
 use Rattle.spec.specs.Reading.{Reading, number, place, listed, roomAfter}
+use Rattle.schema.specs.Tables.{keysOf, infoOf, tableSays}
 use Rattle.schema.specs.Told.{badPlace}
+use Rattle.read.specs.Answers.{readingBy}
 use Rattle.read.proofs.CallLaws.{answers-refused, reading-long, reading-bad, reads-tables}
 use Rattle.read.proofs.read.Statement.{statement}
 use Rattle.read.proofs.read.Tie as tie
@@ -20,9 +22,10 @@ returns-2 : tie.Need-returns-2
 returns-2 c =
     let i = c .before in
     let t = i .before .before in
-    answers-refused _ invalidSchema _ _ (reading-bad _ _ _ (t .before .before .before .if1 .left) (sym (t .tables .ensures .0) ∙ ap badPlace (i .i .given .1)))
+    answers-refused _ invalidSchema _ _ (reading-bad _ _ _ (t .before .before .before .if1 .left) (sym (t .note-entries .ensures .0) ∙ ap badPlace (i .i .given .1)))
 
 returns-3 : tie.Need-returns-3
+unfolding keysOf infoOf
 returns-3 c =
     let r = c .before .before in
     let e = r .before .before .before .before in
@@ -31,8 +34,8 @@ returns-3 c =
     let a = i .before .before .before .before .args in
     let h = r .read-prepared .ensures in
     let same =
-    reads-tables (schemaOf (a .types) (a .numbers .now)) (length (a .room .now) / stride) (a .s .now) _ _ _ (sym (t .tables .ensures .0) ∙ ap badPlace (e .enum-told .given .1))
-    (t .tables .ensures .1) (t .tables .ensures .2) (omega arith) (i .if1 .left) in
+    ap₂ (λ (keys info : List ℕ). readingBy (tableSays keys info) (length (a .room .now) / stride) (a .s .now)) (t .note-entries .ensures .1) (t .note-entries .ensures .2)
+    ∙ reads-tables (schemaOf (a .types) (a .numbers .now)) (length (a .room .now) / stride) (a .s .now) (sym (t .note-entries .ensures .0) ∙ ap badPlace (e .enum-told .given .1)) (i .if1 .left) in
     (h .0 ∙ ap number same, h .1 ∙ ap place same, h .2 ∙ ap (λ (q : Reading). length (listed q)) same, h .3 ∙ ap (λ (q : Reading). roomAfter q (a .room .now)) same)
 
 pub read-spec : {M : Type 1} → statement M
