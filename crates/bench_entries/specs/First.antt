@@ -1,4 +1,4 @@
--- The schema of the first sixteen entries of some numbers. Assumes nothing: these are definitions.
+-- The schema of the first sixteen entries of some numbers. Assumes nothing: these are definitions. Public promises cite it.
 use Prim.Native.Nat.{ℕ, _/_}
 use mathlib.Core.List.{List}
 use lib.Dec.{ltb}

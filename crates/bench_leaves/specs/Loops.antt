@@ -1,4 +1,4 @@
--- What the loops that bench/ counts come to. Assumes nothing: these are definitions.
+-- What the loops that bench/ counts come to. Assumes nothing: these are definitions. Public promises cite it.
 use Prim.Native.Nat.{ℕ, zero, suc, _+_}
 use mathlib.Core.List.{List, [], _∷_}
 use lib.Bits.{bitXor}

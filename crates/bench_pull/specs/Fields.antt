@@ -1,4 +1,5 @@
 -- What the pull loop over a message of bench/bench.proto comes to: the exclusive or of all values and of the lengths of contents. Assumes nothing: these are definitions.
+-- Public promises cite it.
 use Prim.Native.Nat.{ℕ, zero, suc, _+_, _-_, _*_, _≤_}
 use mathlib.Core.Path.{_≡_}
 use mathlib.Core.Bool.{Bool, true}

@@ -1,4 +1,4 @@
--- What the calls for C tell in a lent array. Assumes nothing: these are definitions.
+-- What the calls for C tell in a lent array. Assumes nothing: these are definitions. Public promises cite it.
 use Prim.Native.Nat.{ℕ, _+_}
 use mathlib.Core.List.{List, [], _∷_}
 use mathlib.Core.Option.{Option, none, some}

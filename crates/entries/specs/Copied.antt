@@ -1,4 +1,4 @@
--- What the functions of this crate compute on the list of entries. Assumes nothing: these are definitions.
+-- What the functions of this crate compute on the list of entries. Assumes nothing: these are definitions. Public promises cite it.
 use Prim.Native.Nat.{ℕ, _+_, _*_, _/_, _%_}
 use mathlib.Core.Bool.{_&&_}
 use mathlib.Core.List.{List, [], _∷_}

@@ -1,5 +1,5 @@
 -- Demand 3: what was written under a newer schema goes through an older one unharmed. The older schema is the newer one with some entries left out.
--- It is stated in the last section; the sections before it say what its words mean. Assumes nothing: these are definitions.
+-- It is stated in the last section; the sections before it say what its words mean. Assumes nothing: these are definitions. Public promises cite it.
 use Prim.Native.Nat.{ℕ, zero, suc, _%_, _^_, _≤_}
 use mathlib.Core.Path.{_≡_}
 use mathlib.Core.Bool.{Bool, true, false, not}

@@ -1,5 +1,5 @@
 -- What the answers of skipping say, in the terms of the definitions.
--- Assumes nothing: these are definitions.
+-- Assumes nothing: these are definitions. Public promises cite it.
 use Prim.Native.Nat.{ℕ, _+_, _-_}
 use mathlib.Core.Bool.{Bool, true, false}
 use Rattle.spec.specs.Names.{endsEarly}

@@ -1,4 +1,4 @@
--- The pull reader: a state, what it may be asked, and what a step says and where it leaves the reader. Assumes nothing: these are definitions.
+-- The pull reader: a state, what it may be asked, and what a step says and where it leaves the reader. Assumes nothing: these are definitions. Public promises cite it.
 use Prim.Native.Nat.{ℕ, _+_}
 use mathlib.Core.List.{List, []}
 use lib.ListN.{length, drop}

@@ -1,4 +1,4 @@
--- A record, and how lists of records stand in lent numbers. Assumes nothing: these are definitions.
+-- A record, and how lists of records stand in lent numbers. Assumes nothing: these are definitions. Public promises cite it.
 use Prim.Native.Nat.{ℕ, zero, suc, _+_}
 use mathlib.Core.List.{List, [], _∷_, _++_}
 use lib.ListN.{length, drop, getD}

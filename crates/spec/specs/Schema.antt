@@ -1,4 +1,4 @@
--- A schema, when it is valid, and what it says of a field. Assumes nothing: these are definitions.
+-- A schema, when it is valid, and what it says of a field. Assumes nothing: these are definitions. Public promises cite it.
 use Prim.Native.Nat.{ℕ, zero, suc, _+_, _/_, _%_}
 use mathlib.Core.Bool.{Bool, true, false, not, _&&_, _||_}
 use mathlib.Core.List.{List, [], _∷_}

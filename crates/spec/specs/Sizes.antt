@@ -1,5 +1,5 @@
 -- How many bytes values, fields and records take: the size calls of rust-protobuf's rt, and the size of a list, level by level.
--- Assumes nothing: these are definitions. That each is the length of what is written is a law (proofs/SizeLaws).
+-- Assumes nothing: these are definitions. That each is the length of what is written is a law (proofs/SizeLaws). Public promises cite it.
 use Prim.Native.Nat.{ℕ, zero, suc, _+_, _-_}
 use mathlib.Core.Bool.{Bool, true, not}
 use mathlib.Core.List.{List, [], _∷_}

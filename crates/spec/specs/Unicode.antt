@@ -1,6 +1,6 @@
 -- UTF-8 from the other side, as RFC 3629, section 3, builds it: the scalar values of Unicode, the octets of each, and the strings of such octets.
 -- Nothing here cites the table of section 4 (specs/Utf8); that both say the same is proved (proofs/UnicodeLaws).
--- Assumes nothing: these are definitions.
+-- Assumes nothing: these are definitions. Only laws cite it.
 use Prim.Native.Nat.{ℕ, _+_, _/_, _%_, _≤_}
 use mathlib.Core.List.{List, [], _∷_, _++_}
 use lib.Dec.{leb}

@@ -1,4 +1,4 @@
--- Varints, zigzag, little-endian numbers and tags, from the Encoding page. Assumes nothing: these are definitions.
+-- Varints, zigzag, little-endian numbers and tags, from the Encoding page. Assumes nothing: these are definitions. Public promises cite it.
 use Prim.Native.Nat.{ℕ, zero, suc, _+_, _-_, _*_, _/_, _%_, _^_, max}
 use mathlib.Core.Bool.{Bool, _&&_}
 use mathlib.Core.List.{List, [], _∷_}

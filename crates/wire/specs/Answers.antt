@@ -1,5 +1,5 @@
 -- The answers of the codec's functions, in the terms of the definitions.
--- Assumes nothing: these are definitions.
+-- Assumes nothing: these are definitions. Public promises cite it.
 use Prim.Native.Nat.{ℕ, _+_, _-_}
 use mathlib.Core.Path.{_≡_}
 use mathlib.Core.List.{List, _++_}

@@ -1,5 +1,5 @@
 -- What is known in the middle of reading a varint, at any width.
--- Assumes nothing: these are definitions.
+-- Assumes nothing: these are definitions. Only inner functions and loops cite it.
 use Prim.Native.Nat.{ℕ, _+_, _*_, _^_, _<_}
 use mathlib.Core.Path.{_≡_}
 use mathlib.Core.Bool.{Bool, true, false}

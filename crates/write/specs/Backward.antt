@@ -1,5 +1,5 @@
 -- What the backward writer asks, and what it answers: bytes that end before a place of the output, and the records of a list by their index.
--- Record i has the numbers of the list from stride * i on. Assumes nothing: these are definitions.
+-- Record i has the numbers of the list from stride * i on. Assumes nothing: these are definitions. Only inner functions and loops cite it.
 use Prim.Native.Nat.{ℕ, zero, suc, _+_, _-_, _*_, _/_, _%_, _^_, _≤_, _<_}
 use mathlib.Core.Path.{_≡_}
 use mathlib.Core.Bool.{Bool, true, false, _||_}
