@@ -61,7 +61,7 @@ kind-lacking e w k h = kind-unknown e w (λ p. omega (arith, p ∙ ap wire k)) (
     go true false p = refl
     go false false p = refl
 
--- ---- what stands behind the tag, by its shape
+-- ---- what comes after the tag, by its shape
 
 -- with what was read
 pub given-took : {r : Read} {v n : ℕ} (f : ℕ → ℕ → Field) → r ≡ Took v n → given r f ≡ f v n
@@ -73,7 +73,7 @@ unfolding given
 given-no f e = ap (λ (r : Read). given r f) e
 
 module _ (depth inner m kind n : ℕ) (s : List ℕ) where
-  -- a message head stands below depth 100, whatever is behind its tag
+  -- a message head stands below depth 100, whatever comes after its tag
   pub message-too-deep : mostLevels ≤ depth → shaped (other message) depth inner m kind n s ≡ Fault tooDeep 0
   unfolding shaped
   message-too-deep h = if-so (leb _ depth) _ (λ e. omega (arith, leb-false _ depth e))

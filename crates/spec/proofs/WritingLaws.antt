@@ -53,7 +53,7 @@ part-written c u =
     let long : length (p ++ c) - length p ≡ length c = omega (arith, length-append p c) in
     ap₂ take long (ap (drop (length p)) (append-assoc p c u) ∙ drop-append-seam p (c ++ u)) ∙ take-append-seam c u
 
--- the field behind a written tag, as its entry and its wire type say
+-- the field after a written tag, as its entry and its wire type say
 pub field-written : (sch : Schema) (depth type m w : ℕ) (u : List ℕ) → 1 ≤ m → m ≤ largestNumber → w ≤ fixed32Wire
     → field (says sch) depth type (encode (m * 8 + w) ++ u)
     ≡ shaped (shape (saysOf (lookup (sch .entries) type m) w .kind)) depth (saysOf (lookup (sch .entries) type m) w .inner) m (saysOf (lookup (sch .entries) type m) w .kind)
@@ -120,7 +120,7 @@ bytesOf-enough (suc f) (suc g) tags payload (r ∷ rs) hf hg =
     (bytesOf-enough f g (not (eqb (r .kind) packedHead)) payload (take n rs) (omega arith) (omega arith))
     (bytesOf-enough f g tags payload (drop n rs) (omega arith) (omega arith))
 
--- a record's tag and body, in which the records that stand deeper are written, and then those behind them
+-- a record's tag and body, in which the records that stand deeper are written, and then those after them
 abbrev pub bytesIn : Bool → List ℕ → List Record → List ℕ
 bytesIn tags payload rs = bytesOf (length rs) tags payload rs
 

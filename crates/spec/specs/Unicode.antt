@@ -23,7 +23,7 @@ spell v =
     if leb v 0xffff then (0xe0 + v / 64 / 64) ∷ six (v / 64) ∷ six v ∷ [] else
     (0xf0 + v / 64 / 64 / 64) ∷ six (v / 64 / 64) ∷ six (v / 64) ∷ six v ∷ []
 
--- Bytes that are the spellings of scalar values, one behind the other.
+-- Bytes that are the spellings of scalar values, one after the other.
 pub data Text : List ℕ → Type 0 where
   nothing : Text []
   scalar : {v : ℕ} {s : List ℕ} → ScalarValue v → Text s → Text (spell v ++ s)
