@@ -1,4 +1,4 @@
-// What stands at a position of a slice: a value that is one number, or a content behind its length.
+// Reading at a position of a slice: a value that is one number, or a content after its length.
 ghost use mathlib.Core.Path.{_≡_};
 ghost use lib.ListN.{drop};
 ghost use Rattle.spec.specs.Base.{meaning};
@@ -120,7 +120,7 @@ pub enum Span {
     Bad(u32),
 }
 
-// The content behind a length, which is a varint32 or a varint64.
+// The content after a length, which is a varint32 or a varint64.
 pub(crate) fn span_at(s: &[u8], at: usize, narrow: bool) -> Span
     ensures { λ r. ⌜ r ≡ spanAt at (content (varintOf narrow) (drop at (now (s .entry)))) ⌝ }
 {

@@ -97,7 +97,7 @@ module _ {t : ℕ} {s : List ℕ} {k : ℕ} (c : Checked t s k) where
       go (bad l g) h = absurd (omega arith)
       go (good l g) h = (l, g)
 
--- a value that is no group's, behind a good tag
+-- a value that is no group's, after a good tag
 pub value-answer : (t level q : ℕ) (s : List ℕ) → length s ≤ limit → goodTag t ≡ true → To q ≡ behind 0 (plain (t % 8) s)
     → (0 ≡ refusal (skipFieldForTag t level s)) × (q ≡ taken (skipFieldForTag t level s))
 value-answer t level q s h g e =
