@@ -1,4 +1,4 @@
--- Laws of the steps of a field: its tag, its length, what stands behind them. Each says an answer of the code in the definitions' terms.
+-- Laws of the steps of a field: its tag, its length, what comes after them. Each says an answer of the code in the definitions' terms.
 -- Assumes nothing.
 use Prim.Native.Nat.{ℕ, suc, _+_, _-_, _*_, _/_, _%_, _^_, _≤_, _<_}
 use native.Mathlib.Omega.{arith}
@@ -155,7 +155,7 @@ span-in kind at s {a} {e} h =
         (omega arith, omega arith, omega (arith, length-drop at s))
     go (No k) none q = let z : _≡_ {A = ℕ} 0 1 = cc in absurd (omega arith)
 
--- ---- what stands behind a tag
+-- ---- what comes after a tag
 
 -- the kinds of a field with a length
 by-length {ℓ} : (P : ℕ → Type ℓ) → P stringKind → P messageKind → P bytesKind → P packedHead → P unknownBytes → (k : ℕ) → hasLength k ≡ true → P k
