@@ -32,7 +32,7 @@ use Rattle.pull.specs.declared.step.Said.the-variants as said
 use Rattle.pull.proofs.step.Said.{the-type}
 use Rattle.bench_leaves.specs.Loops.{xorOn, xors, varints, puts, saidOn, pulls, pulled}
 
--- What there is in all is what the rest adds to `acc` from here. `left` counts the iterations that may follow.
+-- The whole answer is what the rest adds to `acc` from here. `left` counts the iterations that may follow.
 pub record Xored (s : List ℕ) (at acc : ℕ) : Type 0 where
   pub left : ℕ
   pub few : length s ≤ at + left
@@ -132,7 +132,7 @@ module _ {vs room out after : List ℕ} {at i : ℕ} {p : Put} (h : Putting vs r
 
 -- ---- the pull loop
 
--- As for varints: what there is in all is what the steps from here add to `acc`.
+-- As for varints: the whole answer is what the steps from here add to `acc`.
 pub record Pulled (s : List ℕ) (at acc : ℕ) : Type 0 where
   pub left : ℕ
   pub few : length s ≤ at + left

@@ -118,7 +118,7 @@ module _ (s : List ℕ) (at : ℕ) {tag : ℕ} where
 
 -- ---- the elements of a packed field
 
--- What there is in all is what the elements from here add to `acc`. `left` counts the iterations that may follow.
+-- The whole answer is what the elements from here add to `acc`. `left` counts the iterations that may follow.
 pub record Rest (s : List ℕ) (from at acc : ℕ) : Type 0 where
   pub left : ℕ
   pub few : length s ≤ at + left
@@ -165,7 +165,7 @@ module _ {s : List ℕ} {from at acc : ℕ} (m : Moved) (x : Rest s from at acc)
 
 -- ---- the fields of a message
 
--- Likewise, for a message that is read in a way w and comes to `whole`.
+-- Likewise, for a message that is read in a way w and whose answer is `whole`.
 pub record Here (w : Way) (whole : Sum) (s : List ℕ) (at acc : ℕ) : Type 0 where
   pub left : ℕ
   pub few : length s ≤ at + left

@@ -34,7 +34,7 @@ records-end list at h = ap recordsOf (drop-of-length-le list {i = at} h) ∙ rec
 pub records-rest : (list : List ℕ) (at : ℕ) → at < length list → length list < at + stride → recordsFrom list at ≡ broken ∷ []
 records-rest list at h l = records-broken (drop at list) (omega (arith, length-drop at list)) (omega (arith, length-drop at list))
 
--- What the elements from `from` on come to is what those from `at` on come to.
+-- The answer for the elements from `from` on is the answer for those from `at` on.
 pub record Ahead (list : List ℕ) (from depth number kind at : ℕ) : Type 0 where
   pub on : from ≤ at
   pub inside : at ≤ length list

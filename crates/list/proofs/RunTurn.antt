@@ -24,7 +24,7 @@ use Rattle.list.proofs.RecordLaws.{expects, fault-other, fault-rest, re
 use Rattle.list.proofs.OpenLaws.{outer, fields-cons, length-fields, fields-more, around-fields, first-good, first-bad, first-deep, first-out, none-left}
 use Rattle.list.proofs.ElementTurn.{recordsFrom, records-end, records-rest}
 
--- What the whole list comes to is what the records from `at` on come to, in the messages that are open down to `depth`; `type` is the last one's.
+-- The answer for the whole list is the answer for the records from `at` on, in the messages that are open down to `depth`; `type` is the last one's.
 pub record Here (sch : Schema) (payload list open-types : List ℕ) (at depth type : ℕ) : Type 0 where
   pub same : listFault sch payload 0 (Fields 0 ∷ []) (recordsOf list) ≡ listFault sch payload (at / stride) (fieldsTo open-types depth) (recordsFrom list at)
   pub is : type ≡ getD open-types depth 0

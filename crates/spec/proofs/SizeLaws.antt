@@ -248,7 +248,7 @@ module _ {room : ℕ} {b : List ℕ} where
   size-short (above h) e = absurd (omega arith)
   size-short (faulty h j) e = absurd (omega arith)
 
--- so the answer for a list without fault is known from its size, before a byte is written
+-- so the answer for a list without fault can be told from its size, before a byte is written
 after-schema : (bad : Option ℕ) (v : Verdict) → schemaFirst bad v ≡ Fine → v ≡ Fine
 unfolding schemaFirst
 after-schema none v e = e
