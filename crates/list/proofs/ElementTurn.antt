@@ -1,4 +1,4 @@
--- One turn of the loop over the elements of a packed field. Assumes nothing.
+-- One iteration of the loop over the elements of a packed field. Assumes nothing.
 use Prim.Native.Nat.{ℕ, _+_, _-_, _/_, _%_, _≤_, _<_}
 use native.Mathlib.Omega.{arith}
 use mathlib.Core.Path.{_≡_, refl, sym, ap, _∙_}
@@ -34,7 +34,7 @@ records-end list at h = ap recordsOf (drop-of-length-le list {i = at} h) ∙ rec
 pub records-rest : (list : List ℕ) (at : ℕ) → at < length list → length list < at + stride → recordsFrom list at ≡ broken ∷ []
 records-rest list at h l = records-broken (drop at list) (omega (arith, length-drop at list)) (omega (arith, length-drop at list))
 
--- What the elements from `from` on come to is what those from `at` on come to.
+-- The answer for the elements from `from` on is the answer for those from `at` on.
 pub record Ahead (list : List ℕ) (from depth number kind at : ℕ) : Type 0 where
   pub on : from ≤ at
   pub inside : at ≤ length list
@@ -47,7 +47,7 @@ pub ahead : (list : List ℕ) (from depth number kind : ℕ) → from ≤ length
 ahead list from depth number kind h w = record { on = omega arith; inside = h; whole = w; same = λ sch payload out c d s. refl }
 
 module _ {list : List ℕ} {from depth number kind at : ℕ} (h : Ahead list from depth number kind at) where
-  -- they end, at the end of the list or in a rest that is no record
+  -- they end, at the end of the list or in a remainder that is no record
   pub elements-end : length list - at < stride → Elapsed list from depth number kind (To at)
   elements-end l =
       passed (h .on) (h .inside) (h .whole)

@@ -1,4 +1,4 @@
--- One turn of the loop over the records of a list. Assumes nothing.
+-- One iteration of the loop over the records of a list. Assumes nothing.
 use Prim.Native.Nat.{ℕ, _+_, _-_, _/_, _%_, _≤_, _<_}
 use native.Mathlib.Omega.{arith}
 use mathlib.Core.Path.{_≡_, refl, sym, ap, ap₂, _∙_, subst}
@@ -24,7 +24,7 @@ use Rattle.list.proofs.RecordLaws.{expects, fault-unexpected, fault-exp
 use Rattle.list.proofs.OpenLaws.{outer, fields-cons, length-fields, fields-more, around-fields, first-good, first-bad, first-deep, first-out, none-left}
 use Rattle.list.proofs.ElementTurn.{recordsFrom, records-end, records-rest}
 
--- What the whole list comes to is what the records from `at` on come to, in the messages that are open down to `depth`; `type` is the last one's.
+-- The answer for the whole list is the answer for the records from `at` on, in the messages that are open down to `depth`; `type` is the last one's.
 pub record Here (sch : Schema) (payload list open-types : List ℕ) (at depth type : ℕ) : Type 0 where
   pub same : listFault sch payload 0 (Fields 0 ∷ []) (recordsOf list) ≡ listFault sch payload (at / stride) (fieldsTo open-types depth) (recordsFrom list at)
   pub is : type ≡ getD open-types depth 0
@@ -39,7 +39,7 @@ here sch payload list open-types e = record {
 }
 
 module _ {sch : Schema} {payload list open-types : List ℕ} {at depth type : ℕ} (h : Here sch payload list open-types at depth type) where
-  -- the end of the list, and a rest that is no record
+  -- the end of the list, and a remainder that is no record
   pub run-end : length list ≤ at → Fine ≡ listFault sch payload 0 (Fields 0 ∷ []) (recordsOf list)
   run-end l =
       sym (h .same ∙ ap (listFault sch payload (at / stride) (fieldsTo open-types depth)) (records-end list at l) ∙ none-left sch payload (at / stride) (fieldsTo open-types depth))

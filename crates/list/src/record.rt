@@ -101,8 +101,8 @@ fn search(keys: &[u64; KEYS], info: &[u8; INFO], ty: u8, number: u64, kind: u64,
     }
 }
 
-// Of a record in a message of this type: by a guess at its entry, which the keys say to be right or not. The keys of its type, and the place of
-// its first guess, are handed in, as they stay the same from record to record.
+// Of a record in a message of this type: by a guess at its entry, which the keys confirm or not. The keys of its type, and the place of
+// its first guess, are parameters, as they stay the same from record to record.
 pub(crate) fn ask(
     table: &[u8; RECORD_KINDS],
     keys: &[u64; KEYS],

@@ -109,7 +109,7 @@ module _ (old : Schema) (payload : List ℕ) where
   abbrev pub onwardIn : ℕ → List Record → List Seen
   onwardIn t rs = onwardOf (length rs) old payload t rs
 
-  -- a record, those under it and those behind it
+  -- a record, those under it and those after it
   module _ (t d : ℕ) (r : Record) (xs ys : List Record) (dep : r .depth ≡ d) (o : Over (d + 1) xs) (l : Low (d + 1) ys) where
     abbrev child : ℕ
     child = lookup (old .entries) t (r .number) .child

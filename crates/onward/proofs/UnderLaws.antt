@@ -42,7 +42,7 @@ module _ (sch : Schema) (payload : List ℕ) where
       piece : Piece i
       shorter : length i ≤ length b
 
-    -- r is the first record q, or is behind the records xs under q, or is among these
+    -- r is the first record q, or is after the records xs under q, or is among these
     stands : {A : Type 0} {t : ℕ} {q : Record} {zs : List Record} (xs ys : List Record) → Among sch r under inside t (q ∷ zs)
         → take (deeper (q .depth) zs) zs ≡ xs → drop (deeper (q .depth) zs) zs ≡ ys
         → (r ≡ q → under ≡ xs → inside ≡ insideOf (q .kind) (lookup (sch .entries) t (q .number)) → A) → (Among sch r under inside t ys → A)

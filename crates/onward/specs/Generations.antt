@@ -1,4 +1,4 @@
--- Two generations of older readers: what one passes on, a reader with a still older schema passes on again. Assumes nothing: these are definitions.
+-- Two generations of older readers: what one passes on, a reader with a still older schema passes on again. Assumes nothing: these are definitions. Only laws cite it.
 use Prim.Native.Nat.{ℕ}
 use mathlib.Core.Path.{_≡_}
 use mathlib.Core.List.{List}

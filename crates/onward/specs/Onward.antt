@@ -1,5 +1,5 @@
 -- Demand 3: what was written under a newer schema goes through an older one unharmed. The older schema is the newer one with some entries left out.
--- It is stated in the last section; the sections before it say what its words mean. Assumes nothing: these are definitions.
+-- It is stated in the last section; the sections before it say what its words mean. Assumes nothing: these are definitions. Public promises cite it.
 use Prim.Native.Nat.{ℕ, zero, suc, _%_, _^_, _≤_}
 use mathlib.Core.Path.{_≡_}
 use mathlib.Core.Bool.{Bool, true, false, not}
@@ -39,7 +39,7 @@ pub record Seen : Type 0 where
   pub value : ℕ
   pub content : List ℕ
 
--- What stands behind a field's length: the content, which lies in the payload, or for a head `inner`, the bytes of all that is under it.
+-- What comes after a field's length: the content, which lies in the payload, or for a head `inner`, the bytes of all that is under it.
 -- A number has no content.
 unfoldable pub held : Shape → (payload : List ℕ) → Record → (inner : List ℕ) → List ℕ
 held (one c) payload r inner = []
@@ -51,7 +51,7 @@ held (other startGroup) payload r inner = []
 held (other endGroup) payload r inner = []
 held (other nothing) payload r inner = []
 
--- A record as written. What is under a head is shown by the records behind it, so here the head holds nothing.
+-- A record as written. What is under a head is shown by the records after it, so here the head holds nothing.
 unfoldable pub seen : (payload : List ℕ) → Record → Seen
 seen payload r = record {
   depth = r .depth;
@@ -107,7 +107,7 @@ onwardOne false payload r under nested rest =
     let inside = if eqb (r .kind) messageKind then nested else map (seen payload) under in
     seen payload r ∷ (inside ++ rest)
 
--- The records rs of a message of this type, in order. The records under one are those behind it that stand deeper; under a message they are
+-- The records rs of a message of this type, in order. The records under one are those after it that stand deeper; under a message they are
 -- those of its child type. k is no less than the number of records.
 unfoldable pub onwardOf : ℕ → Schema → (payload : List ℕ) → (type : ℕ) → List Record → List Seen
 onwardOf zero old payload type rs = []

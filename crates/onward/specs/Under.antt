@@ -1,5 +1,5 @@
 -- That a content holds all that was under it: the content of a message or packed field, read alone, shows the records that were under its head. So who
--- receives an unknown field from an older reader, and has the newer schema, has everything. Assumes nothing: these are definitions.
+-- receives an unknown field from an older reader, and has the newer schema, has everything. Assumes nothing: these are definitions. Only laws cite it.
 use Prim.Native.Nat.{ℕ, _+_, _-_, _≤_}
 use mathlib.Core.Path.{_≡_}
 use mathlib.Core.Bool.{Bool, true}

@@ -126,7 +126,7 @@ module _ (s : List ℕ) (at level : ℕ) where
 
 -- ---- one answer
 
--- what is told says what was said
+-- an answer in the definitions' terms comes from one answer only
 untold : spec.Said → Said
 untold (spec.Number v) = said.Number v
 untold (spec.Content a z) = said.Content a z
@@ -143,7 +143,7 @@ one-said {x} {y} e = sym (back x) ∙ ap untold e ∙ back y
     back said.End = refl
     back (said.Refused k p) = refl
 
--- every call that ends in a `Moved`: each of these promises names what its answer tells
+-- every call that ends in a `Moved`: each of these promises names its answer
 pub one-move : {x y : Moved} {m : spec.Moved} → asMoved x ≡ m → asMoved y ≡ m → x ≡ y
 one-move {x} {y} e f =
     let h : asMoved x ≡ asMoved y = e ∙ sym f in

@@ -1,4 +1,4 @@
-// What stands at a position of a slice: a value that is one number, or a content behind its length.
+// Reading at a position of a slice: a value that is one number, or a content after its length.
 ghost use mathlib.Core.Path.{_≡_};
 ghost use lib.ListN.{drop};
 ghost use Rattle.spec.specs.Base.{meaning};

@@ -1,4 +1,4 @@
--- Laws of the steps of a field: its tag, its length, what stands behind them. Each says an answer of the code in the definitions' terms.
+-- Laws of the steps of a field: its tag, its length, what comes after them. Each says an answer of the code in the definitions' terms.
 -- Assumes nothing.
 use Prim.Native.Nat.{ℕ, suc, _+_, _-_, _*_, _/_, _%_, _^_, _≤_, _<_}
 use native.Mathlib.Omega.{arith}
@@ -118,7 +118,7 @@ pub short-length : (narrow : Bool) (at : ℕ) (s : List ℕ) → at < length s �
 short-length true at s h l = one-byte 3 15 at s h l
 short-length false at s h l = one-byte 8 1 at s h l
 
--- ---- what stands behind a tag
+-- ---- what comes after a tag
 
 -- the kinds of a field with a length
 by-length {ℓ} : (P : ℕ → Type ℓ) → P stringKind → P messageKind → P bytesKind → P packedHead → P unknownBytes → (k : ℕ) → hasLength k ≡ true → P k

@@ -1,4 +1,4 @@
--- The turns of the loop over a message's fields, in plain values, and what the records of one field are. Assumes nothing.
+-- The iterations of the loop over a message's fields, in plain values, and what the records of one field are. Assumes nothing.
 use Prim.Native.Nat.{ℕ, suc, _+_, _-_, _/_, _%_, _≤_, _<_}
 use native.Mathlib.Omega.{arith}
 use native.Mathlib.Nat.{add-zero}
@@ -277,7 +277,7 @@ module _ (look : Look) (depth ty : ℕ) {s : List ℕ} {off : ℕ} {room₀ : Li
                   };
             }
 
--- ---- a short integer behind a tag of one byte
+-- ---- a short integer after a tag of one byte
 
 tag-one : (c : ℕ) (l : List ℕ) → 8 ≤ c → c < 128 → c % 8 ≡ varintWire → tag (c ∷ l) ≡ Took c 1
 unfolding tag varint require

@@ -1,4 +1,4 @@
-// What the field at a place of a message is, and what it asks of a reader. Nothing is stored here, and no group is skipped: a reader does that in
+// What the field at a place of a message is, and what a reader has to do with it. Nothing is stored here, and no group is skipped: a reader does that in
 // its own way.
 ghost use mathlib.Core.Path.{_≡_};
 ghost use mathlib.Core.Bool.{true, false};
@@ -48,14 +48,14 @@ pub struct Row {
     pub end: usize,
 }
 
-// What a field asks: a record; that a group is skipped, whose fields stand at `next`; or a refusal, at a place that counts from the field's tag.
+// What a reader has to do: store a record; skip a group, whose fields start at `next`; or refuse, at a place that counts from the field's tag.
 pub enum Field {
     Of(Row),
     Group { number: u64, next: usize },
     Bad { number: u32, place: usize },
 }
 
-// What a tag says, and the place behind it.
+// What a tag says, and the place after it.
 enum Tag {
     Of {
         number: u64,
@@ -66,7 +66,7 @@ enum Tag {
     Bad(u32),
 }
 
-// What stands behind a tag: a value and the range of its record, the fields of a group, or a refusal.
+// What comes after a tag: a value and the range of its record, the fields of a group, or a refusal.
 enum Body {
     Is {
         value: u64,
@@ -204,7 +204,7 @@ fn span_at(s: &[u8], at: usize, kind: u64) -> Span
     long_span(s, at, kind)
 }
 
-// ---- what stands behind a tag
+// ---- what comes after a tag
 
 fn has_length(kind: u64) -> bool
     ensures { λ r. ⌜ r ≡ hasLength kind ⌝ }

@@ -24,7 +24,7 @@ use spec::columns;
 use spec::limits;
 use spec::refusals;
 
-// What a reading comes to: the refusal's number, 0 for none; how many records stand in the room; the place of the refusal.
+// The answer of a reading: the refusal's number, 0 for none; how many records are in the room; the place of the refusal.
 pub struct Answer {
     pub number: u32,
     pub count: usize,

@@ -35,7 +35,7 @@ enum Kind {
     Other,
 }
 
-// The kind of the field whose tag is the one byte c, of the wire type of varints. Number 0 is asked for last: no table of a schema has a key for it.
+// The kind of the field whose tag is the one byte c, of the wire type of varints. Number 0 is tested last: no table of a schema has a key for it.
 fn int_kind(keys: &[u64; layout::KEYS], info: &[u8; layout::INFO], c: u8, ty: u32) -> Kind
     requires { ⌜ ty < mostTypes ⌝ }
     ensures { λ r. ⌜ Tells (tableSays (now (keys .entry)) (now (info .entry)) ty) c r ⌝ }
@@ -107,7 +107,7 @@ fn short_ints(
     Spot { at, to }
 }
 
-// What a field asks, where its tag stands at `at`: its record, and for a head what lies below it.
+// Does what a field asks, whose tag is at `at`: stores its record, and for a head what lies below it.
 fn store(
     keys: &[u64; layout::KEYS],
     info: &[u8; layout::INFO],
@@ -175,7 +175,7 @@ fn store(
     Step::Go(to)
 }
 
-// The fields of the message s, which stands at `off`, behind the first `from` numbers of the room.
+// Stores the fields of the message s, which is at `off`, after the first `from` numbers of the room.
 pub(crate) fn message(
     keys: &[u64; layout::KEYS],
     info: &[u8; layout::INFO],

@@ -1,7 +1,7 @@
 -- The tables of a schema, which a reader makes once for each call, and what they say of a tag. Any two arrays are tables: what they say is defined
 -- for all of them, and that those made of a valid schema say what the schema says is a law (proofs/TableLaws).
 -- How they are laid out, with the names of their places, is in specs/Layout.
--- Assumes nothing: these are definitions.
+-- Assumes nothing: these are definitions. Public promises cite it.
 use Prim.Native.Nat.{ℕ, _+_, _*_, _/_, _%_}
 use mathlib.Core.Bool.{Bool, not, _&&_}
 use mathlib.Core.List.{List, [], _∷_}

@@ -101,7 +101,7 @@ module _ (t : ℕ) (s : List ℕ) {k : ℕ} (c : k ≡ refusal (checked t s (Too
       go false false p q e = absurd (omega arith)
       go false true p q e = (ltb-false limit (length s) p, q)
 
--- a value that is no group's, behind a good tag
+-- a value that is no group's, after a good tag
 pub value-answer : (t level q : ℕ) (s : List ℕ) → length s ≤ limit → goodTag t ≡ true → To q ≡ behind 0 (plain (t % 8) s)
     → (0 ≡ refusal (skipFieldForTag t level s)) × (q ≡ taken (skipFieldForTag t level s))
 value-answer t level q s h g e =

@@ -18,14 +18,14 @@ use wire::found::Found;
 // The largest wire type, at a tag's width.
 const FIXED32: u32 = wire_types::FIXED32 as u32;
 
-// What a skip comes to: the refusal's number, 0 for none, and the bytes used, 0 on refusal.
+// The answer of a skip: the refusal's number, 0 for none, and the bytes used, 0 on refusal.
 pub struct Skipped {
     pub number: u32,
     pub used: usize,
 }
 
-// Skips the fields of a group from `from` on, and the end-group tag that closes it. A loop, so that the stack grows with the groups only;
-// what is no group's is passed in it, and skip_field is called for a group within.
+// Skips the fields of a group from `from` on, and the end-group tag that closes it. It is a loop, so that the stack grows with the groups only;
+// other fields are skipped in it, and skip_field is called for a group within.
 fn skip_group(s: &[u8], from: usize, level: u32, outer: bool) -> Past
     ensures { λ r. ⌜ r ≡ behind from (skipGroup (length (drop from (now (s .entry)))) (atEnd outer) level (drop from (now (s .entry)))) ⌝ }
 {
@@ -117,7 +117,7 @@ fn checked(tag: u32, s: &[u8]) -> u32
     refusals::BAD_TAG
 }
 
-// Skips the field behind a tag. Every group counts, and the end of the bytes closes all open groups.
+// Skips the field after a tag. Every group counts, and the end of the bytes closes all open groups.
 pub fn skip_field_for_tag(tag: u32, s: &[u8], level: u32) -> Skipped
     ensures { λ r. ⌜ (r .number ≡ refusal (skipFieldForTag tag level (now (s .entry)))) × (r .used ≡ taken (skipFieldForTag tag level (now (s .entry)))) ⌝ }
 {
@@ -133,7 +133,7 @@ pub fn skip_field_for_tag(tag: u32, s: &[u8], level: u32) -> Skipped
     used_of(skip_field(s, 0, w, level))
 }
 
-// Skips the field behind the tag of an unknown field, as the message loop does: its outermost group is not counted.
+// Skips the field after the tag of an unknown field, as the message loop does: its outermost group is not counted.
 pub fn read_unknown_or_skip_group(tag: u32, s: &[u8], level: u32) -> Skipped
     ensures { λ r. ⌜ (r .number ≡ refusal (readUnknownOrSkipGroup tag level (now (s .entry)))) × (r .used ≡ taken (readUnknownOrSkipGroup tag level (now (s .entry)))) ⌝ }
 {

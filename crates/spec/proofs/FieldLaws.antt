@@ -61,7 +61,7 @@ kind-lacking e w k h = kind-unknown e w (λ p. omega (arith, p ∙ ap wire k)) (
     go true false p = refl
     go false false p = refl
 
--- ---- what stands behind the tag, by its shape
+-- ---- what comes after the tag, by its shape
 
 -- with what was read
 pub given-took : {r : Read} {v n : ℕ} (f : ℕ → ℕ → Field) → r ≡ Took v n → given r f ≡ f v n

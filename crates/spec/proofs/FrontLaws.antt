@@ -1,4 +1,4 @@
--- What is read depends only on the bytes it takes: those bytes, with anything behind them, read the same. So it is for numbers, for contents, for
+-- What is read depends only on the bytes it takes: those bytes, with anything after them, read the same. So it is for numbers, for contents, for
 -- groups that a tag closed and for whole fields; and of a field of bytes, the content may be any of the same length.
 -- Assumes nothing.
 use Prim.Native.Nat.{ℕ, zero, suc, _+_, _-_, _/_, _%_, _≤_, _<_}
@@ -22,7 +22,7 @@ use Rattle.spec.proofs.SkipLaws.{takes-skipField, takes-skipGroup, grou
 use Rattle.spec.proofs.VarintLaws.{lower-or-not}
 use Rattle.spec.proofs.FieldLaws.{message-head, message-too-deep}
 
--- what p reads in s it reads again in the bytes that it took, with u behind them
+-- what p reads in s it reads again in the bytes that it took, with u after them
 pub data Again (p : List ℕ → Read) (s u : List ℕ) : Read → Type 0 where
   again : {v n : ℕ} → p (take n s ++ u) ≡ Took v n → Again p s u (Took v n)
   not-read : {k : ℕ} → Again p s u (No k)
@@ -91,7 +91,7 @@ again-scalar fixed64 s u = again-fixed _ s u
 front-parts : (n m : ℕ) (s u : List ℕ) → take (n + m) s ++ u ≡ take n s ++ (take m (drop n s) ++ u)
 front-parts n m s u = ap (λ (x : List ℕ). x ++ u) (take-add n m s) ∙ append-assoc (take n s) (take m (drop n s)) u
 
--- A content is found by its length: behind that, any bytes will do that are enough.
+-- A content is found by its length: after that, any bytes will do that are enough.
 pub data Found (p : List ℕ → Read) (s : List ℕ) : Read → Type 0 where
   found : {a m : ℕ} → a + m ≤ length s → ((y : List ℕ) → m ≤ length y → p (take a s ++ y) ≡ Took a (a + m)) → Found p s (Took a (a + m))
   not-found : {k : ℕ} → Found p s (No k)
@@ -133,14 +133,14 @@ again-plain w s u =
 
 -- ---- groups
 
--- A group that was read was closed by a tag: what it took is then read the same with anything behind it. Or the end of the bytes closed it,
+-- A group that was read was closed by a tag: what it took is then read the same with anything after it. Or the end of the bytes closed it,
 -- where that is no refusal: it then took them all.
 pub data Closed (atEnd : Read) (p : List ℕ → Read) (s : List ℕ) : Read → Type 0 where
   by-tag : {v n : ℕ} → ((u : List ℕ) → p (take n s ++ u) ≡ Took v n) → Closed atEnd p s (Took v n)
   by-end : {v n : ℕ} → refusal atEnd ≡ 0 → length s ≤ n → Closed atEnd p s (Took v n)
   not-closed : {k : ℕ} → Closed atEnd p s (No k)
 
--- the fields of a group, with no count, and what they are behind the first tag
+-- the fields of a group, with no count, and what they are after the first tag
 abbrev inGroup : Read → ℕ → List ℕ → Read
 inGroup atEnd level s = skipGroup (length s) atEnd level s
 
@@ -162,7 +162,7 @@ module _ (atEnd : Read) where
   closed-choice s true p q f g = f
   closed-choice s false p q f g = g
 
-  -- where p reads q behind the first n bytes
+  -- where p reads q after the first n bytes
   closed-behind : (p q : List ℕ → Read) (s : List ℕ) (n : ℕ) → ((y : List ℕ) → p (take n s ++ y) ≡ longer n (q y))
       → {r : Read} → Closed atEnd q (drop n s) r → Closed atEnd p s (longer n r)
   unfolding longer
@@ -247,7 +247,7 @@ again-outerGroup level s u = go (group-closed (No endsEarly) level s)
     go (by-end e h) = absurd (omega arith)
     go not-closed = not-read
 
--- The same for equations. A front part that was taken whole is read with anything behind it, and what was taken is read alone.
+-- The same for equations. A front part that was taken whole is read with anything after it, and what was taken is read alone.
 module _ (p : List ℕ → Read) (law : (s u : List ℕ) → Again p s u (p s)) (bound : (s : List ℕ) → Takes 0 (length s) (p s)) where
   pub front : (a u : List ℕ) (v : ℕ) → p a ≡ Took v (length a) → p (a ++ u) ≡ Took v (length a)
   front a u v e = ap (λ (x : List ℕ). p (x ++ u)) (sym (take-length a)) ∙ again-read (subst (Again p a u) e (law a u))
@@ -265,7 +265,7 @@ module _ (p : List ℕ → Read) (law : (s u : List ℕ) → Again p s u (p s)) 
 
 -- ---- fields
 
--- a part of the first n bytes, with anything behind them
+-- a part of the first n bytes, with anything after them
 pub part-front : (a e n : ℕ) (s u : List ℕ) → a ≤ e → e ≤ n → n ≤ length s → part a e (take n s ++ u) ≡ part a e s
 part-front a e n s u h j l = in-front u ∙ sym (in-front (drop n s)) ∙ ap (part a e) (take-append-drop n s)
   where
@@ -275,7 +275,7 @@ part-front a e n s u h j l = in-front u ∙ sym (in-front (drop n s)) ∙ ap (pa
         ap (take (e - a)) (drop-append-le a (take n s) y (omega arith))
         ∙ take-append-le (e - a) (drop a (take n s)) y (omega (arith, length-drop a (take n s)))
 
--- What g reads in s, behind a tag of n bytes, it reads again in the bytes that it took, with u behind them.
+-- What g reads in s, after a tag of n bytes, it reads again in the bytes that it took, with u after them.
 data Kept (n : ℕ) (g : List ℕ → Field) (s u : List ℕ) : Field → Type 0 where
   kept : {x : Field} (l : ℕ) → used x ≡ n + l → g (take l s ++ u) ≡ x → Kept n g s u x
   faulty : {k p : ℕ} → Kept n g s u (Fault k p)
@@ -329,7 +329,7 @@ shaped-kept mode (other endGroup) depth inner m kind n s u = faulty
 shaped-kept mode (other nothing) depth inner m kind n s u = faulty
 
 module _ (look : Look) (depth type : ℕ) where
-  -- the field behind a tag t of n bytes
+  -- the field after a tag t of n bytes
   abbrev behind : ℕ → ℕ → List ℕ → Field
   behind t n s =
       let x = look .says type t in
@@ -341,7 +341,7 @@ module _ (look : Look) (depth type : ℕ) where
       ap (λ (r : Read). given r λ t i. behind t i (drop i (take n s ++ y))) (again-read f)
       ∙ ap (behind t n) (drop-at (take n s) y n (length-take-le n s h))
 
-  -- A field that is no fault, and so takes some bytes, is the same with anything behind them.
+  -- A field that is no fault, and so takes some bytes, is the same with anything after them.
   pub again-field : (s u : List ℕ) → 1 ≤ used (field look depth type s)
       → field look depth type (take (used (field look depth type s)) s ++ u) ≡ field look depth type s
   unfolding field given used
@@ -382,7 +382,7 @@ shaped-of mode (other startGroup) depth inner m k n s = of-given _ _ λ v l. of-
 shaped-of mode (other endGroup) depth inner m k n s = of-fault
 shaped-of mode (other nothing) depth inner m k n s = of-fault
 
--- What g reads in s, behind a tag of n bytes, is a content that it does not look at: behind where that starts, any bytes will do that are enough.
+-- What g reads in s, after a tag of n bytes, is a content that it ignores: from where that starts on, any bytes will do that are enough.
 data Unseen (n : ℕ) (g : List ℕ → Field) (s : List ℕ) : Field → Type 0 where
   unseen : {m k v : ℕ} (a l : ℕ) → ((y : List ℕ) → l ≤ length y → g (take a s ++ y) ≡ Value m k v (n + a) (n + (a + l)))
       → Unseen n g s (Value m k v (n + a) (n + (a + l)))
@@ -405,7 +405,7 @@ same-kind : {m j k v a e : ℕ} → Of k (Value m j v a e) → k ≡ j
 same-kind of-value = refl
 
 module _ (look : Look) (depth type : ℕ) where
-  -- Where a field's kind is that of bytes, the bytes before its content say what it is: behind them, any bytes will do that are enough.
+  -- Where a field's kind is that of bytes, the bytes before its content say what it is: after them, any bytes will do that are enough.
   pub any-content : (s : List ℕ) (m kind v a e : ℕ) → field look depth type s ≡ Value m kind v a e → shape kind ≡ other bytes
       → (y : List ℕ) → e - a ≤ length y → field look depth type (take a s ++ y) ≡ Value m kind v a e
   unfolding field given

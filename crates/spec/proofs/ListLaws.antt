@@ -136,7 +136,7 @@ deeper-run d (y ∷ ys) over-nil l = ap (λ (b : Bool). if b then deeper d ys + 
 deeper-run d ys (over-cons {r} {rs} h a) l =
     ap (λ (b : Bool). if b then deeper d (rs ++ ys) + 1 else 0) (lt-ltb d (r .depth) (omega arith)) ∙ omega (arith, deeper-run d ys a l)
 
--- the bytes of a record, of those in it and of those behind it
+-- the bytes of a record, of those in it and of those after it
 pub bytes-run : (tags : Bool) (payload : List ℕ) (r : Record) (xs ys : List Record) → Over (r .depth + 1) xs → Low (r .depth + 1) ys
     → bytesIn tags payload (r ∷ (xs ++ ys))
     ≡ tagOf tags r ++ body (shape (r .kind)) payload r (bytesIn (not (eqb (r .kind) packedHead)) payload xs) ++ bytesIn tags payload ys
@@ -261,7 +261,7 @@ module _ (sch : Schema) (payload : List ℕ) where
     j : ℕ
     fine : listFault sch payload j (Elements m k ∷ out) rest ≡ Fine
 
-  -- a record with none deeper behind it
+  -- a record with none deeper after it
   bytes-leaf : (tags : Bool) (r : Record) (ys : List Record) → Low (r .depth + 1) ys
       → bytesIn tags payload (r ∷ ys) ≡ tagOf tags r ++ body (shape (r .kind)) payload r (bytesIn (not (eqb (r .kind) packedHead)) payload []) ++ bytesIn tags payload ys
   bytes-leaf tags r ys l = bytes-run tags payload r [] ys over-nil l
@@ -312,7 +312,7 @@ module _ (sch : Schema) (payload : List ℕ) where
     j : ℕ
     fine : listFault sch payload j (Fields t ∷ out) rest ≡ Fine
 
-  -- r, with none in it, in front of what was grown behind it
+  -- r, with none in it, in front of what was grown after it
   leaf : (t : ℕ) (out : List Place) (r : Record) (rs : List Record) → r .depth ≡ length out → (b : List ℕ)
       → body (shape (r .kind)) payload r (bytesIn (not (eqb (r .kind) packedHead)) payload []) ≡ b
       → ((g : Grown t out rs) → Tree sch payload t (length out) (r ∷ g .xs) (tagBytes r ++ b ++ bytesIn true payload (g .xs)))
@@ -333,7 +333,7 @@ module _ (sch : Schema) (payload : List ℕ) where
         fine = g .fine;
       }
 
-  -- a head r, with the records xs in it, in front of what was grown behind them
+  -- a head r, with the records xs in it, in front of what was grown after them
   headed : (t : ℕ) (out : List Place) (r : Record) (xs rest : List Record) → r .depth ≡ length out → Over (length out + 1) xs → (i : List ℕ)
       → body (shape (r .kind)) payload r (bytesIn (not (eqb (r .kind) packedHead)) payload xs) ≡ prefixed i
       → ((g : Grown t out rest) → Tree sch payload t (length out) (r ∷ (xs ++ g .xs)) (tagBytes r ++ prefixed i ++ bytesIn true payload (g .xs)))

@@ -16,7 +16,7 @@ use Rattle.spec.proofs.VarintLaws.{lower-or-not}
 use Rattle.spec.proofs.SkipLaws.{takes-skipGroup}
 use Rattle.spec.proofs.FieldLaws.{message-head, message-too-deep}
 
--- from a up to e, behind at least one byte, and in the first `most`
+-- from a up to e, after at least one byte, and in the first `most`
 abbrev pub In : ℕ → ℕ → ℕ → Type 0
 In a e most = (1 ≤ a) × (a ≤ e) × (e ≤ most)
 

@@ -1,5 +1,5 @@
 -- Sizes are the lengths of what is written: of a value, a tag, a field and a list, level by level. No bound on them is asked for, so that a
--- list's size tells what is above the size limit as well. Then what the calls that write and that tell sizes answer. Assumes nothing.
+-- list's size is defined above the size limit as well. Then what the calls that write and that give sizes answer. Assumes nothing.
 use Prim.Native.Nat.{ℕ, zero, suc, _+_, _-_, _^_, _≤_, _<_}
 use native.Mathlib.Omega.{arith}
 use mathlib.Core.Path.{_≡_, refl, sym, ap, ap₂, _∙_}
@@ -233,7 +233,7 @@ writing-answered sch room payload rs =
     judged-answered (first-numbered (badSchema sch) (list-numbered sch payload 0 (Fields 0 ∷ []) rs)) (sized-answered room (written payload rs))
 
 module _ {room : ℕ} {b : List ℕ} where
-  -- on a refusal the size is 0, but for 12, which tells the size that is needed
+  -- on a refusal the size is 0, but for 12, where it is the size that is needed
   pub size-refused : {w : Writing} → Answered room b w → number w ≢ 0 → number w ≢ outputShort → size w ≡ 0
   unfolding number size
   size-refused (wrote h j) p q = absurd (p refl)

@@ -134,7 +134,7 @@ pub group-bad-tag : (atEnd : Read) (level b k : ℕ) (s : List ℕ) → tag (b �
 group-bad-tag atEnd level b k s e = group-step atEnd level b s ∙ next-no _ e
 
 module _ (atEnd : Read) (level : ℕ) where
-  -- the field behind the tag, and the rest of the group
+  -- the field after the tag, and the rest of the group
   abbrev fieldAndRest : List ℕ → ℕ → ℕ → Read
   fieldAndRest s t n =
       skipField innerGroup level (t % 8) (drop n s) >>= λ v m. skipGroup (length (drop (n + m) s)) atEnd level (drop (n + m) s)

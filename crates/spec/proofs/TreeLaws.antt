@@ -140,7 +140,7 @@ module _ (sch : Schema) (payload : List ℕ) where
       (ap (λ (k : ℕ). body (shape k) payload r (bytesIn (not (eqb k packedHead)) payload qs)) kin
       ∙ ap (λ (x : Shape). body x payload r (bytesIn false payload qs)) shape-packed ∙ ap prefixed (values-bytes sh in-it)) (tree-bytes rest)
 
-  -- ---- its validity: each record is without fault, if the records behind it are
+  -- ---- its validity: each record is without fault, if the records after it are
 
   no-fault : (here : Place) (out : List Place) (r : Record) (rs : List Record) → expected sch here r ≡ true → fitting (shape (r .kind)) payload r ≡ true
       → (eqb (r .kind) packedHead && not (nextDeeper r rs)) ≡ false → (eqb (r .kind) messageKind && leb mostLevels (r .depth)) ≡ false

@@ -120,7 +120,7 @@ bytesOf-enough (suc f) (suc g) tags payload (r ∷ rs) hf hg =
     (bytesOf-enough f g (not (eqb (r .kind) packedHead)) payload (take n rs) (omega arith) (omega arith))
     (bytesOf-enough f g tags payload (drop n rs) (omega arith) (omega arith))
 
--- a record's tag and body, in which the records that stand deeper are written, and then those behind them
+-- a record's tag and body, in which the records that stand deeper are written, and then those after them
 abbrev pub bytesIn : Bool → List ℕ → List Record → List ℕ
 bytesIn tags payload rs = bytesOf (length rs) tags payload rs
 

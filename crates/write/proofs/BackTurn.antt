@@ -1,4 +1,4 @@
--- The loop over a run of records, from the last to the first: what is known at the place b, and that a turn keeps it. A turn goes back over the run in
+-- The loop over a run of records, from the last to the first: what is known at the place b, and that an iteration keeps it. An iteration goes back over the run in
 -- the record before b, if there is one, which ends at b and begins where its head stands; the head then goes in front.
 -- Assumes nothing.
 use Prim.Native.Nat.{ℕ, _+_, _-_, _*_, _/_, _≤_, _<_}

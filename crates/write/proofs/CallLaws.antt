@@ -34,7 +34,7 @@ Answers w a out out′ = (a ≡ answerOfWriting w) × (out′ ≡ output w out)
 pub one-answer : (w : Writing) (a b : Answer) (out x y : List ℕ) → Answers w a out x → Answers w b out y → (a ≡ b) × (x ≡ y)
 one-answer w a b out x y h g = (h .0 ∙ sym (g .0), h .1 ∙ sym (g .1))
 
--- where no refusal is told, the bytes of the list stand at the front of the output, the size is how many they are, and what is behind them stays
+-- where nothing is refused, the bytes of the list are at the front of the output, the size is how many they are, and what is after them stays
 pub told-written : (sch : Schema) (room : ℕ) (payload : List ℕ) (rs : List Record) (out : List ℕ) → answerOfWriting (writing sch room payload rs) .number ≡ 0
     → (answerOfWriting (writing sch room payload rs) .size ≡ length (written payload rs)) × (output (writing sch room payload rs) out ≡ filled (written payload rs) out)
 unfolding answerOfWriting number size output

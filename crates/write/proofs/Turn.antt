@@ -1,4 +1,4 @@
--- One turn of a loop of the size pass, in plain values: where the loop is, and what a record adds. Assumes nothing.
+-- One iteration of a loop of the size pass, in plain values: where the loop is, and what a record adds. Assumes nothing.
 use Prim.Native.Nat.{ℕ, _+_, _-_, _*_, _≤_, _<_}
 use native.Mathlib.Omega.{arith}
 use mathlib.Core.Path.{_≡_, refl, sym, ap, _∙_, subst}
@@ -90,7 +90,7 @@ module _ {tags : Bool} {list : List ℕ} {from d at size : ℕ} (h : Here tags l
     stopped n =
         finish (ap (front d) split ∙ front-low d (this ∷ recordsFrom list (at + stride)) (lower-or-not (getD list at 0) d (λ l. l) (λ l. absurd (n (omega (arith, up-to))))))
 
-    -- ---- a record of the run, with e the place behind what lies below it
+    -- ---- a record of the run, with e the place after what lies below it
 
     module _ (same : getD list at 0 ≡ d) where
       -- what the record takes
@@ -138,7 +138,7 @@ module _ {tags : Bool} {list : List ℕ} {from d at size : ℕ} (h : Here tags l
           let empty : runFrom (d + 1) list (at + stride) ≡ [] = front-low (d + 1) (recordsFrom list (at + stride)) (subst (λ (k : ℕ). Low (k + 1) (recordsFrom list (at + stride))) same l) in
           turn (at + stride) n (omega (arith, ap length empty)) whole (c _) (omega arith)
 
--- ---- what stands behind the tag
+-- ---- what comes after the tag
 
 scalar-body : (x : Shape) (r : Record) (i : ℕ) → isScalar x ≡ true → bodySize x r i ≡ valueSize x (r .value)
 unfolding isScalar bodySize valueSize
@@ -179,7 +179,7 @@ value-most (one sfixed32) v e = omega arith
 value-most (one fixed64) v e = omega arith
 value-most (other x) v e = absurd (false≢true e)
 
--- ---- the turns of the loop over a run of records
+-- ---- the iterations of the loop over a run of records
 
 module _ {list : List ℕ} {from d at sum : ℕ} (h : Here true list from d at sum) (lt : at < length list) (same : getD list at 0 ≡ d) where
   abbrev number : ℕ
@@ -275,7 +275,7 @@ module _ {list : List ℕ} {from d at sum : ℕ} (h : Here true list from d at s
       other-head of-message n = absurd (n refl)
       other-head of-packed n = refl
 
--- ---- the turn of the loop over packed values
+-- ---- the iteration of the loop over packed values
 
 module _ {list : List ℕ} {from d at sum m k : ℕ} (h : Here false list from d at sum) (lt : at < length list) (same : getD list at 0 ≡ d)
     (values : Row d m k (recordsFrom list at)) where

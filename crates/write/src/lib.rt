@@ -21,7 +21,7 @@ use spec::refusals;
 use wire::wire_format::MAX_MESSAGE_SIZE;
 use wire::wire_format::record_wires;
 
-// What a writing comes to: the refusal's number, 0 for none; the size, 0 on refusal, but where the output is too short the size that is needed; the index of the bad
+// The answer of a writing: the refusal's number, 0 for none; the size, 0 on refusal, but where the output is too short the size that is needed; the index of the bad
 // record, or of the bad entry of the schema.
 pub struct Answer {
     pub number: u32,

@@ -1,4 +1,4 @@
--- `read::classify::field_at` meets its contract: the tag, and what stands behind it. Assumes nothing.
+-- `read::classify::field_at` meets its contract: the tag, and what comes after it. Assumes nothing.
 use mathlib.Core.Path.{sym, _∙_}
 use borrow.Author.Needs.{needs}
 use Rattle.spec.specs.Reading.{plainly}

@@ -57,7 +57,7 @@ message-Inv-loop keys info s off ty depth room₀ from at₀ to₀ room at to = 
 abbrev message-μ-loop : message-lts.MeasureT-loop
 message-μ-loop keys info s off ty depth room₀ from at₀ to₀ room at to = length s - at
 
--- where the field stands that is asked for next: behind the short ones, if those were looked for
+-- where the next field is: after the short ones, if those were read
 joined : (t : ℕ) (c : message-lts.Joined1 (message-claims t) (message-at t) message.Post message-Inv-loop message-μ-loop) →
     let a = c .before .before .before .before .before .args in
     Here (read (prepared plainly (a .keys .now) (a .info .now)) (a .depth) (a .ty)) (a .s .now) (a .off) (a .room .now) 0 (a .from) (c .if1 .room) (c .if1 .at) (c .if1 .to)

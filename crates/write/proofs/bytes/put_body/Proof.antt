@@ -1,4 +1,4 @@
--- `write::bytes::put_body` meets its contract: a value, or a length, with the content behind it where there is one.
+-- `write::bytes::put_body` meets its contract: a value, or a length, with the content after it where there is one.
 -- Assumes nothing.
 use Prim.Native.Nat.{ℕ, _+_, _-_, _/_, _≤_}
 use mathlib.Core.Path.{_≡_, sym, ap, _∙_}
