@@ -1,5 +1,5 @@
 -- What the parts of the list check ask and answer. The check goes over the records with the tables of a schema; a place in the list counts
--- numbers, `stride` to a record. Assumes nothing: these are definitions.
+-- numbers, `stride` to a record. Assumes nothing: these are definitions. Only inner functions and loops cite it.
 use Prim.Native.Nat.{ℕ, zero, suc, _+_, _*_, _/_, _%_, _^_, _≤_, _<_}
 use mathlib.Core.Path.{_≡_}
 use mathlib.Core.Bool.{Bool, true, false, not, _&&_, _||_}

@@ -1,4 +1,4 @@
--- What the answers of the steps say, in the definitions' terms. Assumes nothing: these are definitions.
+-- What the answers of the steps say, in the definitions' terms. Assumes nothing: these are definitions. Public promises cite it.
 use Prim.Native.Nat.{ℕ, _≤_}
 use mathlib.Core.Path.{_≡_}
 use mathlib.Core.List.{List}

@@ -1,4 +1,4 @@
--- What the functions of this crate answer, by the definitions of reading. Assumes nothing: these are definitions. That a field which is asked
+-- What the functions of this crate answer, by the definitions of reading. Assumes nothing: these are definitions. Public promises cite it. That a field which is asked
 -- for so is the field of the definition is a law (proofs/AskedLaws).
 use Prim.Native.Nat.{ℕ, suc, _+_, _-_, _/_, _%_, _^_, _≤_, _<_, min}
 use mathlib.Core.Path.{_≡_}
@@ -114,7 +114,7 @@ hasLength kind = eqb kind stringKind || eqb kind messageKind || eqb kind bytesKi
 abbrev pub lengthOf : ℕ → List ℕ → Read
 lengthOf kind s = varintOf (not (headKind kind)) s
 
--- ---- what stands behind a tag, at the place `at`
+-- ---- what comes after a tag, at the place `at`
 
 unfoldable pub valued : ℕ → Read → Body
 valued at (Took v n) = body.Is v at (at + n)

@@ -1,5 +1,5 @@
--- Reading under the two tables of a schema, and that it is reading under the schema. Public promises cite it.
--- Assumes nothing: these are definitions.
+-- Reading under the two tables of a schema, and that it is reading under the schema.
+-- Assumes nothing: these are definitions. Public promises cite it.
 use Prim.Native.Nat.{ℕ}
 use mathlib.Core.Path.{_≡_}
 use mathlib.Core.List.{List}

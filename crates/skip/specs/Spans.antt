@@ -1,4 +1,4 @@
--- The content that was found at a position, as the readers answer it. Only inner functions cite it. Assumes nothing: this is a definition.
+-- The content that was found at a position, as the readers answer it. Assumes nothing: this is a definition. Only inner functions and loops cite it.
 use Prim.Native.Nat.{ℕ, _+_}
 use Rattle.spec.specs.Base.{Read, Took, No}
 use Rattle.skip.specs.declared.content.Span.{Span}

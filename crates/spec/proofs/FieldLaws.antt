@@ -73,7 +73,7 @@ unfolding given
 given-no f e = ap (λ (r : Read). given r f) e
 
 module _ (mode : Mode) (depth inner m kind n : ℕ) (s : List ℕ) where
-  -- a message head stands below depth 100, whatever is behind its tag
+  -- a message head stands below depth 100, whatever comes after its tag
   pub message-too-deep : mostLevels ≤ depth → shaped mode (other message) depth inner m kind n s ≡ Fault tooDeep 0
   unfolding shaped
   message-too-deep h = if-so (leb _ depth) _ (λ e. omega (arith, leb-false _ depth e))

@@ -142,7 +142,7 @@ module _ (s : List ℕ) where
 abbrev tagLength : ℕ → ℕ → ℕ
 tagLength m k = length (encode (m * 8 + wire k))
 
--- a content from a up to e, in the first `most` bytes, behind a tag and a length that are no shorter than ours for any content that is no longer
+-- a content from a up to e, in the first `most` bytes, after a tag and a length that are no shorter than ours for any content that is no longer
 record Frame (most m k a e : ℕ) : Type 0 where
   in-order : a ≤ e
   inside : e ≤ most

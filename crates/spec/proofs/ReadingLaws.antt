@@ -92,7 +92,7 @@ pub refused-first : (n i : ℕ) (q : Reading) → (Refused n i followed-by q) �
 unfolding _followed-by_
 refused-first n i q = refl
 
--- the records of a field, and then the rest: what inner reads matters only at shorter bytes, and the rest only behind the field
+-- the records of a field, and then what follows: what `inner` reads matters only at shorter bytes, and what follows only after the field
 pub field-cong : {most : ℕ} (mode : Mode) (p q : Inner) (p′ q′ : Reading) (depth at : ℕ) (s : List ℕ) (x : Field) → Sound most x
     → ((c a : ℕ) (u : List ℕ) → length u < most → p c a u ≡ q c a u)
     → (1 ≤ used x → used x ≤ most → p′ ≡ q′)

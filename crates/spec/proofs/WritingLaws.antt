@@ -53,7 +53,7 @@ part-written c u =
     let long : length (p ++ c) - length p ≡ length c = omega (arith, length-append p c) in
     ap₂ take long (ap (drop (length p)) (append-assoc p c u) ∙ drop-append-seam p (c ++ u)) ∙ take-append-seam c u
 
--- the field behind a written tag, as its entry and its wire type say
+-- the field after a written tag, as its entry and its wire type say
 pub field-written : (mode : Mode) (sch : Schema) (depth type m w : ℕ) (u : List ℕ) → 1 ≤ m → m ≤ largestNumber → w ≤ fixed32Wire
     → field (looking mode sch) depth type (encode (m * 8 + w) ++ u)
     ≡ shaped mode (shape (saysOf (lookup (sch .entries) type m) w .kind)) depth (saysOf (lookup (sch .entries) type m) w .inner) m (saysOf (lookup (sch .entries) type m) w .kind)

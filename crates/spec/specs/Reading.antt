@@ -1,4 +1,4 @@
--- What bytes read as under a schema. Assumes nothing: these are definitions.
+-- What bytes read as under a schema. Assumes nothing: these are definitions. Public promises cite it.
 use Prim.Native.Nat.{ℕ, zero, suc, _+_, _/_}
 use mathlib.Core.List.{List, [], _∷_}
 use mathlib.Core.Option.{Option, none, some}
@@ -45,7 +45,7 @@ unfoldable pub given : Read → (ℕ → ℕ → Field) → Field
 given (Took v n) f = f v n
 given (No k) f = Fault k 0
 
--- The field m of this kind, whose tag took n bytes, with s behind them; `inner` is what is in it.
+-- The field m of this kind, whose tag took n bytes, with s after them; `inner` is what is in it.
 unfoldable pub shaped : Mode → Shape → (depth inner m kind n : ℕ) → List ℕ → Field
 shaped mode (one c) depth inner m kind n s = given (scalar c s) λ v l. Value m kind v n (n + l)
 shaped mode (other string) depth inner m kind n s =
@@ -181,6 +181,6 @@ listed Done = []
 listed (Refused k p) = []
 listed (r then q) = r ∷ listed q
 
--- what the lent room, of `stride` numbers a record, then holds: the records, and behind them what it held
+-- what the lent room, of `stride` numbers a record, then holds: the records, and after them what it held
 abbrev pub roomAfter : Reading → List ℕ → List ℕ
 roomAfter q room = filled (stored (listed q)) room

@@ -1,5 +1,5 @@
 -- The grammar of valid lists: a list by its nesting, with the bytes that it is written as. It is a second reading of `listCheck` and `written`.
--- Assumes nothing: these are definitions.
+-- Assumes nothing: these are definitions. Only laws cite it.
 use Prim.Native.Nat.{ℕ, _+_, _*_, _≤_, _<_}
 use mathlib.Core.Path.{_≡_}
 use mathlib.Core.Bool.{true}

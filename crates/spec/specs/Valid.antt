@@ -1,4 +1,4 @@
--- What reading accepts is a list that writing takes. Assumes nothing: these are definitions.
+-- What reading accepts is a list that writing takes. Assumes nothing: these are definitions. Only laws cite it.
 use Prim.Native.Nat.{ℕ, _≤_, _<_}
 use mathlib.Core.Path.{_≡_}
 use mathlib.Core.List.{List}

@@ -1,4 +1,4 @@
--- What a list of records is written as under a schema, and which lists are. Assumes nothing: these are definitions.
+-- What a list of records is written as under a schema, and which lists are valid. Assumes nothing: these are definitions. Public promises cite it.
 use Prim.Native.Nat.{ℕ, zero, suc, _+_, _-_, _*_}
 use mathlib.Core.Bool.{Bool, true, false, not, _&&_, _||_}
 use mathlib.Core.List.{List, [], _∷_, _++_}

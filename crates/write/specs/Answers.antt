@@ -1,4 +1,4 @@
--- What the calls of this crate answer, by the definitions of writing. Public promises cite it. Assumes nothing: this is a definition.
+-- What the calls of this crate answer, by the definitions of writing. Assumes nothing: this is a definition. Public promises cite it.
 use Rattle.spec.specs.Writing.{Writing, number, size, index}
 use Rattle.write.specs.declared.Answer.{Answer}
 
