@@ -1,0 +1,141 @@
+// Sizes of unknown fields: of lists that end after a record and within one.
+use crate::parts::put_name;
+use crate::parts::put_sized;
+use printing::put_byte;
+use sizes::unknown_fields_size;
+use spec::columns::STRIDE;
+use spec::kinds::GROUP_START;
+use spec::kinds::INT32;
+use spec::kinds::PACKED_HEAD;
+use spec::kinds::UNKNOWN_BYTES;
+use spec::kinds::UNKNOWN_FIXED32;
+use spec::kinds::UNKNOWN_FIXED64;
+use spec::kinds::UNKNOWN_VARINT;
+
+// How many numbers the list has.
+const NUMBERS: usize = 16 * STRIDE;
+
+// From one part of it to the next: half a record.
+const STEP: usize = STRIDE / 2;
+
+// First the four kinds: a varint of two bytes, a fixed64 with a tag of two bytes, contents of 127, of 128 and of no bytes, and a fixed32; a content that
+// ends before it starts is of no bytes. Then kinds that count nothing: a known one, the last before the four, and the first after them; and a varint at depth 3,
+// which counts as at depth 0. Then the largest number of a field, the largest whose tag has 64 bits, the next, and the largest of all. Then a content
+// that takes what is left of the limit, and a varint that is too much.
+const LIST: [u64; NUMBERS] = [
+    0,
+    1,
+    UNKNOWN_VARINT,
+    150,
+    0,
+    0,
+    0,
+    16,
+    UNKNOWN_FIXED64,
+    7,
+    0,
+    0,
+    0,
+    1,
+    UNKNOWN_BYTES,
+    0,
+    2,
+    129,
+    0,
+    1,
+    UNKNOWN_BYTES,
+    0,
+    2,
+    130,
+    0,
+    1,
+    UNKNOWN_BYTES,
+    0,
+    5,
+    4,
+    0,
+    15,
+    UNKNOWN_FIXED32,
+    7,
+    0,
+    0,
+    0,
+    1,
+    INT32,
+    150,
+    0,
+    0,
+    0,
+    1,
+    PACKED_HEAD,
+    0,
+    0,
+    0,
+    0,
+    1,
+    GROUP_START,
+    0,
+    0,
+    0,
+    3,
+    1,
+    UNKNOWN_VARINT,
+    0,
+    0,
+    0,
+    0,
+    0x1fff_ffff,
+    UNKNOWN_VARINT,
+    0,
+    0,
+    0,
+    0,
+    0x1fff_ffff_ffff_ffff,
+    UNKNOWN_VARINT,
+    0,
+    0,
+    0,
+    0,
+    0x2000_0000_0000_0000,
+    UNKNOWN_VARINT,
+    0,
+    0,
+    0,
+    0,
+    0xffff_ffff_ffff_ffff,
+    UNKNOWN_VARINT,
+    0,
+    0,
+    0,
+    0,
+    1,
+    UNKNOWN_BYTES,
+    0,
+    0,
+    2147483320,
+    0,
+    1,
+    UNKNOWN_VARINT,
+    0,
+    0,
+    0,
+];
+
+// A line: the size of a list.
+fn size_line(list: &[u64], at: usize, out: &mut [u8]) -> usize {
+    let named = put_name(b"unknown", list.len(), at, out);
+    let sized = put_sized(b"size ", unknown_fields_size(list), named, out);
+    put_byte(b'\n', sized, out)
+}
+
+// A line for no records, for half of one, for one, and so on to all of them.
+pub fn unknowns(at: usize, out: &mut [u8]) -> usize {
+    let list = LIST;
+    let mut to = at;
+    let mut n: usize = 0;
+    while n <= NUMBERS {
+        to = size_line(&list[0..n], to, out);
+        n += STEP;
+    }
+    to
+}
