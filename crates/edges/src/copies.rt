@@ -182,15 +182,23 @@ const ALL: usize = 12 * STRIDE;
 
 const STEP: usize = STRIDE / 2;
 
-// The list on its way from the newer schema through the older.
-fn copied(list: &[u64], bytes: &mut [u8], room: &mut [u64], again: &mut [u8]) -> Trip {
+// The list on its way from the newer schema through the older. Only the answers are asked for here: the promise is not handed on.
+fn copied(
+    newer: &[u32],
+    older: &[u32],
+    list: &[u64],
+    payload: &[u8],
+    bytes: &mut [u8],
+    room: &mut [u64],
+    again: &mut [u8],
+) -> Trip {
     copy_onward(
         NEWER_TYPES,
-        &NEWER,
+        newer,
         OLDER_TYPES,
-        &OLDER,
+        older,
         list,
-        &PAYLOAD,
+        payload,
         bytes,
         room,
         again,
@@ -212,7 +220,15 @@ fn copy_line(list: &[u64], at: usize, out: &mut [u8]) -> usize {
     let mut bytes = [lists::PATTERN; FIRST_OUTPUT];
     let mut room = [rooms::PATTERN; ROOM];
     let mut again = [lists::PATTERN; SECOND_OUTPUT];
-    let t = copied(list, &mut bytes, &mut room, &mut again);
+    let t = copied(
+        &NEWER,
+        &OLDER,
+        list,
+        &PAYLOAD,
+        &mut bytes,
+        &mut room,
+        &mut again,
+    );
     let named = put_name(b"copy", list.len(), at, out);
     let told = put_trip(t, &bytes, &room, &again, named, out);
     put_byte(b'\n', told, out)
