@@ -50,11 +50,8 @@ fn find_lines(numbers: &[u32], at: usize, out: &mut [u8]) -> usize {
     to
 }
 
-// No entries, schema A, and the last of one entry more: less its last number, and whole.
+// No entries; and schema A with the first numbers of one entry more.
 pub fn finds(at: usize, out: &mut [u8]) -> usize {
-    let entries = ENTRIES;
     let none = find_line(&[], 0, 1, at, out);
-    let all = find_lines(&entries[0..SCHEMA_A], none, out);
-    let within = find_line(&entries[0..WITHIN_LAST], 1, 4, all, out);
-    find_line(&entries, 1, 4, within, out)
+    find_lines(&ENTRIES[0..WITHIN_LAST], none, out)
 }

@@ -1,5 +1,5 @@
 // Sizes of unknown fields: of lists that end after a record and within one.
-use crate::parts::put_name;
+use crate::parts::put_number;
 use crate::parts::put_sized;
 use printing::put_byte;
 use sizes::unknown_fields_size;
@@ -121,10 +121,11 @@ const LIST: [u64; NUMBERS] = [
     0,
 ];
 
-// A line: the size of a list.
+// A line: how many numbers a list has, and its size.
 fn size_line(list: &[u64], at: usize, out: &mut [u8]) -> usize {
-    let named = put_name(b"unknown", list.len(), at, out);
-    let sized = put_sized(b"size ", unknown_fields_size(list), named, out);
+    let named = put_number(b"unknown ", list.len() as u64, at, out);
+    let colon = put_byte(b':', named, out);
+    let sized = put_sized(unknown_fields_size(list), colon, out);
     put_byte(b'\n', sized, out)
 }
 
