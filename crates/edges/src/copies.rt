@@ -182,7 +182,7 @@ const ALL: usize = 12 * STRIDE;
 
 const STEP: usize = STRIDE / 2;
 
-// The list on its way from the newer schema through the older. Only the answers are asked for here: the promise is not handed on.
+// The list on its way from the newer schema through the older. Its caller needs no promise.
 fn copied(
     newer: &[u32],
     older: &[u32],
@@ -234,7 +234,7 @@ fn copy_line(list: &[u64], at: usize, out: &mut [u8]) -> usize {
     put_byte(b'\n', told, out)
 }
 
-// Ten records go unharmed. Then there are a list that is bad, a second output that is too short, another bad list, and a first output that is too short.
+// Ten records go unharmed. Of eleven the second output is too short, and of twelve the first. The lists between them are bad: they end within a record.
 pub fn copies(at: usize, out: &mut [u8]) -> usize {
     let list = LIST;
     let mut to = at;

@@ -80,10 +80,3 @@ pub record Unharmed (old : Schema) (list payload : List ℕ) (t : Trip) (bytes r
   pub bytes-of-list : message t bytes ≡ written payload (recordsOf list)
   pub shows : map (seen (message t bytes)) (listRead t room) ≡ onward old payload (recordsOf list)
   pub same-bytes : messageAgain t again ≡ message t bytes
-
--- ---- the call
-
--- What `copy_onward` promises: the three steps in any case, and demand 3 where what it asks for holds.
-pub record Promised (new old : Schema) (list payload bytes room again : List ℕ) (t : Trip) (bytes′ room′ again′ : List ℕ) : Type 0 where
-  pub steps : Copied new old list payload bytes room again t bytes′ room′ again′
-  pub demand-3 : Demanded new old list payload bytes room again → Unharmed old list payload t bytes′ room′ again′

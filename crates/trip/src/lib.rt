@@ -3,7 +3,7 @@ ghost use mathlib.Core.Path.{_≡_};
 ghost use Prim.Native.Nat.{_*_, _^_, _<_};
 ghost use Rattle.spec.specs.Record.{stride};
 ghost use Rattle.spec.specs.Schema.{schemaOf};
-ghost use Rattle.trip.specs.Copy.{sentSize, PassedOn, Promised};
+ghost use Rattle.trip.specs.Copy.{sentSize, PassedOn, Copied, Demanded, Unharmed};
 use read::read;
 use spec::columns;
 use write::write;
@@ -73,8 +73,11 @@ pub fn copy_onward(
     room: &mut [u64],
     again: &mut [u8],
 ) -> Trip
-    ensures { λ r. ⌜ Promised (schemaOf «newer_types» (now (newer .entry))) (schemaOf «older_types» (now (older .entry))) (now (list .entry)) (now (payload .entry))
-        (now (bytes .entry)) (now (room .entry)) (now (again .entry)) r (now (bytes .exit)) (now (room .exit)) (now (again .exit)) ⌝ }
+    ensures { λ r. ⌜ Copied (schemaOf «newer_types» (now (newer .entry))) (schemaOf «older_types» (now (older .entry))) (now (list .entry)) (now (payload .entry))
+        (now (bytes .entry)) (now (room .entry)) (now (again .entry)) r (now (bytes .exit)) (now (room .exit)) (now (again .exit))
+        × (Demanded (schemaOf «newer_types» (now (newer .entry))) (schemaOf «older_types» (now (older .entry))) (now (list .entry)) (now (payload .entry))
+        (now (bytes .entry)) (now (room .entry)) (now (again .entry))
+        → Unharmed (schemaOf «older_types» (now (older .entry))) (now (list .entry)) (now (payload .entry)) r (now (bytes .exit)) (now (room .exit)) (now (again .exit))) ⌝ }
 {
     let wrote = write(newer_types, newer, list, payload, bytes);
     let size = sent_size(wrote);

@@ -30,7 +30,7 @@ returns c =
     let l = writing-leaves new (a .payload .now) (recordsOf (a .list .now)) (a .bytes .now) in
     let sent-is = part-front (z .sent-size .result) _ ∙ ap₂ take (z .sent-size .ensures ∙ ap sentSize (w .write .ensures .0) ∙ l .size-is) (w .write .ensures .1) ∙ l .front in
     let all = copied new old (a .list .now) (a .payload .now) (a .bytes .now) (a .room .now) (a .again .now) (w .write .ensures) sent-is (p .pass-on .ensures) in
-    record { steps = all; demand-3 = λ d. demand-3 new old (a .list .now) (a .payload .now) (a .bytes .now) (a .room .now) (a .again .now) d all }
+    (all, λ d. demand-3 new old (a .list .now) (a .payload .now) (a .bytes .now) (a .room .now) (a .again .now) d all)
 
 pub copy-onward-spec : {M : Type 1} → statement M
 copy-onward-spec =
