@@ -182,15 +182,23 @@ const ALL: usize = 12 * STRIDE;
 
 const STEP: usize = STRIDE / 2;
 
-// The list on its way from the newer schema through the older.
-fn copied(list: &[u64], bytes: &mut [u8], room: &mut [u64], again: &mut [u8]) -> Trip {
+// The list on its way from the newer schema through the older. Its caller needs no promise.
+fn copied(
+    newer: &[u32],
+    older: &[u32],
+    list: &[u64],
+    payload: &[u8],
+    bytes: &mut [u8],
+    room: &mut [u64],
+    again: &mut [u8],
+) -> Trip {
     copy_onward(
         NEWER_TYPES,
-        &NEWER,
+        newer,
         OLDER_TYPES,
-        &OLDER,
+        older,
         list,
-        &PAYLOAD,
+        payload,
         bytes,
         room,
         again,
@@ -212,13 +220,21 @@ fn copy_line(list: &[u64], at: usize, out: &mut [u8]) -> usize {
     let mut bytes = [lists::PATTERN; FIRST_OUTPUT];
     let mut room = [rooms::PATTERN; ROOM];
     let mut again = [lists::PATTERN; SECOND_OUTPUT];
-    let t = copied(list, &mut bytes, &mut room, &mut again);
+    let t = copied(
+        &NEWER,
+        &OLDER,
+        list,
+        &PAYLOAD,
+        &mut bytes,
+        &mut room,
+        &mut again,
+    );
     let named = put_name(b"copy", list.len(), at, out);
     let told = put_trip(t, &bytes, &room, &again, named, out);
     put_byte(b'\n', told, out)
 }
 
-// Ten records go unharmed. Then there are a list that is bad, a second output that is too short, another bad list, and a first output that is too short.
+// Ten records go unharmed. Of eleven the second output is too short, and of twelve the first. The lists between them are bad: they end within a record.
 pub fn copies(at: usize, out: &mut [u8]) -> usize {
     let list = LIST;
     let mut to = at;

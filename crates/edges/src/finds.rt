@@ -1,4 +1,4 @@
-// Entries by owner and number: of no entries, of schema A, and of schema numbers that end within an entry.
+// Entries by owner and number: in no entries, and in schema numbers that end within an entry.
 use crate::parts::put_number;
 use crate::parts::put_three;
 use crate::schemas::ENTRIES;
@@ -14,7 +14,7 @@ const NUMBERS: u32 = 8;
 
 const PAIRS: u32 = 3 * NUMBERS;
 
-// How many numbers the entries are less the last.
+// The schema numbers: schema A, and all but the last number of one entry more.
 const WITHIN_LAST: usize = SCHEMA_A + ENTRY_STRIDE - 1;
 
 // The place of an entry, or `none`.
@@ -39,7 +39,7 @@ fn find_line(numbers: &[u32], owner: u32, number: u32, at: usize, out: &mut [u8]
     put_byte(b'\n', placed, out)
 }
 
-// A line for each owner and number.
+// All owners and numbers, one after the other.
 fn find_lines(numbers: &[u32], at: usize, out: &mut [u8]) -> usize {
     let mut to = at;
     let mut i: u32 = 0;
@@ -50,11 +50,8 @@ fn find_lines(numbers: &[u32], at: usize, out: &mut [u8]) -> usize {
     to
 }
 
-// No entries, schema A, and the last of one entry more: less its last number, and whole.
+// A line for no entries, and a line for each owner and number.
 pub fn finds(at: usize, out: &mut [u8]) -> usize {
-    let entries = ENTRIES;
     let none = find_line(&[], 0, 1, at, out);
-    let all = find_lines(&entries[0..SCHEMA_A], none, out);
-    let within = find_line(&entries[0..WITHIN_LAST], 1, 4, all, out);
-    find_line(&entries, 1, 4, within, out)
+    find_lines(&ENTRIES[0..WITHIN_LAST], none, out)
 }

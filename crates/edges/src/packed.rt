@@ -1,6 +1,6 @@
 // Sizes of packed fields by kind: of no values, and of some values under tags of one, two and five bytes.
-use crate::parts::put_name;
 use crate::parts::put_sized;
+use crate::parts::put_two;
 use printing::put_byte;
 use spec::kinds32;
 use spec::limits::LARGEST_NUMBER;
@@ -87,34 +87,35 @@ fn of_values(kind: u32, number: u32) -> Sized {
     }
 }
 
-// The sizes of a kind by the field number's tag.
-fn put_by_tag(kind: u32, at: usize, out: &mut [u8]) -> usize {
-    let one = put_sized(b" | one ", of_values(kind, ONE_BYTE), at, out);
-    let two = put_sized(b" | two ", of_values(kind, TWO_BYTES), one, out);
-    put_sized(b" | five ", of_values(kind, FIVE_BYTES), two, out)
-}
-
-// A line: the sizes of a kind.
-fn kind_line(kind: u32, at: usize, out: &mut [u8]) -> usize {
-    let named = put_name(b"packed", kind as usize, at, out);
-    let none = put_sized(b"none ", of_none(kind, ONE_BYTE), named, out);
-    let some = put_by_tag(kind, none, out);
+// A line: a kind and a field number, and the sizes of no values and of some.
+fn kind_line(kind: u32, number: u32, at: usize, out: &mut [u8]) -> usize {
+    let named = put_two(b"packedsize ", kind as u64, number as u64, at, out);
+    let colon = put_byte(b':', named, out);
+    let none = put_sized(of_none(kind, number), colon, out);
+    let some = put_sized(of_values(kind, number), none, out);
     put_byte(b'\n', some, out)
 }
 
 // A line for each kind from `first` to `last`.
-fn kind_lines(first: u32, last: u32, at: usize, out: &mut [u8]) -> usize {
+fn kind_lines(first: u32, last: u32, number: u32, at: usize, out: &mut [u8]) -> usize {
     let mut to = at;
     let mut kind = first;
     while kind < last {
-        to = kind_line(kind, to, out);
+        to = kind_line(kind, number, to, out);
         kind += 1;
     }
-    kind_line(last, to, out)
+    kind_line(last, number, to, out)
 }
 
 // A line for each kind that may be packed: all but string, group, message and bytes.
+fn number_lines(number: u32, at: usize, out: &mut [u8]) -> usize {
+    let to = kind_lines(kinds32::DOUBLE, kinds32::BOOL, number, at, out);
+    kind_lines(kinds32::UINT32, kinds32::SINT64, number, to, out)
+}
+
+// All kinds under each number.
 pub fn packed(at: usize, out: &mut [u8]) -> usize {
-    let to = kind_lines(kinds32::DOUBLE, kinds32::BOOL, at, out);
-    kind_lines(kinds32::UINT32, kinds32::SINT64, to, out)
+    let one = number_lines(ONE_BYTE, at, out);
+    let two = number_lines(TWO_BYTES, one, out);
+    number_lines(FIVE_BYTES, two, out)
 }

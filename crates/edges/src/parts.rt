@@ -36,11 +36,11 @@ pub fn put_three(call: &[u8], a: u64, b: u64, c: u64, at: usize, out: &mut [u8])
     spaced(c, two, out)
 }
 
-// What is sized, and its size; or `refused` and the number.
-pub fn put_sized(what: &[u8], s: Sized, at: usize, out: &mut [u8]) -> usize {
+// A space and a size, or `refused` and the number.
+pub fn put_sized(s: Sized, at: usize, out: &mut [u8]) -> usize {
     match s {
-        Sized::Size(n) => put_number(what, n, at, out),
-        Sized::TooLarge => put_number(b"refused ", TOO_LARGE as u64, at, out),
+        Sized::Size(n) => spaced(n, at, out),
+        Sized::TooLarge => put_number(b" refused ", TOO_LARGE as u64, at, out),
     }
 }
 

@@ -1,5 +1,5 @@
 // Sizes of unknown fields: of lists that end after a record and within one.
-use crate::parts::put_name;
+use crate::parts::put_number;
 use crate::parts::put_sized;
 use printing::put_byte;
 use sizes::unknown_fields_size;
@@ -11,6 +11,19 @@ use spec::kinds::UNKNOWN_BYTES;
 use spec::kinds::UNKNOWN_FIXED32;
 use spec::kinds::UNKNOWN_FIXED64;
 use spec::kinds::UNKNOWN_VARINT;
+use spec::limits;
+
+// Numbers of fields: the largest that a message may have, the largest whose tag has 64 bits, the next, and the largest of all.
+const LARGEST_FIELD: u64 = limits::LARGEST_NUMBER as u64;
+
+const LAST_OF_64_BITS: u64 = 0x1fff_ffff_ffff_ffff;
+
+const FIRST_ABOVE: u64 = 0x2000_0000_0000_0000;
+
+const LARGEST: u64 = 0xffff_ffff_ffff_ffff;
+
+// How long a content must be to take what is left of the limit: 321 bytes are taken before it, and six by its tag and its length.
+const LEFT: u64 = limits::LIMIT - 321 - 6;
 
 // How many numbers the list has.
 const NUMBERS: usize = 16 * STRIDE;
@@ -18,10 +31,9 @@ const NUMBERS: usize = 16 * STRIDE;
 // From one part of it to the next: half a record.
 const STEP: usize = STRIDE / 2;
 
-// First the four kinds: a varint of two bytes, a fixed64 with a tag of two bytes, contents of 127, of 128 and of no bytes, and a fixed32; a content that
-// ends before it starts is of no bytes. Then kinds that count nothing: a known one, the last before the four, and the first after them; and a varint at depth 3,
-// which counts as at depth 0. Then the largest number of a field, the largest whose tag has 64 bits, the next, and the largest of all. Then a content
-// that takes what is left of the limit, and a varint that is too much.
+// First the four kinds: a varint of two bytes, a fixed64 with a tag of two bytes, contents of 127, of 128 and of no bytes (it ends before it starts),
+// and a fixed32. Then kinds that count nothing: a known one, the last before the four, and the first after them; and a varint at depth 3, which counts as
+// at depth 0. Then varints with the four numbers. Then the content that takes what is left of the limit, and a varint that is too much.
 const LIST: [u64; NUMBERS] = [
     0,
     1,
@@ -84,25 +96,25 @@ const LIST: [u64; NUMBERS] = [
     0,
     0,
     0,
-    0x1fff_ffff,
+    LARGEST_FIELD,
     UNKNOWN_VARINT,
     0,
     0,
     0,
     0,
-    0x1fff_ffff_ffff_ffff,
+    LAST_OF_64_BITS,
     UNKNOWN_VARINT,
     0,
     0,
     0,
     0,
-    0x2000_0000_0000_0000,
+    FIRST_ABOVE,
     UNKNOWN_VARINT,
     0,
     0,
     0,
     0,
-    0xffff_ffff_ffff_ffff,
+    LARGEST,
     UNKNOWN_VARINT,
     0,
     0,
@@ -112,7 +124,7 @@ const LIST: [u64; NUMBERS] = [
     UNKNOWN_BYTES,
     0,
     0,
-    2147483320,
+    LEFT,
     0,
     1,
     UNKNOWN_VARINT,
@@ -121,10 +133,11 @@ const LIST: [u64; NUMBERS] = [
     0,
 ];
 
-// A line: the size of a list.
+// A line: how many numbers a list has, and its size.
 fn size_line(list: &[u64], at: usize, out: &mut [u8]) -> usize {
-    let named = put_name(b"unknown", list.len(), at, out);
-    let sized = put_sized(b"size ", unknown_fields_size(list), named, out);
+    let named = put_number(b"unknown ", list.len() as u64, at, out);
+    let colon = put_byte(b':', named, out);
+    let sized = put_sized(unknown_fields_size(list), colon, out);
     put_byte(b'\n', sized, out)
 }
 

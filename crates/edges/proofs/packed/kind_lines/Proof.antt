@@ -7,10 +7,10 @@ use Rattle.edges.proofs.packed.kind_lines.Statement.{statement}
 use Rattle.edges.proofs.packed.kind_lines.Tie as tie
 
 abbrev Inv-loop : tie.InvT-loop
-Inv-loop first last at out₀ to₀ kind₀ out to kind = length out ≡ length out₀
+Inv-loop first last number at out₀ to₀ kind₀ out to kind = length out ≡ length out₀
 
 abbrev μ-loop : tie.MeasureT-loop
-μ-loop first last at out₀ to₀ kind₀ out to kind = last - kind
+μ-loop first last number at out₀ to₀ kind₀ out to kind = last - kind
 
 pub kind-lines-spec : {M : Type 1} → statement M
 kind-lines-spec =
