@@ -271,7 +271,7 @@ static const struct { const char *who; call *reads; bool utf8; } parsers[] = {
     { "protobuf-c", pbc_reads, false }, { "c++", cpp_reads, false }, { "arena", arena_reads, false }, /* these take a string that is no UTF-8 */
 };
 
-/* Records equal the crate driver's, also those before a refusal, and what is behind them is untouched. Parsers have as many fields and elements in the root. */
+/* Records equal the crate driver's, also those before a refusal, and what is after them is untouched. Parsers have as many fields and elements in the root. */
 static void compare_reading(void)
 {
     memset(room2, 0x55, sizeof room2);
@@ -298,7 +298,7 @@ static struct { const char *who; call *writes; void *(*make)(const uint8_t *, si
     { "protobuf-c", pbc_writes, pbc_new, &pbc_object }, { "c++", cpp_writes, cpp_new, &cpp_object },
 };
 
-/* What was read is written to the bytes that it was read from, and nothing behind them is touched. The writers of objects order fields by number and join packed ones:
+/* What was read is written as the bytes that it was read from, and nothing after them is touched. The writers of objects order fields by number and join packed ones:
  * their bytes are compared with each other, and with ours where they have as many. */
 static void compare_writing(void)
 {

@@ -63,7 +63,7 @@ def value():
 for name, number, one in (("v1", 20000, lambda: rnd(128)), ("vmix", 10000, value), ("v10", 2000, lambda: 2**64 - 1 - rnd(1000))):
     (folder / name).write_bytes(b"".join(varint(one()) for _ in range(number)))
 
-# messages: the sequence goes on behind the varints, and the texts go on there too
+# messages: the sequence continues after the varints, and the texts continue there too
 behind_varints = state
 
 

@@ -1,4 +1,4 @@
-/* limits.c: the size limit itself through the C interface, at 2,147,483,647 and 2,147,483,648 bytes. The inputs are one field whose content is all the rest, of zeros;
+/* limits.c: the size limit itself through the C interface, at 2,147,483,647 and 2,147,483,648 bytes. The inputs are one field whose content is all the other bytes, which are zeros;
  * each answer is compared with what the definitions say. Then the stack that a call takes: it runs on one that was filled with a pattern. */
 #define _GNU_SOURCE
 #include "../include/calf.h"

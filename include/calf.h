@@ -6,12 +6,12 @@
  *   1 input or enclosing length ends too soon   2 bad varint        3 bad tag           4 end-group tag with no group open
  *   5 int32 or enum out of range                6 string not UTF-8  7 too deep          8 more records than room
  *   9 bad schema                               10 bad list         11 above 2,147,483,647 bytes   12 output too short
- * What else there is to tell goes to the array `answer`, whatever the result is.
+ * All else goes to the array `answer`, whatever the result is.
  *
  * A schema is `types` message types, 0 the root, and entries of five numbers: owner type, field number, kind (as in descriptor.proto), repeated (0 or 1), child
  * type. A record is calf_record_numbers() numbers: depth, number, kind, value, start, end.
  *
- * Nothing here allocates, keeps anything or writes behind what it says. */
+ * No function allocates, keeps state or writes outside what its line says. */
 #ifndef CALF_H
 #define CALF_H
 #include <stdbool.h>
@@ -21,18 +21,18 @@
 extern "C" {
 #endif
 
-/* How many numbers a record has: 6. A later version may have more, each behind those of today. */
+/* How many numbers a record has: 6. A later version may have more, each after those of today. */
 size_t calf_record_numbers(void);
 
 /* ---- varints, texts */
 
-/* The varint at s[at..]: answer = { value, the place behind it }, or zeros where it is refused (1, 2). */
+/* The varint at s[at..]: answer = { value, the place after it }, or zeros where it is refused (1, 2). */
 uint32_t calf_varint64(const uint8_t *s, size_t s_len, size_t at, uint64_t answer[2]);
 
 /* The same of 32 bits. */
 uint32_t calf_varint32(const uint8_t *s, size_t s_len, size_t at, uint64_t answer[2]);
 
-/* Stores value at out[at..] as a varint, as short as can be: the place behind it; or 0 where it has no room, and nothing is stored. */
+/* Stores value at out[at..] as the shortest varint: returns the place after it, or 0 where there is no room, and then nothing is stored. */
 size_t calf_put_varint(uint64_t value, uint8_t *out, size_t out_len, size_t at);
 
 /* How many bytes at the front of s are valid UTF-8: s_len where all are. */
@@ -40,11 +40,11 @@ size_t calf_utf8_prefix(const uint8_t *s, size_t s_len);
 
 /* ---- skipping */
 
-/* Skips the field that stands behind `tag`, in a message or group of this level: answer = { bytes used }, 0 on refusal (11, 3, then 1, 2, 4, 7).
+/* Skips the field after `tag`, in a message or group of this level: answer = { bytes used }, 0 on refusal (11, 3, then 1, 2, 4, 7).
  * Every group counts as a level, and the end of s closes all open groups. */
 uint32_t calf_skip_field_for_tag(uint32_t tag, const uint8_t *s, size_t s_len, uint32_t level, uint64_t answer[1]);
 
-/* The same as reading does it with a field that the schema does not say: the outermost group is not counted, and must end. */
+/* The same as reading does it with a field that the schema does not have: the outermost group is not counted, and must end. */
 uint32_t calf_read_unknown_or_skip_group(uint32_t tag, const uint8_t *s, size_t s_len, uint32_t level, uint64_t answer[1]);
 
 /* Whether s is a run of fields, with at most 100 groups open. No length is opened. */
@@ -60,10 +60,10 @@ uint32_t calf_prepare(uint32_t types, const uint32_t *numbers, size_t numbers_le
 
 /* ---- reading */
 
-/* Reads the message s to records in room: answer = { count of the records in room, place of the refusal }. Room behind the records is untouched. */
+/* Reads the message s to records in room: answer = { count of the records in room, place of the refusal }. Room after the records is untouched. */
 uint32_t calf_read(uint32_t types, const uint32_t *numbers, size_t numbers_len, const uint8_t *s, size_t s_len, uint64_t *room, size_t room_len, uint64_t answer[2]);
 
-/* The same under the tables of a valid schema, for a caller with many messages. Any arrays are tables: what reading then gives is defined too. */
+/* The same under the tables of a valid schema, for a caller with many messages. Any arrays are tables: what reading gives is defined for all. */
 uint32_t calf_read_prepared(const uint64_t keys[256], const uint8_t info[1024], const uint8_t *s, size_t s_len, uint64_t *room, size_t room_len, uint64_t answer[2]);
 
 /* ---- writing: the list is what lies in `list`, its contents lie in `payload` */
@@ -76,7 +76,7 @@ uint32_t calf_check_list(uint32_t types, const uint32_t *numbers, size_t numbers
 uint32_t calf_size(uint32_t types, const uint32_t *numbers, size_t numbers_len, const uint64_t *list, size_t list_len, const uint8_t *payload, size_t payload_len,
                    uint64_t answer[2]);
 
-/* Writes a list to the front of out: answer = { size, index }; for 12 the size that is needed. Behind the size, and on refusal, out is untouched. */
+/* Writes a list to the front of out: answer = { size, index }; for 12 the size that is needed. After the size, and on refusal, out is untouched. */
 uint32_t calf_write(uint32_t types, const uint32_t *numbers, size_t numbers_len, const uint64_t *list, size_t list_len, const uint8_t *payload, size_t payload_len,
                     uint8_t *out, size_t out_len, uint64_t answer[2]);
 
@@ -86,10 +86,10 @@ uint32_t calf_write(uint32_t types, const uint32_t *numbers, size_t numbers_len,
 uint32_t calf_pull_open(const uint8_t *s, size_t s_len);
 
 /* A step at a position and a level: answer = { what, a, b, position then }. what is 0 at the end, 1 for a number, a; 2 for a content from a to b; 3 for a refusal at a, which leaves
- * the position. kind is 0 for the tag as it stands, a kind of descriptor.proto for a value of it, and 10 to skip the field behind `tag`, which tells how many bytes; else tag is not looked at. */
+ * the position. kind is 0 for the raw tag, a kind of descriptor.proto for a value of it, and 10 to skip the field after `tag`, where a is how many bytes; else tag is ignored. */
 uint32_t calf_pull_step(const uint8_t *s, size_t s_len, size_t at, uint32_t level, uint32_t kind, uint32_t tag, uint64_t answer[4]);
 
-/* A message at a position: the answer is its content (2), at which a caller goes on with its own slice at level + 1, and the position behind it. 7 at level 100. */
+/* A message at a position: the answer is its content (2), which a caller reads as a slice of its own at level + 1, and the position after it. 7 at level 100. */
 uint32_t calf_pull_enter(const uint8_t *s, size_t s_len, size_t at, uint32_t level, uint64_t answer[4]);
 
 #ifdef __cplusplus

@@ -74,7 +74,7 @@ def gen(crate, fn, c):
 -- Written by tools/fill.py; what is shown of lists stands in `Proof/Facts.antt`.
 --     Upto         the loop's variant: the index i, the array's list, and the invariant, `SoFar`
 --     At           the loop's invariant as a whole context: the slice and its token, the array's borrow and its token, and the locals, the last first
---     turns        a turn from the invariant: one element is read, the array is lent again to `{step}` and comes back; or the loop is left and the rest of the body runs
+--     turns        an iteration from the invariant: one element is read, the array is lent again to `{step}` and comes back; or the loop is left and the rest of the body runs
 --     looped       the loop and the rest.        begins       the body from its start.        walk      the whole function
 -- Assumes nothing.
 mod Facts
@@ -161,7 +161,7 @@ word = tyInt w64
 abbrev slice : Ty
 slice = sliceTy (tyRef (named 0) imm (pointee (T.the-row .written)))
 
--- the turn after its test, which the generated MIR has under no name
+-- the iteration after its test, which the generated MIR has under no name
 abbrev beyond : Body
 beyond = after (after body.turn-1)
 
@@ -280,7 +280,7 @@ module _ {{M : Type 1}} (𝓤 : URA M) (H : Heap 𝓤) (A : Atoms 𝓤) (W : Giv
     abbrev At : Upto ys a₀ → List (Item 𝓤)
     At s = ‵ Own ∷ ‵ (flft κ₀ q₀) ∷ ‵ (Own₁ (s .arr)) ∷ ‵ (flft κ₁ q₁) ∷ {cells(given | {'i': '(vint w64 (s .i))', 'n': '(vint w64 k)'})} ∷ []
 
-    -- a turn's postcondition: it ends nearer to k, or the loop is left and the rest of the body runs
+    -- an iteration's postcondition: it ends nearer to k, or the loop is left and the rest of the body runs
     abbrev Turned : Upto ys a₀ → Out → SProp 𝓤
     Turned s = afterTurn 𝓤 H (Below 𝓤 H A Nearer At s) (afterBlock 𝓤 H (afterSeq 𝓤 H (Wp 𝓤 H C Λ En body.t-5 (atReturn 𝓤 H En Post)) (atReturn 𝓤 H En Post)))
 

@@ -140,7 +140,7 @@ def gen(crate, fn, c):
 -- Written by tools/fold.py; what is shown of lists stands in `Proof/Facts.antt`.
 --     Upto         the loop's variant: the index i, the state with its machine value, and the invariant, `SoFar`
 --     At           the loop's invariant as a whole context: the slice, its token, and the locals, the last first
---     turns        a turn from the invariant: one element is read and `{step}` is called, or the loop is left and the rest of the body runs
+--     turns        an iteration from the invariant: one element is read and `{step}` is called, or the loop is left and the rest of the body runs
 --     looped       the loop and the rest.        begins       the body from its start.        walk      the whole function
 -- The state is plain, so what it owns is never carried: `Is` is kept as a fact, and `owned` makes it anew at each call.
 -- Assumes nothing.
@@ -223,7 +223,7 @@ word = tyInt w64
 abbrev slice : Ty
 slice = sliceTy (tyRef (named 0) imm (pointee (T.the-row .written)))
 
--- the turn after its test, which the generated MIR has under no name
+-- the iteration after its test, which the generated MIR has under no name
 abbrev next : Body
 next = after (after (after body.turn-1))
 
@@ -322,7 +322,7 @@ module _ {{M : Type 1}} (𝓤 : URA M) (H : Heap 𝓤) (A : Atoms 𝓤) (W : Giv
     abbrev At : Upto ys{P} → List (Item 𝓤)
     At s = ‵ Own ∷ ‵ (flft κ q) ∷ {cells(given | {'i': '(vint w64 (s .i))', 'f': '(s .mach)'})} ∷ []
 
-    -- a turn's postcondition: it ends nearer to n, or the loop is left and the rest of the body runs
+    -- an iteration's postcondition: it ends nearer to n, or the loop is left and the rest of the body runs
     abbrev Turned : Upto ys{P} → Out → SProp 𝓤
     Turned s = afterTurn 𝓤 H (Below 𝓤 H A Nearer At s) (afterBlock 𝓤 H (afterSeq 𝓤 H (Wp 𝓤 H C Λ En {rest_t} (atReturn 𝓤 H En Post)) (atReturn 𝓤 H En Post)))
 

@@ -80,7 +80,7 @@ fn zenc(kind: u32, v: u64) -> Parsed<String> {
     Some(twice(&bytes, 0, |is| is.read_raw_varint64().expect("a whole varint").to_string()))
 }
 
-/// `Tag::new` is not public: its number is seen in the unknown field that a varint behind it becomes, its wire type in how much a skip takes of
+/// `Tag::new` is not public: its number is seen in the unknown field that a varint after it becomes, its wire type in how much a skip takes of
 /// bytes that are a varint of 1, a group of 3, a fixed32 of 4, a fixed64 of 8 and a content of 9.
 fn tag(v: u32) -> String {
     let rest = [8, 0, 0x0c, 0, 0, 0, 0, 0, 0];

@@ -66,7 +66,7 @@ fn plain(step: Step, is: &mut CodedInputStream, base: u64) -> Result<String> {
     })
 }
 
-/// What is told of a message entered, and what is to run inside it.
+/// The answer for a message that was entered, and what is to run inside it.
 #[derive(Default)]
 struct Inside {
     /// where the outer reader's own slice begins in the stream
@@ -193,7 +193,7 @@ impl Steps<'_> {
         }
     }
 
-    /// Contents are told in the reader's own slice.
+    /// Contents are places in the reader's own slice.
     fn moved(&mut self, step: Step, said: String, used: usize) -> String {
         let top = self.readers.last_mut().expect("a reader");
         let before = top.at - top.from;

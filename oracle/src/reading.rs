@@ -203,7 +203,7 @@ fn shown(schema: Vec<Entry>, bytes: Vec<u8>, show: impl Fn(&Outcome) -> String) 
     both(show(&limited), show(&bare), bare.past)
 }
 
-/// The crate has no room: where there are more records than that, it tells the first ones only. It tells no places.
+/// The crate has no room: where there are more records than that, only the first ones are given. It gives no places.
 pub fn read(line: &Line) -> Parsed<String> {
     let w = line.words(3)?;
     let room: usize = number(w[1])?;

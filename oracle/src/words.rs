@@ -13,7 +13,7 @@ impl<'a> Line<'a> {
     pub fn verb(&self) -> &'a str {
         self.0[0]
     }
-    /// So many words behind the verb, no more and no fewer.
+    /// So many words after the verb, no more and no fewer.
     pub fn words(&self, count: usize) -> Parsed<&[&'a str]> {
         if self.0.len() == count + 1 {
             Some(&self.0[1..])
@@ -143,7 +143,7 @@ pub fn stream(bytes: &[u8], limited: bool, level: u64) -> CodedInputStream<'_> {
     is
 }
 
-/// The answer of a limited stream, behind which stands what a bare one says where it says anything else. `past` tells that the bare one let
+/// The answer of a limited stream, followed by that of a bare one where it differs. `past` says that the bare one let
 /// a message's or packed field's length run past the slice, where its answer is another by rule.
 pub fn both(limited: String, bare: String, past: bool) -> String {
     if past {

@@ -21,7 +21,7 @@ struct Write {
     special: SpecialFields,
 }
 
-/// Makes messages of a list. What no message can hold (a list that is bad, mostly) makes none.
+/// Makes messages of a list. A list that no message can hold (mostly a bad one) makes none.
 struct Maker<'a> {
     schema: Vec<Entry>,
     list: &'a [Record],

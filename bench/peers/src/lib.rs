@@ -1,4 +1,4 @@
-// The peers in Rust, behind C functions that answer as the proved ones do: the Rust crate protobuf by its public calls, its generated code, its dynamic messages; prost;
+// The peers in Rust, as C functions that answer as the proved ones do: the Rust crate protobuf by its public calls, its generated code, its dynamic messages; prost;
 // and Rust's own UTF-8 check. `generated.rs` is what protobuf-codegen 3.7.2 makes of ../bench.proto.
 #[cfg(feature = "fields")]
 mod fields;

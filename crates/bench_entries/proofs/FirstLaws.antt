@@ -21,7 +21,7 @@ pub first-made : (types : ℕ) (ns : List ℕ) (made : List Entry) {count : ℕ}
 unfolding firstOf
 first-made types ns made e is = ap (λ (es : List Entry). record { types = types; entries = es }) (e ∙ ap (λ (k : ℕ). entriesOf k ns) is)
 
--- of at most sixteen entries with no rest after them they are all
+-- of at most sixteen entries with no remainder after them they are all
 pub first-all : (types : ℕ) (ns : List ℕ) → length ns % entryStride ≡ 0 → length ns ≤ mostMade * entryStride → firstOf types ns ≡ schemaOf types ns
 unfolding firstOf firstCount schemaOf
 first-all types ns whole few = rw (le-ltb mostMade (length ns / entryStride) (omega arith), eq-eqb (length ns % entryStride) 0 whole) refl

@@ -1,4 +1,4 @@
--- The schema of the first sixteen entries of some numbers. Assumes nothing: these are definitions.
+-- The schema of the first sixteen entries of some numbers. Assumes nothing: these are definitions. Public promises cite it.
 use Prim.Native.Nat.{ℕ, _/_}
 use mathlib.Core.List.{List}
 use lib.Dec.{ltb}
@@ -14,6 +14,6 @@ mostMade = 16
 unfoldable pub firstCount : ℕ → ℕ
 firstCount n = if ltb mostMade (n / entryStride) then mostMade else n / entryStride
 
--- Of at most sixteen entries with no rest after them it is what `schemaOf` says (proofs/FirstLaws).
+-- Of at most sixteen entries with no remainder after them it is what `schemaOf` says (proofs/FirstLaws).
 unfoldable pub firstOf : ℕ → List ℕ → Schema
 firstOf types ns = record { types = types; entries = entriesOf (firstCount (length ns)) ns }

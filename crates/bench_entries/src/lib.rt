@@ -1,5 +1,5 @@
-// Reading under a schema that is lent as a slice of entries, exported for C: what bench/ counts of `entries::read`. A call that lends structs is
-// not exported, so this one takes five numbers an entry and makes an array of them, which is short, so that what is counted is nearly all the call's.
+// Reading under a schema that is lent as a slice of entries, exported for C, so that bench/ can count `entries::read`. A call that lends structs is
+// not exported, so this one takes five numbers an entry and makes an array of them, which is short, so that nearly all that is counted is the call.
 ghost use mathlib.Core.Path.{_≡_};
 ghost use mathlib.Core.List.{[], _∷_};
 ghost use Prim.Native.Nat.{_+_, _*_, _/_, _<_, _≤_};
@@ -91,7 +91,7 @@ fn lend_read(
     entries::read(types, &made[..count], s, room)
 }
 
-// The message s under the first sixteen entries of these numbers: how many records stand in the room, and the place of the refusal; the refusal's
+// The message s under the first sixteen entries of these numbers: how many records are in the room, and the place of the refusal; the refusal's
 // number is the result.
 #[no_mangle]
 pub extern "C" fn perf_entries_read(

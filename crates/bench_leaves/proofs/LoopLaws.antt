@@ -1,4 +1,4 @@
--- The turns and the ends of the loops that bench/ counts.
+-- The iterations and the ends of the loops that bench/ counts.
 -- Assumes nothing.
 use Prim.Native.Nat.{ℕ, zero, suc, _+_, _-_, _^_, _≤_, _<_}
 use native.Mathlib.Numerals.{add-one}
@@ -32,7 +32,7 @@ use Rattle.pull.specs.declared.step.Said.the-variants as said
 use Rattle.pull.proofs.step.Said.{the-type}
 use Rattle.bench_leaves.specs.Loops.{xorOn, xors, varints, puts, saidOn, pulls, pulled}
 
--- What there is in all is what the rest adds to `acc` from here. `left` counts the turns that may follow.
+-- The whole answer is what the rest adds to `acc` from here. `left` counts the iterations that may follow.
 pub record Xored (s : List ℕ) (at acc : ℕ) : Type 0 where
   pub left : ℕ
   pub few : length s ≤ at + left
@@ -43,7 +43,7 @@ pub xored-start : (s : List ℕ) → Xored s 0 0
 unfolding varints
 xored-start s = record { left = length s; few = omega arith; inside = omega arith; same = refl }
 
--- a varint that is taken: one turn
+-- a varint that is taken: one iteration
 xors-turn : (k acc v n : ℕ) (s : List ℕ) → varint64 s ≡ Took v n → xors (suc k) acc s ≡ xors k (bitXor acc v) (drop n s)
 unfolding xors xorOn
 xors-turn k acc v n s e = rw e refl
@@ -117,7 +117,7 @@ pub putting-end : {vs room out : List ℕ} {at i : ℕ} → Putting vs room at i
 unfolding puts
 putting-end {vs} {room} {out} {at} h l = puts-is vs room (h .same ∙ ap (λ (u : List ℕ). puts at u out) (drop-of-length-le vs l))
 
--- the turn at value i
+-- the iteration at value i
 module _ {vs room out after : List ℕ} {at i : ℕ} {p : Put} (h : Putting vs room at i out) (l : i < length vs) (s : Stored out at (encode (getD vs i 0)) after p) where
   turned : {q : Put} → p ≡ q → puts 0 vs room ≡ onward (drop (i + 1) vs) q after
   turned e =
@@ -132,7 +132,7 @@ module _ {vs room out after : List ℕ} {at i : ℕ} {p : Put} (h : Putting vs r
 
 -- ---- the pull loop
 
--- As for varints: what there is in all is what the steps from here add to `acc`.
+-- As for varints: the whole answer is what the steps from here add to `acc`.
 pub record Pulled (s : List ℕ) (at acc : ℕ) : Type 0 where
   pub left : ℕ
   pub few : length s ≤ at + left
@@ -177,7 +177,7 @@ module _ {s : List ℕ} {at acc : ℕ} (t : Moved) (x : Pulled s at acc) (e : pu
       go (suc k) = rw (← e) (other (t .said) h acc _)
 
   module _ {g : ℕ} (m : Moved) (f : pull.asMoved m ≡ stepAt s (t .at) 0 (value uint64)) (tag : t .said ≡ said.Number g) where
-    -- a turn up to its value
+    -- an iteration up to its value
     turn-value : (k : ℕ) → pulls (suc k) acc at s ≡ saidOn acc (pull.saidTold (m .said)) (λ v. pulls k (bitXor acc v) (m .at) s)
     unfolding pulls saidOn
     turn-value k = rw (← e, tag, ← f) refl

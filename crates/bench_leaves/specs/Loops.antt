@@ -1,4 +1,4 @@
--- What the loops that bench/ counts come to. Assumes nothing: these are definitions.
+-- What the loops that bench/ counts return. Assumes nothing: these are definitions. Public promises cite it.
 use Prim.Native.Nat.{ℕ, zero, suc, _+_}
 use mathlib.Core.List.{List, [], _∷_}
 use lib.Bits.{bitXor}
@@ -42,7 +42,7 @@ pulls (suc k) acc at s =
 unfoldable pub pulled : List ℕ → ℕ
 pulled s = pulls (length s) 0 0 s
 
--- The shortest varints of values from a position on, one behind the other: the position behind the last, and the slice then. Where one has no
+-- The shortest varints of values from a position on, one after the other: the position after the last, and the slice then. Where one has no
 -- room the position is 0, and those before it are stored.
 unfoldable pub puts : ℕ → List ℕ → List ℕ → ℕ × List ℕ
 puts at [] out = (at, out)

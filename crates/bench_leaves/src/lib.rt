@@ -1,4 +1,4 @@
-// Loops over the varint leaves and the pull steps, exported for C: what bench/ counts of them.
+// Loops over the varint leaves and the pull steps, exported for C, so that bench/ can count them.
 ghost use mathlib.Core.Path.{_≡_};
 ghost use Rattle.bench_leaves.specs.Loops.{varints, puts, pulled};
 use pull::step::Said;
@@ -27,7 +27,7 @@ pub extern "C" fn perf_varints(s: &[u8]) -> u64
     acc
 }
 
-// All values as varints, one behind the other, and how many bytes they take: 0 where one has no room, with those before it stored.
+// All values as varints, one after the other, and how many bytes they take: 0 where one has no room, with those before it stored.
 #[no_mangle]
 pub extern "C" fn perf_put_varints(values: &[u64], out: &mut [u8]) -> usize
     ensures { λ r. ⌜ (r ≡ puts 0 (now (values .entry)) (now (out .entry)) .0) × (now (out .exit) ≡ puts 0 (now (values .entry)) (now (out .entry)) .1) ⌝ }
@@ -49,7 +49,7 @@ pub extern "C" fn perf_put_varints(values: &[u64], out: &mut [u8]) -> usize
     at
 }
 
-// The exclusive or of all values of a message whose fields are varints, up to the end or the first refusal: a raw tag and a uint64 a turn.
+// The exclusive or of all values of a message whose fields are varints, up to the end or the first refusal: a raw tag and a uint64 an iteration.
 #[no_mangle]
 pub extern "C" fn perf_pull(s: &[u8]) -> u64
     ensures { λ r. ⌜ r ≡ pulled (now (s .entry)) ⌝ }

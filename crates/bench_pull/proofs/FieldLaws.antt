@@ -1,4 +1,4 @@
--- The turns and the ends of the loops over the elements of a packed field and over the fields of a message; and what a step adds.
+-- The iterations and the ends of the loops over the elements of a packed field and over the fields of a message; and what a step adds.
 -- Assumes nothing.
 use Prim.Native.Nat.{ℕ, zero, suc, _+_, _-_, _^_, _≤_, _<_}
 use native.Mathlib.Omega.{arith}
@@ -79,7 +79,7 @@ module _ (s : List ℕ) (at level : ℕ) (ask : Ask) (m : Moved) (e : asMoved m 
       let c = takes-fewest s at level ask (λ k p r. let z : _≡_ {A = ℕ} 0 1 = cc in absurd (omega arith)) in
       omega (arith, c)
 
--- ---- what is asked behind a tag
+-- ---- what is asked after a tag
 
 module _ (s : List ℕ) (at : ℕ) {tag : ℕ} where
   pub root-int32 : tag ≡ rootInt32 → stepAt s at 0 (value int32) ≡ stepAt s at 0 (rootAsk tag)
@@ -118,7 +118,7 @@ module _ (s : List ℕ) (at : ℕ) {tag : ℕ} where
 
 -- ---- the elements of a packed field
 
--- What there is in all is what the elements from here add to `acc`. `left` counts the turns that may follow.
+-- The whole answer is what the elements from here add to `acc`. `left` counts the iterations that may follow.
 pub record Rest (s : List ℕ) (from at acc : ℕ) : Type 0 where
   pub left : ℕ
   pub few : length s ≤ at + left
@@ -165,7 +165,7 @@ module _ {s : List ℕ} {from at acc : ℕ} (m : Moved) (x : Rest s from at acc)
 
 -- ---- the fields of a message
 
--- Likewise, for a message that is read in a way w and comes to `whole`.
+-- Likewise, for a message that is read in a way w and whose answer is `whole`.
 pub record Here (w : Way) (whole : Sum) (s : List ℕ) (at acc : ℕ) : Type 0 where
   pub left : ℕ
   pub few : length s ≤ at + left
@@ -195,7 +195,7 @@ tag-below s at g e l = go (varint32 (drop at s)) refl (ap (λ (m : spec.Moved). 
         omega (arith, k .small)
     go (No k) q p = let z : _≡_ {A = ℕ} 0 1 = cc in absurd (omega arith)
 
--- what a value that was found adds, and the position behind it
+-- what a value that was found adds, and the position after it
 amount-at : (x : spec.Said) (n : ℕ) {v next : ℕ} → found.Value v next ≡ amount x n → next ≡ n
 unfolding amount
 amount-at (spec.Number v) n e = cc
@@ -203,7 +203,7 @@ amount-at (spec.Content a z) n e = cc
 amount-at spec.End n e = let z : _≡_ {A = ℕ} 0 1 = cc in absurd (omega arith)
 amount-at (spec.Refused k p) n e = let z : _≡_ {A = ℕ} 0 1 = cc in absurd (omega arith)
 
--- a turn: the tag at a position in the bytes
+-- an iteration: the tag at a position in the bytes
 module _ {w : Way} {whole : Sum} {s : List ℕ} {at acc : ℕ} (t : Moved) (x : Here w whole s at acc) (l : at < length s) (e : asMoved t ≡ stepAt s at 0 rawTag) where
   record Turn : Type 0 where
     left : ℕ
@@ -232,7 +232,7 @@ module _ {w : Way} {whole : Sum} {s : List ℕ} {at acc : ℕ} (t : Moved) (x : 
     pub tag-small : g < 2 ^ 32
     tag-small = tag-below s at g (says s at 0 rawTag t e n) l
 
-    -- it goes on from a position behind the tag
+    -- it goes on from a position after the tag
     onward : (to y : ℕ) → t .at ≤ to → to ≤ length s → whole ≡ turns w (turn .left) y to s → Here w whole s to y
     onward to y h i q = record { left = turn .left; few = omega (arith, turn .few, behind); inside = i; same = q }
 

@@ -1,4 +1,5 @@
--- What the pull loop over a message of bench/bench.proto comes to: the exclusive or of all values and of the lengths of contents. Assumes nothing: these are definitions.
+-- What the pull loop over a message of bench/bench.proto returns: the exclusive or of all values and of the lengths of contents. Assumes nothing: these are definitions.
+-- Public promises cite it.
 use Prim.Native.Nat.{ℕ, zero, suc, _+_, _-_, _*_, _≤_}
 use mathlib.Core.Path.{_≡_}
 use mathlib.Core.Bool.{Bool, true}
@@ -73,11 +74,11 @@ amount (Refused k p) next = found.Refused k
 abbrev pub amountOf : Moved → Found
 amountOf m = amount (m .said) (m .at)
 
--- a content that an answer tells does not end before its start
+-- a content that an answer has does not end before its start
 abbrev pub Ordered : pull.Moved → Type 0
 Ordered m = (a z : ℕ) → m .said ≡ said.Content a z → a ≤ z
 
--- ---- how it goes on, or that `acc` is all there is behind a refusal
+-- ---- how it goes on, or that `acc` is all there is after a refusal
 
 unfoldable pub numberOn : ℕ → Said → (ℕ → Sum) → Sum
 numberOn acc (Number v) next = next v
@@ -110,14 +111,14 @@ elements (suc k) acc at s =
 
 -- ---- the fields of a message
 
--- How they are read: the message's level, what is asked behind a tag, whether a tag's content is gone into, and what that comes to, from the exclusive or before it.
+-- How they are read: the message's level, what is asked after a tag, whether a tag's content is entered, and what that gives, from the exclusive or before it.
 pub record Way : Type 0 where
   pub level : ℕ
   pub ask : ℕ → Ask
   pub holds : ℕ → Bool
   pub content : (tag acc : ℕ) → List ℕ → Sum
 
--- the field behind a tag, and how it goes on from the exclusive or and the position then
+-- the field after a tag, and how it goes on from the exclusive or and the position then
 unfoldable pub field : Way → (acc at tag : ℕ) → List ℕ → (ℕ → ℕ → Sum) → Sum
 field w acc at tag s next =
     let e = enterAt s at (w .level) in

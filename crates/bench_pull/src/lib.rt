@@ -1,4 +1,4 @@
-// The pull loop over a message of bench/bench.proto, exported for C: what bench/ counts of the steps, each value by its type.
+// The pull loop over a message of bench/bench.proto, exported for C, so that bench/ can count the steps, each value by its type.
 pub mod message;
 pub mod tags;
 pub mod value;

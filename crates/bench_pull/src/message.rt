@@ -1,4 +1,4 @@
-// The fields of a message, one behind the other: a tag, then the value by its type. A content is gone into where it stands, as a part of the same slice.
+// The fields of a message, one after the other: a tag, then the value by its type. A content is entered in place, as a part of the same slice.
 ghost use mathlib.Core.Path.{_≡_};
 ghost use Prim.Native.Nat.{_+_, _-_, _≤_};
 ghost use lib.ListN.{length};
@@ -88,7 +88,7 @@ fn content(s: &[u8], tag: u64, from: u64) -> Sum
     elements(s, from)
 }
 
-// Whether a tag of the root has a content that is gone into.
+// Whether a tag of the root has a content that is entered.
 fn holds(tag: u64) -> bool
     ensures { λ r. ⌜ r ≡ spec.rootHolds tag ⌝ }
 {

@@ -1,4 +1,4 @@
-// What the field behind a tag adds, by its type.
+// What the field after a tag adds, by its type.
 ghost use mathlib.Core.Path.{_≡_};
 ghost use Prim.Native.Nat.{_^_, _<_};
 ghost use Rattle.spec.specs.Pull.{stepAt};

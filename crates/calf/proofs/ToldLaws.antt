@@ -1,4 +1,4 @@
--- What a varint's answer tells is what its definition says; and so for a place. Assumes nothing.
+-- A varint's answer, in numbers, is what its definition says; and so for a place. Assumes nothing.
 use Prim.Native.Nat.{ℕ, _+_}
 use native.Mathlib.Omega.{arith}
 use mathlib.Core.Path.{_≡_, refl, ap}

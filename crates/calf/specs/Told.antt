@@ -1,4 +1,4 @@
--- What the calls for C tell in a lent array. Assumes nothing: these are definitions.
+-- What the calls for C return in a lent array. Assumes nothing: these are definitions. Public promises cite it.
 use Prim.Native.Nat.{ℕ, _+_}
 use mathlib.Core.List.{List, [], _∷_}
 use mathlib.Core.Option.{Option, none, some}
@@ -13,7 +13,7 @@ use Rattle.wire.specs.declared.found.Found.the-variants as found
 use Rattle.wire.specs.declared.put.Put.{Put}
 use Rattle.wire.specs.declared.put.Put.the-variants.{Next, NoRoom}
 
--- what is read at a place: the value and the place behind it, or two zeros
+-- what is read at a place: the value and the place after it, or two zeros
 unfoldable pub behind : ℕ → Read → List ℕ
 behind at (Took v n) = v ∷ (at + n) ∷ []
 behind at (No k) = 0 ∷ 0 ∷ []
@@ -27,7 +27,7 @@ abbrev pub pair : Found → List ℕ
 pair (found.Value v next) = v ∷ next ∷ []
 pair (found.Refused k) = 0 ∷ 0 ∷ []
 
--- the place behind what was stored, or 0
+-- the place after what was stored, or 0
 abbrev pub placeOf : Put → ℕ
 placeOf (Next next) = next
 placeOf NoRoom = 0

@@ -14,7 +14,7 @@ ghost use Rattle.calf.specs.Told.{behind, refused, pair, placeOf};
 use wire::found::Found;
 use wire::put::Put;
 
-// What stands at a place: its value and the place behind it, or two zeros.
+// What is read at a place: its value and the place after it, or two zeros.
 fn pair(f: Found) -> [u64; 2]
     ensures { λ r. ⌜ r ≡ pair f ⌝ }
 {
@@ -33,7 +33,7 @@ fn refused(f: Found) -> u32
     }
 }
 
-// The varint at a place: its value and the place behind it.
+// The varint at a place: its value and the place after it.
 #[no_mangle]
 pub extern "C" fn calf_varint64(s: &[u8], at: usize, answer: &mut [u64; 2]) -> u32
     ensures { λ r. ⌜ (r ≡ refusal (varint64 (drop at (now (s .entry)))))
@@ -55,7 +55,7 @@ pub extern "C" fn calf_varint32(s: &[u8], at: usize, answer: &mut [u64; 2]) -> u
     refused(f)
 }
 
-// The place behind what was stored; 0, which is behind nothing, where there was no room.
+// The place after what was stored; 0, which is no such place, where there was no room.
 fn place_of(p: Put) -> usize
     ensures { λ r. ⌜ r ≡ placeOf p ⌝ }
 {
@@ -65,7 +65,7 @@ fn place_of(p: Put) -> usize
     }
 }
 
-// Stores a varint at a place: the place behind it; or 0 where it has no room, and nothing is stored.
+// Stores a varint at a place: the place after it; or 0 where it has no room, and nothing is stored.
 #[no_mangle]
 pub extern "C" fn calf_put_varint(value: u64, out: &mut [u8], at: usize) -> usize
     ensures { λ r. ⌜ (r ≡ (if leb (at + length (encode value)) (length (now (out .entry))) then at + length (encode value) else 0))
@@ -84,7 +84,7 @@ pub extern "C" fn calf_utf8_prefix(s: &[u8]) -> usize
 
 // ---- skipping
 
-// The field behind a tag, every group counted: how many bytes it takes.
+// The field after a tag, every group counted: how many bytes it takes.
 #[no_mangle]
 pub extern "C" fn calf_skip_field_for_tag(
     tag: u32,

@@ -1,20 +1,19 @@
 // A schema, and a message to records.
 ghost use mathlib.Core.Path.{_≡_};
 ghost use mathlib.Core.List.{[], _∷_};
+ghost use mathlib.Core.Option.{none};
 ghost use Prim.Native.Nat.{_/_};
-ghost use lib.ListN.{length, replicate};
+ghost use lib.ListN.{length};
 ghost use Rattle.spec.specs.Record.{stride};
 ghost use Rattle.spec.specs.Schema.{badSchema, schemaOf};
-ghost use Rattle.spec.specs.Reading.{reading, number, place, listed, roomAfter};
-ghost use Rattle.schema.specs.Layout.{keyCount, infoLength, noKey};
-ghost use Rattle.schema.specs.Tables.{soundOf, keysWith, infoWith, tableSays};
+ghost use Rattle.spec.specs.Reading.{plainly, reading, readingBy, number, place, listed, roomAfter};
+ghost use Rattle.schema.specs.Tables.{keysOf, infoOf};
 ghost use Rattle.schema.specs.Told.{badPlace};
-ghost use Rattle.read.specs.Answers.{readingBy};
+ghost use Rattle.read.specs.Prepared.{prepared};
 ghost use Rattle.calf.specs.Told.{numberOf, entryOf};
 use schema::Verdict;
 use schema::layout::INFO;
 use schema::layout::KEYS;
-use schema::layout::NO_KEY;
 use spec::columns;
 use spec::refusals;
 
@@ -66,11 +65,9 @@ pub extern "C" fn calf_prepare(
 ) -> u32
     ensures { λ r. ⌜ (r ≡ numberOf (badSchema (schemaOf types (now (numbers .entry)))))
         × (now (answer .exit) ≡ entryOf (badSchema (schemaOf types (now (numbers .entry)))) ∷ [])
-        × (now (keys .exit) ≡ keysWith 0 (soundOf (schemaOf types (now (numbers .entry)))) (replicate keyCount noKey))
-        × (now (info .exit) ≡ infoWith 0 (soundOf (schemaOf types (now (numbers .entry)))) (replicate infoLength 0)) ⌝ }
+        × (now (keys .exit) ≡ keysOf (schemaOf types (now (numbers .entry))))
+        × (now (info .exit) ≡ infoOf (schemaOf types (now (numbers .entry)))) ⌝ }
 {
-    *keys = [NO_KEY; KEYS];
-    *info = [0; INFO];
     let v = schema::tables(types, numbers, keys, info);
     *answer = [entry_of(v) as u64];
     number_of(v)
@@ -106,10 +103,10 @@ pub extern "C" fn calf_read_prepared(
     room: &mut [u64],
     answer: &mut [u64; 2],
 ) -> u32
-    ensures { λ r. ⌜ (r ≡ number (readingBy (tableSays (now (keys .entry)) (now (info .entry))) (length (now (room .entry)) / stride) (now (s .entry))))
-        × (now (answer .exit) ≡ length (listed (readingBy (tableSays (now (keys .entry)) (now (info .entry))) (length (now (room .entry)) / stride) (now (s .entry))))
-        ∷ place (readingBy (tableSays (now (keys .entry)) (now (info .entry))) (length (now (room .entry)) / stride) (now (s .entry))) ∷ [])
-        × (now (room .exit) ≡ roomAfter (readingBy (tableSays (now (keys .entry)) (now (info .entry))) (length (now (room .entry)) / stride) (now (s .entry))) (now (room .entry))) ⌝ }
+    ensures { λ r. ⌜ (r ≡ number (readingBy none (prepared plainly (now (keys .entry)) (now (info .entry))) (length (now (room .entry)) / stride) (now (s .entry))))
+        × (now (answer .exit) ≡ length (listed (readingBy none (prepared plainly (now (keys .entry)) (now (info .entry))) (length (now (room .entry)) / stride) (now (s .entry))))
+        ∷ place (readingBy none (prepared plainly (now (keys .entry)) (now (info .entry))) (length (now (room .entry)) / stride) (now (s .entry))) ∷ [])
+        × (now (room .exit) ≡ roomAfter (readingBy none (prepared plainly (now (keys .entry)) (now (info .entry))) (length (now (room .entry)) / stride) (now (s .entry))) (now (room .entry))) ⌝ }
 {
     let a = read::read_prepared(keys, info, s, room);
     *answer = [a.count as u64, a.place as u64];

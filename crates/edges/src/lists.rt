@@ -63,7 +63,7 @@ const HEADS: [u64; 3 * STRIDE] = [0, 4, 20, 0, 0, 0, 0, 4, 20, 0, 0, 0, 1, 4, 17
 const PAYLOAD: [u8; 1] = [0xff];
 
 // What each byte of the output is where nothing is written.
-const PATTERN: u8 = 0xa5;
+pub const PATTERN: u8 = 0xa5;
 
 // The output of a writing: longer than any of the lists takes.
 const OUTPUT: usize = 64;
@@ -127,12 +127,17 @@ fn put_written(size: usize, output: &[u8], at: usize, out: &mut [u8]) -> usize {
     touched(changed(&output[size..]), shown, out)
 }
 
-// The answer of the writing into an output that is made of the pattern, and its bytes.
+// The answer of a writing into an output that was made of the pattern, and its bytes.
+pub fn put_wrote(call: &[u8], r: write::Answer, output: &[u8], at: usize, out: &mut [u8]) -> usize {
+    let told = put_answer(call, r, at, out);
+    put_written(filled(r), output, told, out)
+}
+
+// The writing of a list.
 fn put_writing(list: &[u64], at: usize, out: &mut [u8]) -> usize {
     let mut output = [PATTERN; OUTPUT];
     let r = write::write(TYPES, &ENTRIES[0..SCHEMA_A], list, &PAYLOAD, &mut output);
-    let told = put_answer(b" | write ", r, at, out);
-    put_written(filled(r), &output, told, out)
+    put_wrote(b" | write ", r, &output, at, out)
 }
 
 // The list check and the size of a list under these entries.
@@ -172,14 +177,14 @@ fn list_lines(name: &[u8], list: &[u64], from: usize, at: usize, out: &mut [u8])
     to
 }
 
-// A rest is the fault, or the packed head right before it.
-fn rests(at: usize, out: &mut [u8]) -> usize {
+// A remainder is the fault, or the packed head right before it.
+fn remainders(at: usize, out: &mut [u8]) -> usize {
     let plain = list_lines(b"plain", &PLAIN, 0, at, out);
     let message = list_lines(b"message", &MESSAGE, ONE, plain, out);
     list_lines(b"packed", &PACKED, TWO, message, out)
 }
 
-// A fault before the rest comes first.
+// A fault before the remainder comes first.
 fn faults(at: usize, out: &mut [u8]) -> usize {
     let string = list_lines(b"string", &STRING, WITHIN_SECOND, at, out);
     list_lines(b"heads", &HEADS, TWO, string, out)
@@ -187,6 +192,6 @@ fn faults(at: usize, out: &mut [u8]) -> usize {
 
 // Each list from where it begins to tell.
 pub fn lists(at: usize, out: &mut [u8]) -> usize {
-    let to = rests(at, out);
+    let to = remainders(at, out);
     faults(to, out)
 }

@@ -1,12 +1,19 @@
-// The program that asks what no case line can say, and prints a line for each: lists, rooms and copied schema numbers that end within a record or an
-// entry. An entry with `repeated` 2 is asked too, since case lines ask all calls but the schema check through lent entries. What must be printed stands
-// in the file stdout, derived by hand from the rules: a rest after whole records is a broken record, 10 at its index, but the fault of a packed head
-// right before it; an earlier fault comes first; room is as many records as fit whole; a rest after whole entries is a wrong entry count, 9 at 0, before
-// any entry is judged.
+// The program that makes the calls that case lines do not reach, and prints a line for each. Some calls have no verb: `schema::find`, the methods of a tag,
+// the sizes of packed fields by type and of unknown fields, and the trip through an older schema. Others have one, but a case line has only whole records
+// and whole entries: here lists, rooms and schema numbers also end within a record or an entry. An entry with `repeated` 2 is tried too, since the case
+// lines make all calls but the schema check through lent entries, where `repeated` is yes or no.
+// What must be printed stands in the file stdout, derived by hand from the rules. A remainder after whole records is a broken record: 10 at its index, or at
+// the index of a packed head right before it. An earlier fault comes first. Room is as many records as fit whole. A remainder after whole entries is a
+// wrong entry count, 9 at 0, before any entry is judged; a search passes over it, and a size counts nothing for it.
+mod copies;
+mod finds;
 mod lists;
+mod packed;
 mod parts;
 mod rooms;
 mod schemas;
+mod tags;
+mod unknowns;
 
 use libc::STDOUT_FILENO;
 
@@ -26,6 +33,11 @@ fn main() {
     let mut out = [0u8; TEXT];
     let listed = lists::lists(0, &mut out);
     let roomed = rooms::rooms(listed, &mut out);
-    let size = schemas::schemas(roomed, &mut out);
+    let judged = schemas::schemas(roomed, &mut out);
+    let found = finds::finds(judged, &mut out);
+    let tagged = tags::tags(found, &mut out);
+    let packed = packed::packed(tagged, &mut out);
+    let sized = unknowns::unknowns(packed, &mut out);
+    let size = copies::copies(sized, &mut out);
     write_front(&out, size);
 }

@@ -15,7 +15,7 @@ use spec::columns::STRIDE;
 const BYTES: [u8; 5] = [0x08, 0x96, 0x01, 0x38, 0x01];
 
 // What each number of the room is where nothing is stored.
-const PATTERN: u64 = 0xa5c3_5a3c_a5c3_5a3c;
+pub const PATTERN: u64 = 0xa5c3_5a3c_a5c3_5a3c;
 
 // The room: four records.
 pub const ROOM: usize = 4 * STRIDE;
@@ -54,7 +54,7 @@ fn put_room(room: &[u64], end: usize, at: usize, out: &mut [u8]) -> usize {
 }
 
 // Number, count and place, the records that stand in the room, and whether anything after them has changed.
-fn put_reading(call: &[u8], r: Answer, room: &[u64], at: usize, out: &mut [u8]) -> usize {
+pub fn put_reading(call: &[u8], r: Answer, room: &[u64], at: usize, out: &mut [u8]) -> usize {
     let count = r.count;
     let told = put_three(call, r.number as u64, count as u64, r.place as u64, at, out);
     if room.len() / STRIDE < count {

@@ -101,7 +101,7 @@ fn schema_lines(name: &[u8], numbers: &[u32], from: usize, at: usize, out: &mut 
     to
 }
 
-// A rest after no entry, after schema A, and before and after an entry that is bad in itself.
+// A remainder after no entry, after schema A, and before and after an entry that is bad in itself.
 pub fn schemas(at: usize, out: &mut [u8]) -> usize {
     let none = schema_lines(b"schema", &ENTRIES[0..ENTRY_STRIDE], 0, at, out);
     let a = schema_lines(b"schema", &ENTRIES, SCHEMA_A, none, out);

@@ -15,7 +15,7 @@ use Rattle.spec.specs.declared.Entry.{Entry}
 use Rattle.spec.proofs.VarintLaws.{lower-or-not}
 use Rattle.entries.specs.Copied.{mostNumbers, fewOf, few, storedAt, storedFrom, copiedTo}
 
--- ---- a store behind p is a store in what follows p
+-- ---- a store after p is a store in what follows p
 
 set-off : (p t : List ℕ) (n j v : ℕ) → length p ≡ n → set (p ++ t) (n + j) v ≡ p ++ set t j v
 set-off [] t n j v e = rw (← e, zero-add)

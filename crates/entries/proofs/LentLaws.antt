@@ -13,7 +13,7 @@ use borrow.Author.Tests.{lt-ltb, le-ltb, lt-leb}
 use Rattle.spec.specs.Names.{mostEntries, mostTypes}
 use Rattle.spec.specs.Base.{if_then_else_, between, filled, limit}
 use Rattle.spec.specs.Schema.{Schema, badEntry, badSchema, schemaOf, copied, entryStride}
-use Rattle.spec.specs.Reading.{reading, refusedOr}
+use Rattle.spec.specs.Reading.{reading, readingAs, readingBy, called, refusedOr}
 use Rattle.spec.specs.Record.{Record}
 use Rattle.spec.specs.Writing.{Verdict, written, listCheck, schemaFirst, judged, sized, writing, sizing}
 use Rattle.spec.specs.declared.Entry.{Entry}
@@ -59,7 +59,7 @@ lent-alike types es a z la lz e = lower-or-not mostEntries (length es)
     one (ap (schemaOf types) (ap₂ take lent whole ∙ take-append-seam (copied es) (drop (length (copied es)) a)) ∙ schema-back types es))
 
 pub alike-reading : {a b : Schema} → Alike a b → (n : ℕ) (s : List ℕ) → reading a n s ≡ reading b n s
-unfolding reading refusedOr
+unfolding reading readingAs readingBy called refusedOr
 alike-reading (one e) n s = ap (λ (x : Schema). reading x n s) e
 alike-reading (bad p q) n s = rw (p, q)
 

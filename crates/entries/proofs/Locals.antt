@@ -1,6 +1,6 @@
 -- A local array as what a reference borrows, and back: its cell with what the array owns is the array in memory (`denote.Memory`'s `partAt`). It says nothing of the crate.
 --     part-in, part-out        the cell and what is owned, as the array in memory; and back, at some machine value
---     parts-cut, parts-joined  the elements in memory are the first k of them and those behind them
+--     parts-cut, parts-joined  the elements in memory are the first k of them and those after them
 --     big                      a number that the MIR writes as `intBig`, as an array's length is where it is above 255, is read
 -- Assumes `Given`.
 use Prim.Native.Nat.{ℕ, zero, suc, _+_}
@@ -43,7 +43,7 @@ module _ {M : Type 1} (𝓤 : URA M) (H : Heap 𝓤) (A : Atoms 𝓤) (W : Given
       show ! Cell (arrayVal us) $ move ! (1 ∷ 0 ∷ []) $ feqI ! ℕ (length xs) n l $ feqI ! (List Val) (arrayVal us ∷ []) (arrayVal us ∷ []) refl $ fjoin ! $ fjoin ! $
       fpack ! (List Val) (λ ws. fsep (shape n xs (arrayVal us ∷ []) ws) (each (R .Denot) (R .own) xs ws)) us $ move ! (1 ∷ 0 ∷ []) $ done !))))
 
--- the elements behind the first k
+-- the elements after the first k
 abbrev pub behind : (R : RattleType) → ℕ → List (R .Denot) → ℕ → ℕ → Fml
 behind R zero xs b o = row R fullShare xs b o
 behind R (suc k) [] b o = ftrue

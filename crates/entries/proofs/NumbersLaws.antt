@@ -59,7 +59,7 @@ here-end {n} {ns} {count} {es} {i} h l =
 
 -- ---- how many are made
 
--- of so many numbers, with a rest or without
+-- of so many numbers, with a remainder or without
 count-rest : (n : ℕ) → eqb (n % entryStride) 0 ≡ false → countOf n ≡ 0
 unfolding countOf
 count-rest n e = rw e

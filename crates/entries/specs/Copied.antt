@@ -1,4 +1,4 @@
--- What the functions of this crate compute on the list of entries. Assumes nothing: these are definitions.
+-- What the functions of this crate compute on the list of entries. Assumes nothing: these are definitions. Public promises cite it.
 use Prim.Native.Nat.{ℕ, _+_, _*_, _/_, _%_}
 use mathlib.Core.Bool.{_&&_}
 use mathlib.Core.List.{List, [], _∷_}
@@ -55,7 +55,7 @@ lentOf n = if ltb mostEntries n then 1 else n * entryStride
 abbrev pub entryAt : List ℕ → ℕ → Entry
 entryAt ns i = entryOf (getD ns i 0) (getD ns (i + entryNumberColumn) 0) (getD ns (i + entryKindColumn) 0) (getD ns (i + repeatedColumn) 0) (getD ns (i + childColumn) 0)
 
--- how many entries are made of so many numbers, and the type count that stands for them: of numbers with a rest it is a schema of no types
+-- how many entries are made of so many numbers, and the type count that stands for them: of numbers with a remainder it is a schema of no types
 unfoldable pub countOf : ℕ → ℕ
 countOf n = if eqb (n % entryStride) 0 then (if ltb oneMore (n / entryStride) then oneMore else n / entryStride) else 0
 

@@ -122,7 +122,7 @@ pub fn read(types: u32, entries: &[Entry], s: &[u8], room: &mut [u64]) -> Answer
         × (r .count ≡ length (listed (reading (record { types = types; entries = now (entries .entry) }) (length (now (room .entry)) / stride) (now (s .entry)))))
         × (now (room .exit) ≡ roomAfter (reading (record { types = types; entries = now (entries .entry) }) (length (now (room .entry)) / stride) (now (s .entry))) (now (room .entry))) ⌝ }
 {
-    // ones, which are stored in a loop: zeros would be a call, and cost more than all the rest of a short message
+    // ones, which are stored in a loop: zeros would be a call, and cost more than the rest of reading a short message
     let mut numbers: [u32; MOST_NUMBERS] = [1; MOST_NUMBERS];
     let count = copy(entries, &mut numbers);
     read_copied(types, count, &numbers, s, room)

@@ -1,4 +1,4 @@
--- One turn of the loop over the elements of a packed field. Assumes nothing.
+-- One iteration of the loop over the elements of a packed field. Assumes nothing.
 use Prim.Native.Nat.{ℕ, _+_, _-_, _/_, _%_, _≤_, _<_}
 use native.Mathlib.Omega.{arith}
 use mathlib.Core.Path.{_≡_, refl, sym, ap, _∙_}
@@ -21,7 +21,7 @@ use Rattle.spec.proofs.ListLaws.{around-here}
 use Rattle.spec.proofs.RunLaws.{records-at}
 use Rattle.list.specs.Checking.{rowAt, Elapsed, passed, faulty}
 use Rattle.list.specs.declared.run.Behind.the-variants.{To, Bad}
-use Rattle.list.proofs.RecordLaws.{fault-other, fault-rest, rest-number}
+use Rattle.list.proofs.RecordLaws.{fault-unexpected, fault-expected, other-number}
 use Rattle.list.proofs.OpenLaws.{first-good, first-bad, popped, none-left}
 
 -- the records from a place on
@@ -34,7 +34,7 @@ records-end list at h = ap recordsOf (drop-of-length-le list {i = at} h) ∙ rec
 pub records-rest : (list : List ℕ) (at : ℕ) → at < length list → length list < at + stride → recordsFrom list at ≡ broken ∷ []
 records-rest list at h l = records-broken (drop at list) (omega (arith, length-drop at list)) (omega (arith, length-drop at list))
 
--- What the elements from `from` on come to is what those from `at` on come to.
+-- The answer for the elements from `from` on is the answer for those from `at` on.
 pub record Ahead (list : List ℕ) (from depth number kind at : ℕ) : Type 0 where
   pub on : from ≤ at
   pub inside : at ≤ length list
@@ -47,7 +47,7 @@ pub ahead : (list : List ℕ) (from depth number kind : ℕ) → from ≤ length
 ahead list from depth number kind h w = record { on = omega arith; inside = h; whole = w; same = λ sch payload out c d s. refl }
 
 module _ {list : List ℕ} {from depth number kind at : ℕ} (h : Ahead list from depth number kind at) where
-  -- they end, at the end of the list or in a rest that is no record
+  -- they end, at the end of the list or in a remainder that is no record
   pub elements-end : length list - at < stride → Elapsed list from depth number kind (To at)
   elements-end l =
       passed (h .on) (h .inside) (h .whole)
@@ -98,7 +98,7 @@ module _ {list : List ℕ} {from depth number kind at : ℕ} (h : Ahead list fro
       -- of another number or kind, it has a fault
       pub elements-other : (getD list (at + numberColumn) 0 ≡ number → getD list (at + kindColumn) 0 ≡ kind → ⊥) → Elapsed list from depth number kind (Bad at)
       elements-other n =
-          bad (λ sch payload out c s. fault-other sch payload (Elements number kind) out (rowAt list at) (recordsFrom list (at + stride)) (unexpected sch n))
+          bad (λ sch payload out c s. fault-unexpected sch payload (Elements number kind) out (rowAt list at) (recordsFrom list (at + stride)) (unexpected sch n))
 
       module _ (num : getD list (at + numberColumn) 0 ≡ number) (kin : getD list (at + kindColumn) 0 ≡ kind) {b : Bool}
           (value : (c : Scalar) → shape kind ≡ one c → b ≡ fits c (getD list (at + valueColumn) 0)) where
@@ -106,9 +106,9 @@ module _ {list : List ℕ} {from depth number kind at : ℕ} (h : Ahead list fro
             → recordFault sch payload (Elements number kind ∷ out) (rowAt list at) (recordsFrom list (at + stride)) ≡ (if b then 0 else invalidList)
         unfolding expected
         fault-is sch payload out c s =
-            fault-rest sch payload (Elements number kind) out (rowAt list at) (recordsFrom list (at + stride))
+            fault-expected sch payload (Elements number kind) out (rowAt list at) (recordsFrom list (at + stride))
             (both-true (eq-eqb (getD list (at + numberColumn) 0) number num) (eq-eqb (getD list (at + kindColumn) 0) kind kin))
-            ∙ rest-number payload (rowAt list at) (recordsFrom list (at + stride)) c (ap shape kin ∙ s)
+            ∙ other-number payload (rowAt list at) (recordsFrom list (at + stride)) c (ap shape kin ∙ s)
             ∙ sym (ap (λ (x : Bool). if x then 0 else invalidList) (value c s))
 
         pub elements-value : b ≡ false → Elapsed list from depth number kind (Bad at)

@@ -15,7 +15,7 @@ use Rattle.spec.specs.Utf8.{utf8}
 use Rattle.spec.specs.Kind.{Scalar, Shape, one, other, nothing, shapes, shape, isScalar, wire, fits}
 use Rattle.spec.specs.Schema.{Schema, lookup, kindOf, Says, insideOf, saysOf, says}
 use Rattle.spec.specs.Record.{Record, recordsOf, stride}
-use Rattle.spec.specs.Writing.{Place, Fields, recorded, expected, lies, fitting, nextDeeper, recordFault}
+use Rattle.spec.specs.Writing.{Place, Fields, recorded, expected, lies, fitting, nextDeeper, recordFault, otherFault}
 use Rattle.spec.specs.declared.Entry.{Entry}
 use Rattle.spec.proofs.Laws.{both, both-true, by-test}
 use Rattle.spec.proofs.VarintLaws.{lower-or-not}
@@ -27,7 +27,7 @@ use Rattle.schema.specs.Layout.{guesses, innersAt, keyCount, kindsAt, ownerUnit
 use Rattle.schema.specs.Tables.{tableSays}
 use Rattle.schema.proofs.AskingLaws.{says-guessed}
 use Rattle.schema.proofs.TableLaws.{said-message, said-packed}
-use Rattle.list.specs.Checking.{Made, rowAt, rangeFault, restFault, named, Suits}
+use Rattle.list.specs.Checking.{Made, rowAt, rangeFault, named, Suits}
 use Rattle.list.proofs.FitLaws.{type-small, type-recorded, recorded-small, no-record, Delimited, a-string, a-content, a-message, a-packed, delimited}
 
 -- ---- number and kind
@@ -177,13 +177,13 @@ module _ {sch : Schema} {keys info : List ℕ} (m : Made sch keys info) {type nu
 -- ---- the fault of a record whose number and kind are as expected
 
 module _ (sch : Schema) (payload : List ℕ) (here : Place) (out : List Place) (r : Record) (rs : List Record) where
-  pub fault-other : expected sch here r ≡ false → recordFault sch payload (here ∷ out) r rs ≡ invalidList
+  pub fault-unexpected : expected sch here r ≡ false → recordFault sch payload (here ∷ out) r rs ≡ invalidList
   unfolding recordFault
-  fault-other e = rw e refl
+  fault-unexpected e = rw e refl
 
-  pub fault-rest : expected sch here r ≡ true → recordFault sch payload (here ∷ out) r rs ≡ restFault payload r rs
-  unfolding recordFault restFault
-  fault-rest e = rw e refl
+  pub fault-expected : expected sch here r ≡ true → recordFault sch payload (here ∷ out) r rs ≡ otherFault payload r rs
+  unfolding recordFault
+  fault-expected e = rw e refl
 
 module _ (payload : List ℕ) (r : Record) (rs : List Record) where
   -- of a kind that is one number
@@ -192,74 +192,74 @@ module _ (payload : List ℕ) (r : Record) (rs : List Record) where
     unfolding isScalar
     no-special k n = ne-eqb (r .kind) k (λ e. false≢true (sym n ∙ ap isScalar (sym (ap shape e) ∙ is)))
 
-    pub rest-number : restFault payload r rs ≡ (if fits c (r .value) then 0 else invalidList)
-    unfolding restFault fitting shape shapes isScalar
-    rest-number = rw (no-special packedHead refl, no-special messageKind refl, no-special stringKind refl) (ap (λ (x : Shape). if not (fitting x payload r) then invalidList else 0) is ∙ go (fits c (r .value)))
+    pub other-number : otherFault payload r rs ≡ (if fits c (r .value) then 0 else invalidList)
+    unfolding fitting shape shapes isScalar
+    other-number = rw (no-special packedHead refl, no-special messageKind refl, no-special stringKind refl) (ap (λ (x : Shape). if not (fitting x payload r) then invalidList else 0) is ∙ go (fits c (r .value)))
       where
         go : (b : Bool) → _≡_ {A = ℕ} (if not b then invalidList else 0) (if b then 0 else invalidList)
         go true = refl
         go false = refl
 
   -- of wire type 2: the value is 0
-  rest-value : wire (r .kind) ≡ delimitedWire → r .value ≢ 0 → invalidList ≡ restFault payload r rs
-  unfolding restFault fitting
-  rest-value w n = go (delimited (r .kind) w) refl
+  other-value : wire (r .kind) ≡ delimitedWire → r .value ≢ 0 → invalidList ≡ otherFault payload r rs
+  unfolding fitting
+  other-value w n = go (delimited (r .kind) w) refl
     where
       no-zero : eqb (r .value) 0 ≡ false
       no-zero = ne-eqb (r .value) 0 n
 
-      fails : {x : Shape} → shape (r .kind) ≡ x → fitting x payload r ≡ false → invalidList ≡ restFault payload r rs
+      fails : {x : Shape} → shape (r .kind) ≡ x → fitting x payload r ≡ false → invalidList ≡ otherFault payload r rs
       fails e f = sym (rw (ap (λ (y : Shape). fitting y payload r) e ∙ f) refl)
 
-      go : {x : Shape} → Delimited x → shape (r .kind) ≡ x → invalidList ≡ restFault payload r rs
+      go : {x : Shape} → Delimited x → shape (r .kind) ≡ x → invalidList ≡ otherFault payload r rs
       go a-string e = fails e (rw no-zero refl)
       go a-content e = fails e (rw no-zero refl)
       go a-message e = fails e no-zero
       go a-packed e = fails e no-zero
 
   -- a message without fault stands below depth `mostLevels`
-  pub rest-low : r .kind ≡ messageKind → restFault payload r rs ≡ 0 → r .depth < mostLevels
-  unfolding restFault fitting shape shapes
-  rest-low k e =
+  pub other-low : r .kind ≡ messageKind → otherFault payload r rs ≡ 0 → r .depth < mostLevels
+  unfolding fitting shape shapes
+  other-low k e =
       by-test (eqb (r .value) 0)
       (λ v. by-test (leb mostLevels (r .depth)) (λ d. let z : _≡_ {A = ℕ} tooDeep 0 = rw (k, v, d) at e in absurd (omega arith)) (λ d. leb-false mostLevels (r .depth) d))
       (λ v. let z : _≡_ {A = ℕ} invalidList 0 = rw (k, v) at e in absurd (omega arith))
 
   module _ (none-there : r .value ≡ 0) where
-    rest-message : r .kind ≡ messageKind → restFault payload r rs ≡ (if leb mostLevels (r .depth) then tooDeep else 0)
-    unfolding restFault fitting shape shapes
-    rest-message e = rw (e, none-there) refl
+    other-message : r .kind ≡ messageKind → otherFault payload r rs ≡ (if leb mostLevels (r .depth) then tooDeep else 0)
+    unfolding fitting shape shapes
+    other-message e = rw (e, none-there) refl
 
-    rest-deep : r .kind ≡ messageKind → mostLevels ≤ r .depth → tooDeep ≡ restFault payload r rs
-    rest-deep e l = sym (rest-message e ∙ rw (le-leb mostLevels (r .depth) l) refl)
+    other-deep : r .kind ≡ messageKind → mostLevels ≤ r .depth → tooDeep ≡ otherFault payload r rs
+    other-deep e l = sym (other-message e ∙ rw (le-leb mostLevels (r .depth) l) refl)
 
-    rest-shallow : r .kind ≡ messageKind → r .depth < mostLevels → 0 ≡ restFault payload r rs
-    rest-shallow e l = sym (rest-message e ∙ rw (lt-leb mostLevels (r .depth) l) refl)
+    other-shallow : r .kind ≡ messageKind → r .depth < mostLevels → 0 ≡ otherFault payload r rs
+    other-shallow e l = sym (other-message e ∙ rw (lt-leb mostLevels (r .depth) l) refl)
 
-    rest-packed : r .kind ≡ packedHead → (if nextDeeper r rs then 0 else invalidList) ≡ restFault payload r rs
-    unfolding restFault fitting shape shapes
-    rest-packed e = go rs
+    other-packed : r .kind ≡ packedHead → (if nextDeeper r rs then 0 else invalidList) ≡ otherFault payload r rs
+    unfolding fitting shape shapes
+    other-packed e = go rs
       where
         turned : (b : Bool) → _≡_ {A = ℕ} (if not b then invalidList else 0) (if b then 0 else invalidList)
         turned true = refl
         turned false = refl
 
-        go : (qs : List Record) → (if nextDeeper r qs then 0 else invalidList) ≡ restFault payload r qs
+        go : (qs : List Record) → (if nextDeeper r qs then 0 else invalidList) ≡ otherFault payload r qs
         go [] = sym (rw (e, none-there) refl)
         go (q ∷ qs) = sym (rw (e, none-there) (turned (eqb (q .depth) (r .depth + 1))))
 
-    rest-range : wire (r .kind) ≡ delimitedWire → r .kind ≢ messageKind → r .kind ≢ packedHead → rangeFault payload (r .kind) (r .start) (r .stop) ≡ restFault payload r rs
-    unfolding restFault rangeFault fitting
-    rest-range w m p = go (delimited (r .kind) w) refl
+    other-range : wire (r .kind) ≡ delimitedWire → r .kind ≢ messageKind → r .kind ≢ packedHead → rangeFault payload (r .kind) (r .start) (r .stop) ≡ otherFault payload r rs
+    unfolding rangeFault fitting
+    other-range w m p = go (delimited (r .kind) w) refl
       where
         value-is : eqb (r .value) 0 ≡ true
         value-is = eq-eqb (r .value) 0 none-there
 
-        alike : {x : Shape} → shape (r .kind) ≡ x → fitting x payload r ≡ lies payload r → rangeFault payload (r .kind) (r .start) (r .stop) ≡ restFault payload r rs
+        alike : {x : Shape} → shape (r .kind) ≡ x → fitting x payload r ≡ lies payload r → rangeFault payload (r .kind) (r .start) (r .stop) ≡ otherFault payload r rs
         alike e f =
             sym (rw (ap (λ (y : Shape). fitting y payload r) e ∙ f, ne-eqb (r .kind) packedHead p, ne-eqb (r .kind) messageKind m) refl)
 
-        go : {x : Shape} → Delimited x → shape (r .kind) ≡ x → rangeFault payload (r .kind) (r .start) (r .stop) ≡ restFault payload r rs
+        go : {x : Shape} → Delimited x → shape (r .kind) ≡ x → rangeFault payload (r .kind) (r .start) (r .stop) ≡ otherFault payload r rs
         go a-string e = alike e (rw value-is refl)
         go a-content e = alike e (rw value-is refl)
         go a-message e = absurd (m (is-message-kind (r .kind) e))
@@ -305,35 +305,35 @@ module _ (list : List ℕ) (at : ℕ) (r : Record) where
 
 -- ---- the same of the record at a place
 
-abbrev restAt : (payload list : List ℕ) → ℕ → ℕ
-restAt payload list at = restFault payload (rowAt list at) (recordsOf (drop (at + stride) list))
+abbrev faultAt : (payload list : List ℕ) → ℕ → ℕ
+faultAt payload list at = otherFault payload (rowAt list at) (recordsOf (drop (at + stride) list))
 
 module _ (payload list : List ℕ) (at : ℕ) {kind depth : ℕ} (whole : at + stride ≤ length list) (kind-is : kind ≡ getD list (at + kindColumn) 0) (depth-is : depth ≡ getD list at 0) where
-  pub value-at : wire kind ≡ delimitedWire → getD list (at + valueColumn) 0 ≢ 0 → invalidList ≡ restAt payload list at
-  value-at w n = rest-value payload (rowAt list at) (recordsOf (drop (at + stride) list)) (sym (ap wire kind-is) ∙ w) n
+  pub value-at : wire kind ≡ delimitedWire → getD list (at + valueColumn) 0 ≢ 0 → invalidList ≡ faultAt payload list at
+  value-at w n = other-value payload (rowAt list at) (recordsOf (drop (at + stride) list)) (sym (ap wire kind-is) ∙ w) n
 
   module _ (none-there : getD list (at + valueColumn) 0 ≡ 0) where
-    pub deep-at : kind ≡ messageKind → mostLevels ≤ depth → tooDeep ≡ restAt payload list at
-    deep-at e l = rest-deep payload (rowAt list at) (recordsOf (drop (at + stride) list)) none-there (sym kind-is ∙ e) (omega arith)
+    pub deep-at : kind ≡ messageKind → mostLevels ≤ depth → tooDeep ≡ faultAt payload list at
+    deep-at e l = other-deep payload (rowAt list at) (recordsOf (drop (at + stride) list)) none-there (sym kind-is ∙ e) (omega arith)
 
-    pub shallow-at : kind ≡ messageKind → depth < mostLevels → 0 ≡ restAt payload list at
-    shallow-at e l = rest-shallow payload (rowAt list at) (recordsOf (drop (at + stride) list)) none-there (sym kind-is ∙ e) (omega arith)
+    pub shallow-at : kind ≡ messageKind → depth < mostLevels → 0 ≡ faultAt payload list at
+    shallow-at e l = other-shallow payload (rowAt list at) (recordsOf (drop (at + stride) list)) none-there (sym kind-is ∙ e) (omega arith)
 
-    packed-at : {b : Bool} → kind ≡ packedHead → nextDeeper (rowAt list at) (recordsOf (drop (at + stride) list)) ≡ b → (if b then 0 else invalidList) ≡ restAt payload list at
+    packed-at : {b : Bool} → kind ≡ packedHead → nextDeeper (rowAt list at) (recordsOf (drop (at + stride) list)) ≡ b → (if b then 0 else invalidList) ≡ faultAt payload list at
     packed-at e n =
-        ap (λ (b : Bool). if b then 0 else invalidList) (sym n) ∙ rest-packed payload (rowAt list at) (recordsOf (drop (at + stride) list)) none-there (sym kind-is ∙ e)
+        ap (λ (b : Bool). if b then 0 else invalidList) (sym n) ∙ other-packed payload (rowAt list at) (recordsOf (drop (at + stride) list)) none-there (sym kind-is ∙ e)
 
-    pub last-at : kind ≡ packedHead → length list - at < 2 * stride → invalidList ≡ restAt payload list at
+    pub last-at : kind ≡ packedHead → length list - at < 2 * stride → invalidList ≡ faultAt payload list at
     last-at e l = packed-at e (next-none list at (rowAt list at) whole (omega arith))
 
     module _ (e : kind ≡ packedHead) (l : 2 * stride ≤ length list - at) where
-      pub jump-at : getD list (at + stride) 0 ≢ depth + 1 → invalidList ≡ restAt payload list at
+      pub jump-at : getD list (at + stride) 0 ≢ depth + 1 → invalidList ≡ faultAt payload list at
       jump-at n = packed-at e (next-at list at (rowAt list at) (omega arith) ∙ ne-eqb (getD list (at + stride) 0) (getD list at 0 + 1) (λ z. n (omega arith)))
 
-      pub run-at : getD list (at + stride) 0 ≡ depth + 1 → 0 ≡ restAt payload list at
+      pub run-at : getD list (at + stride) 0 ≡ depth + 1 → 0 ≡ faultAt payload list at
       run-at n = packed-at e (next-at list at (rowAt list at) (omega arith) ∙ eq-eqb (getD list (at + stride) 0) (getD list at 0 + 1) (omega arith))
 
-    pub content-at : wire kind ≡ delimitedWire → kind ≢ messageKind → kind ≢ packedHead → rangeFault payload kind (getD list (at + startColumn) 0) (getD list (at + stopColumn) 0) ≡ restAt payload list at
+    pub content-at : wire kind ≡ delimitedWire → kind ≢ messageKind → kind ≢ packedHead → rangeFault payload kind (getD list (at + startColumn) 0) (getD list (at + stopColumn) 0) ≡ faultAt payload list at
     content-at w m p =
         ap (λ (k : ℕ). rangeFault payload k (getD list (at + startColumn) 0) (getD list (at + stopColumn) 0)) kind-is
-        ∙ rest-range payload (rowAt list at) (recordsOf (drop (at + stride) list)) none-there (sym (ap wire kind-is) ∙ w) (λ e. m (kind-is ∙ e)) (λ e. p (kind-is ∙ e))
+        ∙ other-range payload (rowAt list at) (recordsOf (drop (at + stride) list)) none-there (sym (ap wire kind-is) ∙ w) (λ e. m (kind-is ∙ e)) (λ e. p (kind-is ∙ e))

@@ -1,4 +1,4 @@
--- One turn of the loop over the records of a list. Assumes nothing.
+-- One iteration of the loop over the records of a list. Assumes nothing.
 use Prim.Native.Nat.{ℕ, _+_, _-_, _/_, _%_, _≤_, _<_}
 use native.Mathlib.Omega.{arith}
 use mathlib.Core.Path.{_≡_, refl, sym, ap, ap₂, _∙_, subst}
@@ -13,18 +13,18 @@ use Rattle.spec.specs.Base.{if_then_else_}
 use Rattle.spec.specs.Kind.{Scalar, one, shape, kindWires, ownWires, wires, wire, fits}
 use Rattle.spec.specs.Schema.{Schema}
 use Rattle.spec.specs.Record.{broken, recordsOf, stride}
-use Rattle.spec.specs.Writing.{Place, Fields, Elements, around, inside, expected, recordFault, Verdict, Fine, Faulty, listFault}
+use Rattle.spec.specs.Writing.{Place, Fields, Elements, around, inside, expected, recordFault, Verdict, Fine, Faulty, listFault, otherFault}
 use Rattle.spec.proofs.VarintLaws.{lower-or-not}
 use Rattle.spec.proofs.RunLaws.{records-at}
-use Rattle.list.specs.Checking.{Made, rowAt, restFault, named, Suits, Answers, suits, differs, Elapsed, passed, faulty, fieldsTo}
+use Rattle.list.specs.Checking.{Made, rowAt, named, Suits, Answers, suits, differs, Elapsed, passed, faulty, fieldsTo}
 use Rattle.list.specs.declared.record.Asked.the-variants.{Expected, Other}
 use Rattle.list.specs.declared.run.Behind.the-variants.{To, Bad}
 use Rattle.list.proofs.FitLaws.{one-number}
-use Rattle.list.proofs.RecordLaws.{expects, fault-other, fault-rest, rest-number, rest-low}
+use Rattle.list.proofs.RecordLaws.{expects, fault-unexpected, fault-expected, other-number, other-low}
 use Rattle.list.proofs.OpenLaws.{outer, fields-cons, length-fields, fields-more, around-fields, first-good, first-bad, first-deep, first-out, none-left}
 use Rattle.list.proofs.ElementTurn.{recordsFrom, records-end, records-rest}
 
--- What the whole list comes to is what the records from `at` on come to, in the messages that are open down to `depth`; `type` is the last one's.
+-- The answer for the whole list is the answer for the records from `at` on, in the messages that are open down to `depth`; `type` is the last one's.
 pub record Here (sch : Schema) (payload list open-types : List ℕ) (at depth type : ℕ) : Type 0 where
   pub same : listFault sch payload 0 (Fields 0 ∷ []) (recordsOf list) ≡ listFault sch payload (at / stride) (fieldsTo open-types depth) (recordsFrom list at)
   pub is : type ≡ getD open-types depth 0
@@ -39,7 +39,7 @@ here sch payload list open-types e = record {
 }
 
 module _ {sch : Schema} {payload list open-types : List ℕ} {at depth type : ℕ} (h : Here sch payload list open-types at depth type) where
-  -- the end of the list, and a rest that is no record
+  -- the end of the list, and a remainder that is no record
   pub run-end : length list ≤ at → Fine ≡ listFault sch payload 0 (Fields 0 ∷ []) (recordsOf list)
   run-end l =
       sym (h .same ∙ ap (listFault sch payload (at / stride) (fieldsTo open-types depth)) (records-end list at l) ∙ none-left sch payload (at / stride) (fieldsTo open-types depth))
@@ -94,12 +94,12 @@ module _ {sch : Schema} {payload list open-types : List ℕ} {at depth type : �
       pub run-other : expected sch (Fields type) (named (getD list (at + numberColumn) 0) (getD list (at + kindColumn) 0)) ≡ false
           → Faulty invalidList (at / stride) ≡ listFault sch payload 0 (Fields 0 ∷ []) (recordsOf list)
       unfolding expected
-      run-other e = refused (λ z. omega arith) (fault-other sch payload (Fields type) (outer open-types depth) (rowAt list at) (recordsFrom list (at + stride)) e)
+      run-other e = refused (λ z. omega arith) (fault-unexpected sch payload (Fields type) (outer open-types depth) (rowAt list at) (recordsFrom list (at + stride)) e)
 
       module _ {inner : ℕ} (s : Suits sch type (getD list (at + numberColumn) 0) (getD list (at + kindColumn) 0) inner) where
-        rest-is : fault ≡ restFault payload (rowAt list at) (recordsFrom list (at + stride))
+        other-is : fault ≡ otherFault payload (rowAt list at) (recordsFrom list (at + stride))
         unfolding expected
-        rest-is = fault-rest sch payload (Fields type) (outer open-types depth) (rowAt list at) (recordsFrom list (at + stride)) (s .is)
+        other-is = fault-expected sch payload (Fields type) (outer open-types depth) (rowAt list at) (recordsFrom list (at + stride)) (s .is)
 
         -- one that opens nothing
         stays : fault ≡ 0 → getD list (at + kindColumn) 0 ≢ messageKind → getD list (at + kindColumn) 0 ≢ packedHead → Here sch payload list open-types (at + stride) depth type
@@ -120,7 +120,7 @@ module _ {sch : Schema} {payload list open-types : List ℕ} {at depth type : �
 
           number-fault : fault ≡ (if b then 0 else invalidList)
           number-fault =
-              rest-is ∙ rest-number payload (rowAt list at) (recordsFrom list (at + stride)) (number .0) (number .1)
+              other-is ∙ other-number payload (rowAt list at) (recordsFrom list (at + stride)) (number .0) (number .1)
               ∙ sym (ap (λ (x : Bool). if x then 0 else invalidList) (value (number .0) (number .1)))
 
           pub run-value-bad : b ≡ false → Faulty invalidList (at / stride) ≡ listFault sch payload 0 (Fields 0 ∷ []) (recordsOf list)
@@ -131,18 +131,18 @@ module _ {sch : Schema} {payload list open-types : List ℕ} {at depth type : �
           run-value e = stays (number-fault ∙ ap (λ (x : Bool). if x then 0 else invalidList) e) (λ z. w (ap wire z)) (λ z. w (ap wire z))
 
         -- of wire type 2
-        module _ {k : ℕ} (is : k ≡ restFault payload (rowAt list at) (recordsFrom list (at + stride))) where
+        module _ {k : ℕ} (is : k ≡ otherFault payload (rowAt list at) (recordsFrom list (at + stride))) where
           pub run-fault : k ≢ 0 → Faulty k (at / stride) ≡ listFault sch payload 0 (Fields 0 ∷ []) (recordsOf list)
-          run-fault n = refused n (rest-is ∙ sym is)
+          run-fault n = refused n (other-is ∙ sym is)
 
           module _ (none : k ≡ 0) where
             pub run-content : getD list (at + kindColumn) 0 ≢ messageKind → getD list (at + kindColumn) 0 ≢ packedHead → Here sch payload list open-types (at + stride) depth type
-            run-content m p = stays (rest-is ∙ sym is ∙ none) m p
+            run-content m p = stays (other-is ∙ sym is ∙ none) m p
 
             pub run-message : getD list (at + kindColumn) 0 ≡ messageKind → depth + 1 < length open-types → Here sch payload list (set open-types (depth + 1) inner) (at + stride) (depth + 1) inner
             unfolding inside
             run-message e room = record {
-              same = went (rest-is ∙ sym is ∙ none)
+              same = went (other-is ∙ sym is ∙ none)
                   ∙ ap (λ (o : List Place). listFault sch payload ((at + stride) / stride) o (recordsFrom list (at + stride)))
                   (rw (eq-eqb (getD list (at + kindColumn) 0) messageKind e)
                   (ap₂ (λ (x y : ℕ). Fields x ∷ Fields y ∷ outer open-types depth) (sym (s .fields e .0)) (h .is)
@@ -163,7 +163,7 @@ module _ {sch : Schema} {payload list open-types : List ℕ} {at depth type : �
 
               starts : listFault sch payload 0 (Fields 0 ∷ []) (recordsOf list)
                   ≡ listFault sch payload ((at + stride) / stride) (Elements (getD list (at + numberColumn) 0) inner ∷ fieldsTo open-types depth) (recordsFrom list (at + stride))
-              starts = went (rest-is ∙ sym is ∙ none) ∙ ap (λ (o : List Place). listFault sch payload ((at + stride) / stride) o (recordsFrom list (at + stride))) opens
+              starts = went (other-is ∙ sym is ∙ none) ∙ ap (λ (o : List Place). listFault sch payload ((at + stride) / stride) o (recordsFrom list (at + stride))) opens
 
               pub run-elements : {to : ℕ} → Elapsed list (at + stride) (depth + 1) (getD list (at + numberColumn) 0) inner (To to) → Here sch payload list open-types to depth type
               run-elements (passed a b d f) = record {
@@ -261,13 +261,13 @@ module _ {keys info list payload open-types : List ℕ} {type depth at : ℕ} (s
       stand-value e =
           onward (λ sch m. run-value (s .going .lies sch m) (s .going .inside) (s .more) (s .own) (so sch m) (λ z. n (wire-is ∙ z)) value e)
 
-    module _ {k : ℕ} (is : k ≡ restFault payload (rowAt list at) (recordsFrom list (at + stride))) where
+    module _ {k : ℕ} (is : k ≡ otherFault payload (rowAt list at) (recordsFrom list (at + stride))) where
       pub stand-fault : k ≢ 0 → Verdicts keys info list payload (Faulty k (at / stride))
       stand-fault n sch m = run-fault (s .going .lies sch m) (s .going .inside) (s .more) (s .own) (so sch m) is n
 
       module _ (none : k ≡ 0) where
         pub stand-low : getD list (at + kindColumn) 0 ≡ messageKind → depth < mostLevels
-        stand-low e = omega (arith, rest-low payload (rowAt list at) (recordsFrom list (at + stride)) e (sym is ∙ none), s .own)
+        stand-low e = omega (arith, other-low payload (rowAt list at) (recordsFrom list (at + stride)) e (sym is ∙ none), s .own)
 
         pub stand-content : getD list (at + kindColumn) 0 ≢ messageKind → getD list (at + kindColumn) 0 ≢ packedHead → Going keys info list payload open-types type depth (at + stride)
         stand-content x y = onward (λ sch m. run-content (s .going .lies sch m) (s .going .inside) (s .more) (s .own) (so sch m) is none x y)

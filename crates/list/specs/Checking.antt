@@ -1,5 +1,5 @@
 -- What the parts of the list check ask and answer. The check goes over the records with the tables of a schema; a place in the list counts
--- numbers, `stride` to a record. Assumes nothing: these are definitions.
+-- numbers, `stride` to a record. Assumes nothing: these are definitions. Only inner functions and loops cite it.
 use Prim.Native.Nat.{ℕ, zero, suc, _+_, _*_, _/_, _%_, _^_, _≤_, _<_}
 use mathlib.Core.Path.{_≡_}
 use mathlib.Core.Bool.{Bool, true, false, not, _&&_, _||_}
@@ -7,13 +7,13 @@ use mathlib.Core.Option.{none}
 use mathlib.Core.List.{List, [], _∷_}
 use lib.ListN.{length, drop, getD}
 use lib.Dec.{leb, eqb}
-use Rattle.spec.specs.Names.{enumKind, fixed32Kind, fixed32Wire, floatKind, int32Kind, invalidList, messageKind, mostLevels, notUtf8, packedHead, sfixed32Kind, sint32Kind, stringKind, tooDeep, uint32Kind, unknownFixed32, kindColumn, mostTypes, numberColumn, startColumn, stopColumn, valueColumn}
+use Rattle.spec.specs.Names.{enumKind, fixed32Kind, fixed32Wire, floatKind, int32Kind, invalidList, messageKind, notUtf8, packedHead, sfixed32Kind, sint32Kind, stringKind, uint32Kind, unknownFixed32, kindColumn, mostTypes, numberColumn, startColumn, stopColumn, valueColumn}
 use Rattle.spec.specs.Base.{if_then_else_, part}
 use Rattle.spec.specs.Utf8.{utf8}
 use Rattle.spec.specs.Kind.{Scalar, one, shape, wire}
 use Rattle.spec.specs.Schema.{Schema, badSchema, lookup, says}
 use Rattle.spec.specs.Record.{Record, row, recordsOf, stride}
-use Rattle.spec.specs.Writing.{Place, Fields, Elements, Faulty, expected, fitting, nextDeeper, listFault}
+use Rattle.spec.specs.Writing.{Place, Fields, Elements, Faulty, expected, listFault}
 use Rattle.schema.specs.Layout.{guesses, keyCount, ownerUnit}
 use Rattle.schema.specs.Tables.{tableSays}
 use Rattle.list.specs.declared.record.Asked.{Asked}
@@ -35,18 +35,11 @@ pub record Made (sch : Schema) (keys info : List ℕ) : Type 0 where
 abbrev pub rowAt : List ℕ → ℕ → Record
 rowAt list at = row (getD list at 0) (getD list (at + numberColumn) 0) (getD list (at + kindColumn) 0) (getD list (at + valueColumn) 0) (getD list (at + startColumn) 0) (getD list (at + stopColumn) 0) 0
 
--- the fault of a content of this kind, and that of a record whose number and kind are as expected; 0 for none
+-- the fault of a content of this kind; 0 for none
 unfoldable pub rangeFault : List ℕ → (kind start stop : ℕ) → ℕ
 rangeFault payload kind start stop =
     if not (leb start stop && leb stop (length payload)) then invalidList else
     if eqb kind stringKind && not (utf8 (part start stop payload)) then notUtf8 else 0
-
-unfoldable pub restFault : List ℕ → Record → List Record → ℕ
-restFault payload r rs =
-    if not (fitting (shape (r .kind)) payload r) then invalidList else
-    if eqb (r .kind) packedHead && not (nextDeeper r rs) then invalidList else
-    if eqb (r .kind) messageKind && leb mostLevels (r .depth) then tooDeep else
-    if eqb (r .kind) stringKind && not (utf8 (part (r .start) (r .stop) payload)) then notUtf8 else 0
 
 -- the kinds whose values have 32 signed bits, and those whose values have 32 bits
 abbrev pub signed32Kind : ℕ → Bool

@@ -1,4 +1,4 @@
--- What the list check answers, in the terms of the definitions. Assumes nothing: these are definitions.
+-- What the list check answers, in the terms of the definitions. Assumes nothing: these are definitions. Public promises cite it.
 use Rattle.spec.specs.Writing as spec
 use Rattle.list.specs.declared.Verdict.{Verdict}
 use Rattle.list.specs.declared.Verdict.the-variants.{Fine, Faulty}

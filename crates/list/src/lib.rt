@@ -12,7 +12,7 @@ use crate::run::list_fault;
 use schema::layout::INFO;
 use schema::layout::KEYS;
 use schema::layout::NO_KEY;
-use schema::tables;
+use schema::note_entries;
 use spec::refusals::INVALID_SCHEMA;
 
 // Without fault, or a refusal's number and the index of its record; of the bad entry where the schema is not valid.
@@ -27,7 +27,7 @@ pub fn check(types: u32, numbers: &[u32], list: &[u64], payload: &[u8]) -> Verdi
 {
     let mut keys: [u64; KEYS] = [NO_KEY; KEYS];
     let mut info: [u8; INFO] = [0; INFO];
-    match tables(types, numbers, &mut keys, &mut info) {
+    match note_entries(types, numbers, &mut keys, &mut info) {
         schema::Verdict::Bad(i) => Verdict::Faulty {
             number: INVALID_SCHEMA,
             index: i,

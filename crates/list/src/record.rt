@@ -2,11 +2,12 @@
 ghost use mathlib.Core.Path.{_≡_};
 ghost use Prim.Native.Nat.{_+_, _*_, _%_, _≤_, _<_};
 ghost use lib.ListN.{length, drop, take, getD};
+ghost use Rattle.spec.specs.Writing.{otherFault};
 ghost use Rattle.spec.specs.Names.{delimitedWire, kindColumn, mostLevels, mostTypes, recordKinds};
 ghost use Rattle.spec.specs.Kind.{Scalar, one, shape, fits, wires, wire};
 ghost use Rattle.spec.specs.Record.{recordsOf, stride};
 ghost use Rattle.schema.specs.Layout.{guesses, ownerUnit};
-ghost use Rattle.list.specs.Checking.{rowAt, rangeFault, restFault, signed32Kind, unsigned32Kind, Typed, Answers};
+ghost use Rattle.list.specs.Checking.{rowAt, rangeFault, signed32Kind, unsigned32Kind, Typed, Answers};
 use schema::layout::GUESSES;
 use schema::layout::INFO;
 use schema::layout::INNERS_AT;
@@ -100,8 +101,8 @@ fn search(keys: &[u64; KEYS], info: &[u8; INFO], ty: u8, number: u64, kind: u64,
     }
 }
 
-// Of a record in a message of this type: by a guess at its entry, which the keys say to be right or not. The keys of its type, and the place of
-// its first guess, are handed in, as they stay the same from record to record.
+// Of a record in a message of this type: by a guess at its entry, which the keys confirm or not. The keys of its type, and the place of
+// its first guess, are parameters, as they stay the same from record to record.
 pub(crate) fn ask(
     table: &[u8; RECORD_KINDS],
     keys: &[u64; KEYS],
@@ -211,7 +212,7 @@ fn range_fault(payload: &[u8], kind: u64, start: u64, end: u64) -> u32
 // The fault of the record at a place, of wire type 2, whose number and kind are as expected; 0 for none.
 pub(crate) fn delimited_fault(list: &[u64], payload: &[u8], at: usize, kind: u64, depth: u64) -> u32
     requires { ⌜ (at + stride ≤ length (now list)) × (kind ≡ getD (now list) (at + kindColumn) 0) × (depth ≡ getD (now list) at 0) × (depth ≤ mostLevels) × (wire kind ≡ delimitedWire) ⌝ }
-    ensures { λ r. ⌜ r ≡ restFault (now (payload .entry)) (rowAt (now (list .entry)) at) (recordsOf (drop (at + stride) (now (list .entry)))) ⌝ }
+    ensures { λ r. ⌜ r ≡ otherFault (now (payload .entry)) (rowAt (now (list .entry)) at) (recordsOf (drop (at + stride) (now (list .entry)))) ⌝ }
 {
     if list[at + VALUE] != 0 {
         return INVALID_LIST;

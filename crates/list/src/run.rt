@@ -1,4 +1,4 @@
-// The records in turn, with the types of the messages that are open.
+// The records in order, with the types of the messages that are open.
 ghost use mathlib.Core.Path.{_≡_};
 ghost use mathlib.Core.List.{_∷_, []};
 ghost use Prim.Native.Nat.{_/_, _%_, _≤_};

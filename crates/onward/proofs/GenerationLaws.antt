@@ -23,7 +23,7 @@ fewer-trans (leave-out f) (keep g) = leave-out (fewer-trans f g)
 fewer-trans end end = end
 
 pub older-trans : {oldest middle newest : Schema} → Older oldest middle → Older middle newest → Older oldest newest
-older-trans a b = record { same-types = a .same-types ∙ b .same-types; fewer-entries = fewer-trans (a .fewer-entries) (b .fewer-entries) }
+older-trans a b = record { fewer-entries = fewer-trans (a .fewer-entries) (b .fewer-entries) }
 
 -- ---- what is written was a valid list
 
@@ -55,9 +55,9 @@ wrote sch space payload s rs e =
 -- ---- the law
 
 pub two-generations : TwoGenerations
-two-generations oldest middle newest payload rs room space g older valid =
+two-generations mode oldest middle newest payload rs room space g older valid =
     let s : List ℕ = written payload rs in
-    let once : GoesOnward middle newest payload rs room space s = demand-three middle newest payload rs room space g in
+    let once : GoesOnward mode middle newest payload rs room space s = demand-three mode middle newest payload rs room space g in
     let w = wrote middle space s s (once .list) (once .again) in
     let next : Given oldest middle s (once .list) room space = record {
       older = older;
@@ -68,9 +68,9 @@ two-generations oldest middle newest payload rs room space g older valid =
       room-lent = omega (arith, once .no-more, g .room-lent);
       space-lent = subst (λ (x : List ℕ). length x ≤ space) (sym (w .1)) (g .space-lent);
     } in
-    let twice : GoesOnward oldest middle s (once .list) room space s =
-    subst (GoesOnward oldest middle s (once .list) room space) (w .1) (demand-three oldest middle s (once .list) room space next) in
-    let straight : GoesOnward oldest newest payload rs room space s = demand-three oldest newest payload rs room space (record {
+    let twice : GoesOnward mode oldest middle s (once .list) room space s =
+    subst (GoesOnward mode oldest middle s (once .list) room space) (w .1) (demand-three mode oldest middle s (once .list) room space next) in
+    let straight : GoesOnward mode oldest newest payload rs room space s = demand-three mode oldest newest payload rs room space (record {
       older = older-trans older (g .older);
       old-valid = valid;
       new-valid = g .new-valid;

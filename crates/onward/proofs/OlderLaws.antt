@@ -62,7 +62,7 @@ has (leave-out {e} {es} {fs} f) types o n i h t m =
 pub older-has : (old new : Schema) → Older old new → badSchema new ≡ none → (t m : ℕ) → Has (lookup (old .entries) t m) (lookup (new .entries) t m)
 older-has old new o h t m = has (o .fewer-entries) (new .types) 0 0 0 (valid-entries new h .2) t m
 
--- ---- an older schema of a valid one is valid
+-- ---- an older schema of a valid one, with the same count of types, is valid
 
 before-rises : (o n : ℕ) (e : Entry) → Before o n (e .owner) (e .number) → rises o n e ≡ true
 before-rises o n e (type-before h) = ap (λ (b : Bool). b || eqb o (e .owner) && ltb n (e .number)) (lt-ltb o (e .owner) h)
@@ -89,14 +89,14 @@ fewer-length end = omega arith
 fewer-length (keep {e} {es} {fs} f) = let h : length es ≤ length fs = fewer-length f in omega arith
 fewer-length (leave-out {e} {es} {fs} f) = let h : length es ≤ length fs = fewer-length f in omega arith
 
-pub older-valid : (old new : Schema) → Older old new → badSchema new ≡ none → badSchema old ≡ none
+pub older-valid : (old new : Schema) → Older old new → old .types ≡ new .types → badSchema new ≡ none → badSchema old ≡ none
 unfolding badSchema
-older-valid old new o h =
+older-valid old new o same-types h =
     let v = valid-entries new h in
     let short : length (old .entries) ≤ 256 = omega (arith, leb-true (length (new .entries)) 256 (v .1), fewer-length (o .fewer-entries)) in
     ap (λ (c : Bool). if c then badEntry (old .types) 0 0 0 (old .entries) else some 0)
-    (both-true (ap (between 1 32) (o .same-types) ∙ v .0) (le-leb (length (old .entries)) 256 short))
-    ∙ ap (λ (n : ℕ). badEntry n 0 0 0 (old .entries)) (o .same-types) ∙ fewer-good (o .fewer-entries) (new .types) 0 0 0 (v .2) 0 0 0 (λ x y c. c)
+    (both-true (ap (between 1 32) same-types ∙ v .0) (le-leb (length (old .entries)) 256 short))
+    ∙ ap (λ (n : ℕ). badEntry n 0 0 0 (old .entries)) same-types ∙ fewer-good (o .fewer-entries) (new .types) 0 0 0 (v .2) 0 0 0 (λ x y c. c)
 
 -- ---- a field with no entry
 

@@ -14,7 +14,7 @@ use Rattle.spec.specs.Kind.{kindWires, ownWires, wires, wire, shapes, shape, is
 use Rattle.spec.specs.Schema.{Schema, goodEntry, badEntry, badSchema, lookup, unknownKind, kindOf, says, saysOf}
 use Rattle.spec.specs.Skip.{content}
 use Rattle.spec.specs.Record.{Record, row, deeper}
-use Rattle.spec.specs.Reading.{given, shaped, field, used, _followed-by_, element, elements, contents, records, fields, read, within, refusedOr, reading, number, listed}
+use Rattle.spec.specs.Reading.{given, shaped, field, used, _followed-by_, element, elements, contents, records, fields, read, within, refusedOr, called, readingBy, readingAs, reading, plainly, number, listed}
 use Rattle.spec.specs.Writing.{body, bytesOf, written, expected, fitting, inside, recordFault, listFault, schemaFirst, listCheck, judged, sized, Writing, Wrote, writing}
 use Rattle.spec.specs.declared.Entry.{Entry}
 use Rattle.spec.proofs.Cases.{schemaA, schemaB}
@@ -110,9 +110,9 @@ middle = record {
       ∷ entry 1 1 13 false 0 ∷ entry 1 2 11 false 2 ∷ entry 2 1 9 false 0 ∷ [];
 }
 
--- without the string, the messages, the packed field and the enum of the root, too
+-- without the string, the messages, the packed field and the enum of the root, too; its count of types is another
 unfoldable pub oldest : Schema
-oldest = record { types = 3; entries = entry 0 1 5 false 0 ∷ entry 1 1 13 false 0 ∷ entry 1 2 11 false 2 ∷ entry 2 1 9 false 0 ∷ [] }
+oldest = record { types = 4; entries = entry 0 1 5 false 0 ∷ entry 1 1 13 false 0 ∷ entry 1 2 11 false 2 ∷ entry 2 1 9 false 0 ∷ [] }
 
 abbrev payload : List ℕ
 payload = 0x48 ∷ 0x69 ∷ 0xc3 ∷ 0xa9 ∷ []
@@ -160,7 +160,7 @@ cases =
     ∷ []
 
 pub all-right : map goes cases ≡ map should cases
-unfolding schemaA schemaB newest middle oldest meaning require longer _>>=_ digit varint shortest zigzag unzigzag fixed little tag lead followers behind char chars validPrefix kindWires ownWires wires wire shapes shape isScalar scalar encoded fits goodEntry badEntry badSchema lookup unknownKind kindOf says saysOf content given shaped field used _followed-by_ element elements contents records fields read within refusedOr reading number listed deeper body bytesOf written expected fitting inside recordFault listFault schemaFirst listCheck judged sized writing held seen rawOf raw unknown onwardOne onwardOf onward
+unfolding schemaA schemaB newest middle oldest meaning require longer _>>=_ digit varint shortest zigzag unzigzag fixed little tag lead followers behind char chars validPrefix kindWires ownWires wires wire shapes shape isScalar scalar encoded fits goodEntry badEntry badSchema lookup unknownKind kindOf says saysOf content given shaped field used _followed-by_ element elements contents records fields read within refusedOr called readingBy readingAs reading number listed deeper body bytesOf written expected fitting inside recordFault listFault schemaFirst listCheck judged sized writing held seen rawOf raw unknown onwardOne onwardOf onward
 all-right = refl
 
 -- ---- the laws at these lists
@@ -168,14 +168,13 @@ all-right = refl
 b-is-older : Older schemaB schemaA
 unfolding schemaA schemaB
 b-is-older = record {
-  same-types = refl;
   fewer-entries = keep (keep (keep (leave-out (leave-out (leave-out (keep (leave-out (keep end))))))));
 }
 
 -- demand 3, with room for 16 records and 40 bytes
-b-goes-onward : GoesOnward schemaB schemaA payloadA listA 16 40 (written payloadA listA)
+b-goes-onward : GoesOnward plainly schemaB schemaA payloadA listA 16 40 (written payloadA listA)
 unfolding schemaA schemaB shortest zigzag little lead followers behind char chars validPrefix kindWires ownWires wires wire shapes shape isScalar encoded fits goodEntry badEntry badSchema lookup unknownKind kindOf deeper body bytesOf written expected fitting inside recordFault listFault schemaFirst listCheck
-b-goes-onward = demand-three schemaB schemaA payloadA listA 16 40 (record {
+b-goes-onward = demand-three plainly schemaB schemaA payloadA listA 16 40 (record {
   older = b-is-older;
   old-valid = refl;
   new-valid = refl;
@@ -186,12 +185,12 @@ b-goes-onward = demand-three schemaB schemaA payloadA listA 16 40 (record {
 })
 
 -- two generations
-all-three : GoesOnwardTwice oldest middle newest payload list 15 47 (written payload list)
+all-three : GoesOnwardTwice plainly oldest middle newest payload list 15 47 (written payload list)
 unfolding newest middle oldest shortest zigzag little lead followers behind char chars validPrefix kindWires ownWires wires wire shapes shape isScalar encoded fits goodEntry badEntry badSchema lookup unknownKind kindOf deeper body bytesOf written expected fitting inside recordFault listFault schemaFirst listCheck
 all-three =
-    two-generations oldest middle newest payload list 15 47
+    two-generations plainly oldest middle newest payload list 15 47
     (record {
-      older = record { same-types = refl; fewer-entries = keep (keep (keep (keep (leave-out (keep (keep (keep (keep (leave-out end))))))))) };
+      older = record { fewer-entries = keep (keep (keep (keep (leave-out (keep (keep (keep (keep (leave-out end))))))))) };
       old-valid = refl;
       new-valid = refl;
       list-valid = refl;
@@ -199,23 +198,23 @@ all-three =
       room-lent = leb-true (length list) 15 refl;
       space-lent = leb-true (length (written payload list)) 47 refl;
     })
-    (record { same-types = refl; fewer-entries = keep (leave-out (leave-out (leave-out (leave-out (keep (keep (keep end))))))) }) refl
+    (record { fewer-entries = keep (leave-out (leave-out (leave-out (leave-out (keep (keep (keep end))))))) }) refl
 
 -- the message in the root's message opens, and so does the packed field in it
 abbrev in-it : List Record
 in-it = rec 2 1 9 0 2 4 ∷ rec 2 2 20 0 0 0 ∷ rec 3 2 18 18446744073709551615 0 0 ∷ rec 3 2 18 1 0 0 ∷ []
 
-message-opens : Opens newest payload (rec 1 2 11 0 0 0) in-it 2 (unknown payload (rec 1 2 11 0 0 0) in-it .content)
+message-opens : Opens plainly newest payload (rec 1 2 11 0 0 0) in-it 2 (unknown payload (rec 1 2 11 0 0 0) in-it .content)
 unfolding newest shortest zigzag little lead followers behind char chars validPrefix kindWires ownWires wires wire shapes shape isScalar encoded fits goodEntry badEntry badSchema lookup unknownKind kindOf deeper body bytesOf written expected fitting inside recordFault listFault schemaFirst listCheck
 message-opens =
-    opens-alone newest payload list refl refl (leb-true (length (written payload list)) limit refl) (rec 1 2 11 0 0 0) in-it 2 refl
+    opens-alone plainly newest payload list refl refl (leb-true (length (written payload list)) limit refl) (rec 1 2 11 0 0 0) in-it 2 refl
     (later (later (nested refl (later (first refl refl)))))
 
 abbrev in-row : List Record
 in-row = rec 3 2 18 18446744073709551615 0 0 ∷ rec 3 2 18 1 0 0 ∷ []
 
-packed-opens : Opens newest payload (rec 2 2 20 0 0 0) in-row 18 (unknown payload (rec 2 2 20 0 0 0) in-row .content)
+packed-opens : Opens plainly newest payload (rec 2 2 20 0 0 0) in-row 18 (unknown payload (rec 2 2 20 0 0 0) in-row .content)
 unfolding newest shortest zigzag little lead followers behind char chars validPrefix kindWires ownWires wires wire shapes shape isScalar encoded fits goodEntry badEntry badSchema lookup unknownKind kindOf deeper body bytesOf written expected fitting inside recordFault listFault schemaFirst listCheck
 packed-opens =
-    opens-alone newest payload list refl refl (leb-true (length (written payload list)) limit refl) (rec 2 2 20 0 0 0) in-row 18 refl
+    opens-alone plainly newest payload list refl refl (leb-true (length (written payload list)) limit refl) (rec 2 2 20 0 0 0) in-row 18 refl
     (later (later (nested refl (later (nested refl (later (first refl refl)))))))

@@ -15,9 +15,9 @@ use Rattle.spec.specs.Base.{if_then_else_, part, limit}
 use Rattle.spec.specs.Varint.{encode}
 use Rattle.spec.specs.Utf8.{utf8}
 use Rattle.spec.specs.Kind.{Scalar, Shape, one, other, string, bytes, message, packed, startGroup, endGroup, nothing, shapes, shape, wires, wire, encoded, fits}
-use Rattle.spec.specs.Schema.{Schema, badSchema, lookup, unknownKind, kindOf, says}
+use Rattle.spec.specs.Schema.{Schema, badSchema, lookup, unknownKind, kindOf}
 use Rattle.spec.specs.Record.{Record, row, deeper}
-use Rattle.spec.specs.Reading.{Done, Refused, read, within, refusedOr, reading, listed, after}
+use Rattle.spec.specs.Reading.{Mode, looking, Done, Refused, read, within, refusedOr, called, readingBy, readingAs, listed, after}
 use Rattle.spec.specs.Writing.{prefixed, written, Fields, lies, Verdict, Fine, listFault, Wrote, Failed, judged, sized, writing, schemaFirst, listCheck}
 use Rattle.onward.specs.Onward.{Older, Seen, held, seen, rawOf, raw, bytesUnder, unknown, lacks, onwardOne, onwardOf, onward, Fewer, end, keep, GoesOnward, DemandThree}
 use Rattle.spec.proofs.Laws.{either-way, both-true, by-test}
@@ -109,7 +109,7 @@ module _ (old : Schema) (payload : List ℕ) where
   abbrev pub onwardIn : ℕ → List Record → List Seen
   onwardIn t rs = onwardOf (length rs) old payload t rs
 
-  -- a record, those under it and those behind it
+  -- a record, those under it and those after it
   module _ (t d : ℕ) (r : Record) (xs ys : List Record) (dep : r .depth ≡ d) (o : Over (d + 1) xs) (l : Low (d + 1) ys) where
     abbrev child : ℕ
     child = lookup (old .entries) t (r .number) .child
@@ -388,31 +388,31 @@ writes sch space payload s rs v f w small room =
     ∙ ap (sized space) w
     ∙ ap₂ (λ (a b : Bool). if a then Failed tooLarge 0 0 else if b then Failed outputShort (length s) 0 else Wrote s) (le-ltb limit (length s) small) (le-ltb space (length s) room)
 
-reads : (sch : Schema) (room : ℕ) (s : List ℕ) (qs : List Record) → badSchema sch ≡ none → length s ≤ limit → read (says sch) 0 0 0 s ≡ after qs Done → length qs ≤ room
-    → reading sch room s ≡ after qs Done
-unfolding reading refusedOr within
-reads sch room s qs v small e h =
-    ap₂ (λ (a : Bool) (x : Option ℕ). if a then Refused tooLarge 0 else refusedOr x (within room (read (says sch) 0 0 0 s))) (le-ltb limit (length s) small) v
+reads : (mode : Mode) (sch : Schema) (room : ℕ) (s : List ℕ) (qs : List Record) → badSchema sch ≡ none → length s ≤ limit → read (looking mode sch) 0 0 0 s ≡ after qs Done → length qs ≤ room
+    → readingAs mode sch room s ≡ after qs Done
+unfolding readingAs called readingBy refusedOr within
+reads mode sch room s qs v small e h =
+    ap₂ (λ (a : Bool) (x : Option ℕ). if a then Refused tooLarge 0 else refusedOr x (within room (read (looking mode sch) 0 0 0 s))) (le-ltb limit (length s) small) v
     ∙ ap (within room) e ∙ within-after room qs Done h
 
 -- ---- demand 3
 
-pub onward-trip : (old new : Schema) (payload : List ℕ) (rs : List Record) (room space : ℕ)
+pub onward-trip : (mode : Mode) (old new : Schema) (payload : List ℕ) (rs : List Record) (room space : ℕ)
     → Older old new → badSchema old ≡ none → badSchema new ≡ none
     → listFault new payload 0 (Fields 0 ∷ []) rs ≡ Fine → length (written payload rs) ≤ limit
     → length rs ≤ room → length (written payload rs) ≤ space
-    → GoesOnward old new payload rs room space (written payload rs)
+    → GoesOnward mode old new payload rs room space (written payload rs)
 unfolding onward
-onward-trip old new payload rs room space older vold vnew fine small some-room some-space =
+onward-trip mode old new payload rs room space older vold vnew fine small some-room some-space =
     let s : List ℕ = written payload rs in
     let p = project old new payload s (older-has old new older vnew) (valid-tree new payload (schema-kinds new vnew) rs fine) 0 (stands-self old payload s s) in
-    let q = back old s s (p .1) 0 (stands-self old s s s) small in
+    let q = back old s s mode (p .1) 0 (stands-self old s s s) small in
     let shows : map (seen s) (q .0) ≡ onward old payload rs = alike-seen (q .2) ∙ p .2 in
     let few : length (q .0) ≤ length rs = omega (arith, ap length shows, length-map (q .0) (seen s), onward-count (length rs) old payload 0 rs) in
     record {
       list = q .0;
       writes = writes new space payload s rs vnew fine refl small some-space;
-      reads = reads old room s (q .0) vold small (q .1) (omega arith);
+      reads = reads mode old room s (q .0) vold small (q .1) (omega arith);
       shows = shows;
       no-more = few;
       again = writes old space s s (q .0) vold (tree-valid old s (q .3)) (tree-written old s (q .3)) small some-space;
@@ -420,8 +420,8 @@ onward-trip old new payload rs room space older vold vnew fine small some-room s
 
 pub demand-three : DemandThree
 unfolding listCheck schemaFirst
-demand-three old new payload rs room space g =
-    onward-trip old new payload rs room space (g .older) (g .old-valid) (g .new-valid)
+demand-three mode old new payload rs room space g =
+    onward-trip mode old new payload rs room space (g .older) (g .old-valid) (g .new-valid)
     (ap (λ (x : Option ℕ). schemaFirst x (listFault new payload 0 (Fields 0 ∷ []) rs)) (sym (g .new-valid)) ∙ g .list-valid) (g .small) (g .room-lent) (g .space-lent)
 
 -- ---- the plain round trip is the case of one schema: nothing is lacked that was not unknown before, so all comes as written
@@ -431,31 +431,31 @@ fewer-self [] = end
 fewer-self (e ∷ es) = keep (fewer-self es)
 
 pub older-self : (sch : Schema) → Older sch sch
-older-self sch = record { same-types = refl; fewer-entries = fewer-self (sch .entries) }
+older-self sch = record { fewer-entries = fewer-self (sch .entries) }
 
 pub after-same : (qs ps : List Record) → after qs Done ≡ after ps Done → qs ≡ ps
 unfolding listed
 after-same qs ps e = sym (append-nil qs) ∙ sym (after-listed qs Done) ∙ ap listed e ∙ after-listed ps Done ∙ append-nil ps
 
-pub there-and-back : (sch : Schema) (payload : List ℕ) (rs : List Record) (room space : ℕ) → badSchema sch ≡ none
+pub there-and-back : (mode : Mode) (sch : Schema) (payload : List ℕ) (rs : List Record) (room space : ℕ) → badSchema sch ≡ none
     → listFault sch payload 0 (Fields 0 ∷ []) rs ≡ Fine → length (written payload rs) ≤ limit
     → length rs ≤ room → length (written payload rs) ≤ space
-    → GoesOnward sch sch payload rs room space (written payload rs) × (onward sch payload rs ≡ map (seen payload) rs)
-there-and-back sch payload rs room space v fine small some-room some-space =
+    → GoesOnward mode sch sch payload rs room space (written payload rs) × (onward sch payload rs ≡ map (seen payload) rs)
+there-and-back mode sch payload rs room space v fine small some-room some-space =
     let s : List ℕ = written payload rs in
-    let g = onward-trip sch sch payload rs room space (older-self sch) v v fine small some-room some-space in
-    let r = round-trip sch payload rs v fine small in
+    let g = onward-trip mode sch sch payload rs room space (older-self sch) v v fine small some-room some-space in
+    let r = round-trip mode sch payload rs v fine small in
     let same-list : g .list ≡ r .0 =
-    after-same (g .list) (r .0) (sym (g .reads) ∙ reads sch room s (r .0) v small (r .1) (omega (arith, alike-length (r .2)))) in
+    after-same (g .list) (r .0) (sym (g .reads) ∙ reads mode sch room s (r .0) v small (r .1) (omega (arith, alike-length (r .2)))) in
     (g, sym (g .shows) ∙ ap (map (seen s)) same-list ∙ alike-seen (r .2))
 
 -- nothing is lost on the way: what the older schema wrote again are the same bytes, in which the newer one reads its list
-pub nothing-lost : (new : Schema) (payload : List ℕ) (rs : List Record) (room space : ℕ) → badSchema new ≡ none
+pub nothing-lost : (mode : Mode) (new : Schema) (payload : List ℕ) (rs : List Record) (room space : ℕ) → badSchema new ≡ none
     → listFault new payload 0 (Fields 0 ∷ []) rs ≡ Fine → length (written payload rs) ≤ limit
     → length rs ≤ room → length (written payload rs) ≤ space
-    → (ps : List Record) × (reading new room (written payload rs) ≡ after ps Done) × (map (seen (written payload rs)) ps ≡ map (seen payload) rs)
-nothing-lost new payload rs room space v fine small some-room some-space =
-    let g = there-and-back new payload rs room space v fine small some-room some-space in
+    → (ps : List Record) × (readingAs mode new room (written payload rs) ≡ after ps Done) × (map (seen (written payload rs)) ps ≡ map (seen payload) rs)
+nothing-lost mode new payload rs room space v fine small some-room some-space =
+    let g = there-and-back mode new payload rs room space v fine small some-room some-space in
     (g .0 .list, g .0 .reads, g .0 .shows ∙ g .1)
 
 -- a record that is unknown to the newer schema already comes as written

@@ -14,8 +14,8 @@ use Rattle.spec.specs.Names.{messageKind, packedHead}
 use Rattle.spec.specs.Base.{if_then_else_, part, limit}
 use Rattle.spec.specs.Varint.{encode}
 use Rattle.spec.specs.Kind.{Scalar, Shape, one, shape, encoded}
-use Rattle.spec.specs.Schema.{Schema, lookup, insideOf, says}
-use Rattle.spec.specs.Reading.{contents, read}
+use Rattle.spec.specs.Schema.{Schema, lookup, insideOf}
+use Rattle.spec.specs.Reading.{Mode, looking, contents, read}
 use Rattle.spec.specs.Record.{Record, deeper}
 use Rattle.spec.specs.Writing.{prefixed, Fields, listFault, schemaFirst, listCheck}
 use Rattle.onward.specs.Onward.{held, unknown}
@@ -42,7 +42,7 @@ module _ (sch : Schema) (payload : List ℕ) where
       piece : Piece i
       shorter : length i ≤ length b
 
-    -- r is the first record q, or is behind the records xs under q, or is among these
+    -- r is the first record q, or is after the records xs under q, or is among these
     stands : {A : Type 0} {t : ℕ} {q : Record} {zs : List Record} (xs ys : List Record) → Among sch r under inside t (q ∷ zs)
         → take (deeper (q .depth) zs) zs ≡ xs → drop (deeper (q .depth) zs) zs ≡ ys
         → (r ≡ q → under ≡ xs → inside ≡ insideOf (q .kind) (lookup (sch .entries) t (q .number)) → A) → (Among sch r under inside t ys → A)
@@ -160,23 +160,23 @@ module _ (sch : Schema) (payload : List ℕ) where
 
 -- ---- the law
 
-module _ (sch : Schema) (payload : List ℕ) (r : Record) (under : List Record) (inside : ℕ) (head : isHead r ≡ true) where
+module _ (mode : Mode) (sch : Schema) (payload : List ℕ) (r : Record) (under : List Record) (inside : ℕ) (head : isHead r ≡ true) where
   -- the content that a lacking field shows
   abbrev content : List ℕ
   content = unknown payload r under .content
 
   -- what is under r, with the bytes i, opens
-  opens : (i : List ℕ) → length i ≤ limit → Piece sch payload r under inside head i → Opens sch payload r under inside content
+  opens : (i : List ℕ) → length i ≤ limit → Piece sch payload r under inside head i → Opens mode sch payload r under inside content
   unfolding unknown held contents
   opens i small (a-tree kin tr) =
       let is : content ≡ i =
       ap (λ (k : ℕ). held (shape k) payload r (bytesIn (not (eqb k packedHead)) payload under)) kin
       ∙ ap (λ (x : Shape). held x payload r (bytesIn true payload under)) shape-message ∙ tree-bytes sch payload tr in
       let out : r .depth + 1 ≡ r .depth + 1 + 0 = omega arith in
-      let q = back sch payload i (lift sch payload tr (r .depth + 1) 0 out) 0 (stands-self sch payload i i) small in
-      subst (Opens sch payload r under inside) (sym is) (record {
+      let q = back sch payload i mode (lift sch payload tr (r .depth + 1) 0 out) 0 (stands-self sch payload i i) small in
+      subst (Opens mode sch payload r under inside) (sym is) (record {
         list = q .0;
-        reads = ap (λ (k : ℕ). if eqb k packedHead then contents (shape inside) 0 (r .number) inside 0 0 i else read (says sch) 0 inside 0 i) kin ∙ q .1;
+        reads = ap (λ (k : ℕ). if eqb k packedHead then contents (shape inside) 0 (r .number) inside 0 0 i else read (looking mode sch) 0 inside 0 i) kin ∙ q .1;
         shows = alike-seen (q .2);
       })
   opens i small (a-row c kin sh vs) =
@@ -185,16 +185,16 @@ module _ (sch : Schema) (payload : List ℕ) (r : Record) (under : List Record) 
       ∙ ap (λ (x : Shape). held x payload r (bytesIn false payload under)) shape-packed ∙ values-bytes sch payload sh vs in
       let out : r .depth + 1 ≡ r .depth + 1 + 0 = omega arith in
       let q = values-back sch payload i sh (lift-values sch payload vs (r .depth + 1) 0 out) 0 0 in
-      subst (Opens sch payload r under inside) (sym is) (record {
+      subst (Opens mode sch payload r under inside) (sym is) (record {
         list = q .0;
-        reads = ap (λ (k : ℕ). if eqb k packedHead then contents (shape inside) 0 (r .number) inside 0 0 i else read (says sch) 0 inside 0 i) kin
+        reads = ap (λ (k : ℕ). if eqb k packedHead then contents (shape inside) 0 (r .number) inside 0 0 i else read (looking mode sch) 0 inside 0 i) kin
             ∙ ap (λ (x : Shape). contents x 0 (r .number) inside 0 0 i) sh ∙ q .1;
         shows = alike-seen (q .2);
       })
 
 pub opens-alone : OpensAlone
 unfolding listCheck schemaFirst
-opens-alone new payload rs valid fine small r under inside head a =
+opens-alone mode new payload rs valid fine small r under inside head a =
     let faultless = ap (λ (x : Option ℕ). schemaFirst x (listFault new payload 0 (Fields 0 ∷ []) rs)) (sym valid) ∙ fine in
     let c = cut new payload r under inside head (valid-tree new payload (schema-kinds new valid) rs faultless) a in
-    opens new payload r under inside head (c .i) (omega (arith, c .shorter, small)) (c .piece)
+    opens mode new payload r under inside head (c .i) (omega (arith, c .shorter, small)) (c .piece)

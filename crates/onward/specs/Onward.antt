@@ -1,5 +1,5 @@
 -- Demand 3: what was written under a newer schema goes through an older one unharmed. The older schema is the newer one with some entries left out.
--- It is stated in the last section; the sections before it say what its words mean. Assumes nothing: these are definitions.
+-- It is stated in the last section; the sections before it say what its words mean. Assumes nothing: these are definitions. Public promises cite it.
 use Prim.Native.Nat.{ℕ, zero, suc, _%_, _^_, _≤_}
 use mathlib.Core.Path.{_≡_}
 use mathlib.Core.Bool.{Bool, true, false, not}
@@ -13,7 +13,7 @@ use Rattle.spec.specs.Varint.{zigzag}
 use Rattle.spec.specs.Kind.{Scalar, int32, uint32, uint64, bool, sint32, sint64, fixed32, sfixed32, fixed64, Shape, one, other, string, bytes, message, packed, startGroup, endGroup, nothing, shape, wire}
 use Rattle.spec.specs.Schema.{Schema, badSchema, lookup, unknownKind}
 use Rattle.spec.specs.Record.{Record, deeper}
-use Rattle.spec.specs.Reading.{Done, reading, after}
+use Rattle.spec.specs.Reading.{Mode, Done, readingAs, after}
 use Rattle.spec.specs.Writing.{bytesOf, written, Fine, listCheck, Wrote, writing}
 use Rattle.spec.specs.declared.Entry.{Entry}
 
@@ -25,8 +25,8 @@ pub data Fewer : List Entry → List Entry → Type 0 where
   keep : {e : Entry} {es fs : List Entry} → Fewer es fs → Fewer (e ∷ es) (e ∷ fs)
   leave-out : {e : Entry} {es fs : List Entry} → Fewer es fs → Fewer es (e ∷ fs)
 
+-- The counts of types may differ, as long as both are valid (`Given`).
 pub record Older (old new : Schema) : Type 0 where
-  pub same-types : old .types ≡ new .types
   pub fewer-entries : Fewer (old .entries) (new .entries)
 
 -- ---- what a record shows
@@ -39,7 +39,7 @@ pub record Seen : Type 0 where
   pub value : ℕ
   pub content : List ℕ
 
--- What stands behind a field's length: the content, which lies in the payload, or for a head `inner`, the bytes of all that is under it.
+-- What comes after a field's length: the content, which lies in the payload, or for a head `inner`, the bytes of all that is under it.
 -- A number has no content.
 unfoldable pub held : Shape → (payload : List ℕ) → Record → (inner : List ℕ) → List ℕ
 held (one c) payload r inner = []
@@ -51,7 +51,7 @@ held (other startGroup) payload r inner = []
 held (other endGroup) payload r inner = []
 held (other nothing) payload r inner = []
 
--- A record as written. What is under a head is shown by the records behind it, so here the head holds nothing.
+-- A record as written. What is under a head is shown by the records after it, so here the head holds nothing.
 unfoldable pub seen : (payload : List ℕ) → Record → Seen
 seen payload r = record {
   depth = r .depth;
@@ -107,7 +107,7 @@ onwardOne false payload r under nested rest =
     let inside = if eqb (r .kind) messageKind then nested else map (seen payload) under in
     seen payload r ∷ (inside ++ rest)
 
--- The records rs of a message of this type, in order. The records under one are those behind it that stand deeper; under a message they are
+-- The records rs of a message of this type, in order. The records under one are those after it that stand deeper; under a message they are
 -- those of its child type. k is no less than the number of records.
 unfoldable pub onwardOf : ℕ → Schema → (payload : List ℕ) → (type : ℕ) → List Record → List Seen
 onwardOf zero old payload type rs = []
@@ -138,16 +138,16 @@ pub record Given (old new : Schema) (payload : List ℕ) (rs : List Record) (roo
 
 -- What it promises: the list is written under the new schema, which gives the bytes s; the old one reads s without refusal, as a list; that list shows what is to
 -- be read, and has no more records than were written; and writing it under the old schema, with s for its payload, gives s again.
-pub record GoesOnward (old new : Schema) (payload : List ℕ) (rs : List Record) (room space : ℕ) (s : List ℕ) : Type 0 where
+pub record GoesOnward (mode : Mode) (old new : Schema) (payload : List ℕ) (rs : List Record) (room space : ℕ) (s : List ℕ) : Type 0 where
   pub list : List Record
   pub writes : writing new space payload rs ≡ Wrote s
-  pub reads : reading old room s ≡ after list Done
+  pub reads : readingAs mode old room s ≡ after list Done
   pub shows : map (seen s) list ≡ onward old payload rs
   pub no-more : length list ≤ length rs
   pub again : writing old space s list ≡ Wrote s
 
--- The demand. OnwardLaws.demand-three proves it.
+-- The demand, in every mode of reading. OnwardLaws.demand-three proves it.
 abbrev pub DemandThree : Type 0
 DemandThree =
-    (old new : Schema) (payload : List ℕ) (rs : List Record) (room space : ℕ)
-    → Given old new payload rs room space → GoesOnward old new payload rs room space (written payload rs)
+    (mode : Mode) (old new : Schema) (payload : List ℕ) (rs : List Record) (room space : ℕ)
+    → Given old new payload rs room space → GoesOnward mode old new payload rs room space (written payload rs)

@@ -1,4 +1,4 @@
--- Laws of storing texts: two texts, one behind the other; a turn of each loop; that any two answers a promise allows are equal.
+-- Laws of storing texts: two texts, one after the other; an iteration of each loop; that any two answers a promise allows are equal.
 -- Assumes nothing.
 use Prim.Native.Nat.{ℕ, zero, suc, _+_, _-_, _/_, _%_, _≤_, _<_}
 use native.Mathlib.Numerals.{add-one}

@@ -1,5 +1,5 @@
 -- What the functions of this crate store: bytes from a position on, and the texts of numbers and of listings.
--- A text is a list of bytes in ASCII. Assumes nothing: these are definitions.
+-- A text is a list of bytes in ASCII. Assumes nothing: these are definitions. Public promises cite it.
 use Prim.Native.Nat.{ℕ, zero, suc, _+_, _/_, _%_}
 use mathlib.Core.Path.{_≡_}
 use mathlib.Core.List.{List, [], _∷_, _++_}

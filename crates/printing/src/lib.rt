@@ -1,5 +1,5 @@
 // Text of answers, as far as a lent slice has room: bytes, words, numbers in decimal and hexadecimal, and the listing of records.
-// Each function stores from `at` on and returns the position behind what it stored; what finds no room is left out.
+// Each function stores from `at` on and returns the position after what it stored; what finds no room is left out.
 ghost use mathlib.Core.Path.{_≡_};
 ghost use mathlib.Core.List.{[], _∷_};
 ghost use Prim.Native.Nat.{_<_};

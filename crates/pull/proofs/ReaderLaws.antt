@@ -69,7 +69,7 @@ enter-says d g p h c =
 
 -- ---- one answer
 
--- Opening and entering give a part of the slice: that it has the same bytes is all that can be told of it.
+-- Opening and entering give a part of the slice: that it has the same bytes is all that can be said of it.
 pub one-opened : (s : List ℕ) (x y : Opened) → openedTold x ≡ opened s → openedTold y ≡ opened s → openedTold x ≡ openedTold y
 one-opened s x y e f = e ∙ sym f
 

@@ -8,7 +8,7 @@ use lib.Dec.{leb, ltb, eqb}
 use Rattle.spec.specs.Names.{badTag, badVarint, delimitedWire, endGroupWire, endsEarly, fixed32Wire, fixed64Wire, mostLevels, noGroupOpen, startGroupWire, tooDeep, tooLarge, varintWire}
 use Rattle.spec.specs.Base.{limit, Read, Took, No, refusal, taken, digit, require, longer, _>>=_}
 use Rattle.spec.specs.Varint.{varint, fixed, tag, goodTag}
-use Rattle.spec.specs.Skip.{content, plain, skipField, skipGroup, innerGroup, skipFieldForTag}
+use Rattle.spec.specs.Skip.{content, spanned, plain, skipField, skipGroup, innerGroup, skipFieldForTag}
 use Rattle.spec.specs.Pull.{Number, Refused, Moved, says, moved}
 use Rattle.spec.proofs.Laws.{either-way, Takes, took}
 use Rattle.spec.proofs.SkipLaws.{takes-skipFieldForTag}
@@ -57,7 +57,11 @@ real-tag s = go (varint 4 15 s) (real-varint 4 15 s)
 
 real-content : (len : List ℕ → Read) (s : List ℕ) → Real (len s) → Real (content len s)
 unfolding content
-real-content len s h = real-next h λ m n. either-way Real (leb (n + m) (length s)) well (refused endsEarly (omega arith))
+real-content len s h = go h
+  where
+    go : {r : Read} → Real r → Real (spanned (length s) r)
+    go (well {v} {n}) = either-way Real (leb (n + v) (length s)) well (refused endsEarly (omega arith))
+    go (bad h) = bad h
 
 real-plain : (w : ℕ) (s : List ℕ) → Real (plain w s)
 unfolding plain

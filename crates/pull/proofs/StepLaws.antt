@@ -5,31 +5,31 @@ use native.Mathlib.Omega.{arith}
 use mathlib.Core.Path.{_≡_, refl, sym, ap, ap₂, _∙_}
 use mathlib.Core.Bool.{Bool, true, false}
 use mathlib.Core.List.{List}
-use lib.ListN.{length, take, drop, getD, length-drop}
+use lib.ListN.{length, take, drop, getD}
 use native.Mathlib.Numerals.{add-one}
 use lib.Seq.{drop-cons, drop-drop}
-use borrow.Author.Tests.{le-leb}
-use Rattle.spec.specs.Names.{mostLevels, notUtf8, endsEarly, tooDeep}
-use Rattle.spec.specs.Base.{if_then_else_, part, Read, Took, No, digit, longer, _>>=_}
+use Rattle.spec.specs.Names.{mostLevels, notUtf8, tooDeep}
+use Rattle.spec.specs.Base.{if_then_else_, part, Read, Took, No, digit}
 use Rattle.spec.specs.Varint.{varint, varint64}
 use Rattle.spec.specs.Utf8.{utf8}
 use Rattle.spec.specs.Skip.{content}
 use Rattle.spec.specs.Pull as spec
 use Rattle.spec.specs.Pull.{says, moved, numbered, bounded, spelled, innerOf, enterAt}
-use Rattle.spec.proofs.Laws.{Takes, took, takes-varint, Holds, holds, content-holds}
+use Rattle.spec.proofs.Laws.{Takes, took}
 use Rattle.spec.proofs.VarintLaws.{varint-goes-on}
 use Rattle.spec.proofs.PullLaws.{enter-too-deep, enter-content}
-use Rattle.skip.proofs.PastLaws.{one-byte, content-short, content-refused}
+use Rattle.skip.proofs.PastLaws.{one-byte}
 use Rattle.wire.specs.Answers as wire
 use Rattle.wire.specs.Reached.{varintOf}
 use Rattle.wire.specs.declared.found.Found.{Found}
 use Rattle.wire.specs.declared.found.Found.the-variants as found
-use Rattle.wire.proofs.FoundLaws.{varint-placed}
-use Rattle.pull.specs.declared.value.Span.the-variants as span
+use Rattle.skip.specs.declared.content.Span.the-variants as span
+use Rattle.skip.specs.Spans.{spanAt}
+use Rattle.skip.proofs.SpanLaws.{span-in}
 use Rattle.pull.specs.declared.step.Said.{Said}
 use Rattle.pull.specs.declared.step.Said.the-variants as said
 use Rattle.pull.specs.declared.step.Moved.{Moved}
-use Rattle.pull.specs.Told.{saidTold, asMoved, numberOf, spanAt, contentOf, shutAt, Gated}
+use Rattle.pull.specs.Told.{saidTold, asMoved, numberOf, contentOf, shutAt, Gated}
 
 -- ---- varints of few bytes, which are the same at both widths
 
@@ -63,45 +63,6 @@ number-told at (found.Value v n) t e = rw (← e) (ap (λ (x : ℕ). says (spec.
 number-told at (found.Refused k) t e = rw (← e) refl
 
 -- ---- contents
-
-pub width-placed : (narrow : Bool) (s : List ℕ) (at : ℕ) {v next : ℕ} → wire.asRead at (found.Value v next) ≡ varintOf narrow (drop at s) → (at < next) × (next ≤ length s)
-width-placed true s at e = let p = varint-placed 4 15 s at e refl in (p .past, p .inside)
-width-placed false s at e = let p = varint-placed 9 1 s at e refl in (p .past, p .inside)
-
-content-took : (len : List ℕ → Read) (s : List ℕ) {m n : ℕ} → len s ≡ Took m n → n + m ≤ length s → content len s ≡ Took n (n + m)
-unfolding content _>>=_ longer
-content-took len s {m} {n} e h = rw (e, le-leb (n + m) (length s) h)
-
-module _ (len : List ℕ → Read) (at : ℕ) (s : List ℕ) where
-  pub span-refused : {k : ℕ} → len (drop at s) ≡ No k → span.Bad k ≡ spanAt at (content len (drop at s))
-  unfolding spanAt
-  span-refused e = rw (content-refused len (drop at s) e)
-
-  module _ {m n : ℕ} (e : len (drop at s) ≡ Took m n) where
-    pub span-short : at ≤ length s → length s < at + n + m → span.Bad endsEarly ≡ spanAt at (content len (drop at s))
-    unfolding spanAt
-    span-short l h = rw (content-short len (drop at s) e (omega (arith, length-drop at s)))
-
-    pub span-of : at + n + m ≤ length s → {a z : ℕ} → a ≡ at + n → z ≡ at + n + m → span.Of a z ≡ spanAt at (content len (drop at s))
-    unfolding spanAt
-    span-of h p q = rw (content-took len (drop at s) e (omega (arith, length-drop at s))) (ap₂ span.Of p (q ∙ omega arith))
-
-takes-length : (narrow : Bool) (s : List ℕ) → Takes 1 (length s) (varintOf narrow s)
-takes-length true s = takes-varint 4 15 s
-takes-length false s = takes-varint 9 1 s
-
--- a content lies in the slice
-pub span-in : (narrow : Bool) (at : ℕ) (s : List ℕ) {a e : ℕ} → span.Of a e ≡ spanAt at (content (varintOf narrow) (drop at s)) → (at ≤ a) × (a ≤ e) × (e ≤ length s)
-unfolding spanAt
-span-in narrow at s {a} {e} h =
-    go (content (varintOf narrow) (drop at s)) (content-holds (varintOf narrow) (drop at s) (takes-length narrow (drop at s))) h
-  where
-    go : (r : Read) → Holds (length (drop at s)) r → span.Of a e ≡ spanAt at r → (at ≤ a) × (a ≤ e) × (e ≤ length s)
-    go (Took m n) (holds i j l) q =
-        let x : a ≡ at + m = cc in
-        let y : e ≡ at + n = cc in
-        (omega arith, omega arith, omega (arith, length-drop at s))
-    go (No k) Holds.none q = let z : _≡_ {A = ℕ} 0 1 = cc in absurd (omega arith)
 
 pub content-told : (at : ℕ) (r : Read) → asMoved (contentOf at (spanAt at r)) ≡ bounded at r
 unfolding spanAt moved
@@ -165,7 +126,7 @@ module _ (s : List ℕ) (at level : ℕ) where
 
 -- ---- one answer
 
--- what is told says what was said
+-- an answer in the definitions' terms comes from one answer only
 untold : spec.Said → Said
 untold (spec.Number v) = said.Number v
 untold (spec.Content a z) = said.Content a z
@@ -182,7 +143,7 @@ one-said {x} {y} e = sym (back x) ∙ ap untold e ∙ back y
     back said.End = refl
     back (said.Refused k p) = refl
 
--- every call that ends in a `Moved`: each of these promises names what its answer tells
+-- every call that ends in a `Moved`: each of these promises names its answer
 pub one-move : {x y : Moved} {m : spec.Moved} → asMoved x ≡ m → asMoved y ≡ m → x ≡ y
 one-move {x} {y} e f =
     let h : asMoved x ≡ asMoved y = e ∙ sym f in

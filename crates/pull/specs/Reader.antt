@@ -1,4 +1,4 @@
--- What the pull reader's structs say, in the definitions' terms. Assumes nothing: these are definitions.
+-- What the pull reader's structs say, in the definitions' terms. Assumes nothing: these are definitions. Public promises cite it.
 use Prim.Native.Nat.{ℕ}
 use mathlib.Core.List.{List, []}
 use lib.ListN.{length}

@@ -1,15 +1,15 @@
--- What the answers of the steps say, in the definitions' terms. Assumes nothing: these are definitions.
-use Prim.Native.Nat.{ℕ, _+_, _≤_}
+-- What the answers of the steps say, in the definitions' terms. Assumes nothing: these are definitions. Public promises cite it.
+use Prim.Native.Nat.{ℕ, _≤_}
 use mathlib.Core.Path.{_≡_}
 use mathlib.Core.List.{List}
 use lib.ListN.{length}
-use Rattle.spec.specs.Base.{part, Read, Took, No}
+use Rattle.spec.specs.Base.{part}
 use Rattle.spec.specs.Kind as kind
 use Rattle.spec.specs.Pull as spec
 use Rattle.wire.specs.declared.found.Found.{Found}
 use Rattle.wire.specs.declared.found.Found.the-variants as found
-use Rattle.pull.specs.declared.value.Span.{Span}
-use Rattle.pull.specs.declared.value.Span.the-variants as span
+use Rattle.skip.specs.declared.content.Span.{Span}
+use Rattle.skip.specs.declared.content.Span.the-variants as span
 use Rattle.pull.specs.declared.step.Ask.{Ask}
 use Rattle.pull.specs.declared.step.Ask.the-variants as ask
 use Rattle.pull.specs.declared.step.Said.{Said}
@@ -56,11 +56,6 @@ refusedAt k at = record { said = said.Refused k at; at = at }
 abbrev pub numberOf : ℕ → Found → Moved
 numberOf at (found.Value v next) = record { said = said.Number v; at = next }
 numberOf at (found.Refused k) = refusedAt k at
-
--- a content that was found behind the position `at`
-unfoldable pub spanAt : ℕ → Read → Span
-spanAt at (Took a z) = span.Of (at + a) (at + z)
-spanAt at (No k) = span.Bad k
 
 abbrev pub contentOf : ℕ → Span → Moved
 contentOf at (span.Of a z) = record { said = said.Content a z; at = z }

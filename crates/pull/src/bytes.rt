@@ -8,7 +8,7 @@ ghost use Rattle.wire.specs.Answers.{asRead};
 use spec::refusals;
 use wire::found::Found;
 
-// At most `more` bytes behind which another stands, and one of at most `last`: a byte a turn, up to the end of the slice.
+// At most `more` bytes after which another comes, and one of at most `last`: one byte an iteration, up to the end of the slice.
 pub(crate) fn by_bytes(s: &[u8], at: usize, more: usize, last: u64) -> Found
     requires { ⌜ (128 ^ more < 2 ^ 64) × ((last + 1) * 128 ^ more ≤ 2 ^ 64) × (at < length (now s)) ⌝ }
     ensures { λ r. ⌜ asRead at r ≡ varint more last (drop at (now (s .entry))) ⌝ }

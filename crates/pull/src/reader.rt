@@ -28,13 +28,13 @@ pub struct Opened<'a> {
     pub reader: Reader<'a>,
 }
 
-// What a step said, and the moved reader.
+// The answer of a step, and the moved reader.
 pub struct Stepped<'a> {
     pub said: Said,
     pub reader: Reader<'a>,
 }
 
-// What entering said: the reader over the content, one level up, and the outer one behind it.
+// The answer of entering: the reader over the content, one level up, and the outer one after it.
 pub struct Entered<'a> {
     pub said: Said,
     pub inner: Reader<'a>,
@@ -135,7 +135,7 @@ pub fn step_once(s: &[u8], at: usize, level: u32, ask: Ask) -> Moved
     }
 }
 
-// What entering says, where the outer reader then is, and the level of the inner one.
+// The answer of entering, where the outer reader then is, and the level of the inner one.
 pub struct Once {
     pub said: Said,
     pub at: usize,

@@ -1,11 +1,10 @@
-// A step at a position of a slice, and entering a message there. The pull reader's calls do their work by these.
+// A step at a position of a slice, and entering a message there. The pull reader's calls use these.
 ghost use mathlib.Core.Path.{_≡_};
 ghost use Prim.Native.Nat.{_≤_};
 ghost use lib.ListN.{length, drop};
 ghost use Rattle.spec.specs.Kind as kind;
 ghost use Rattle.spec.specs.Pull.{rawTag, value, bytes, string, skip, stepAt, enterAt};
 ghost use Rattle.pull.specs.Told.{asMoved, asked, numberOf, contentOf, refusedAt, shutAt, Gated};
-use crate::value::Span;
 use crate::value::bool_found;
 use crate::value::int32_found;
 use crate::value::narrow_found;
@@ -13,6 +12,7 @@ use crate::value::sfixed32_found;
 use crate::value::sint_found;
 use crate::value::span_at;
 use crate::wide::wide_found;
+use skip::content::Span;
 use skip::unknown_or_group::skip_field_for_tag;
 use spec::limits;
 use spec::refusals;
@@ -21,7 +21,7 @@ use wire::fixed::decode_fixed32;
 use wire::fixed::decode_fixed64;
 use wire::found::Found;
 
-// What a step is asked for: the tag as it stands, a value of a kind, a content, or the field behind a tag skipped.
+// What a step is asked for: the tag as it stands, a value of a kind, a content, or the field after a tag skipped.
 pub enum Ask {
     RawTag,
     Double,
@@ -43,7 +43,7 @@ pub enum Ask {
     Skip(u32),
 }
 
-// What a step says: a number (a raw tag, a value as a 64-bit pattern, the bytes skipped), the bounds of a content in the slice, that the
+// The answer of a step: a number (a raw tag, a value as a 64-bit pattern, the bytes skipped), the bounds of a content in the slice, that the
 // bytes are at their end, or a refusal's number and place.
 pub enum Said {
     Number(u64),
@@ -52,7 +52,7 @@ pub enum Said {
     Refused { number: u32, place: usize },
 }
 
-// What is said, and the position then.
+// The answer, and the position then.
 pub struct Moved {
     pub said: Said,
     pub at: usize,
@@ -198,7 +198,7 @@ fn inside(s: &[u8], at: usize) -> usize
     at
 }
 
-// The field behind a tag, skipped: it says how many bytes.
+// Skips the field after a tag; the answer is how many bytes it took.
 pub fn skip_at(s: &[u8], at: usize, level: u32, tag: u32) -> Moved
     ensures { λ r. ⌜ asMoved r ≡ stepAt (now (s .entry)) at level (skip tag) ⌝ }
 {
@@ -243,7 +243,7 @@ pub fn step_at(s: &[u8], at: usize, level: u32, ask: Ask) -> Moved
     }
 }
 
-// What entering finds: what is said, the content's bounds and level, and the position behind it. Refused, the content is empty.
+// What entering finds: the answer, the content's bounds and level, and the position after it. Where it is refused the content is empty.
 pub struct Gate {
     pub said: Said,
     pub start: usize,

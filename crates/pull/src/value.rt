@@ -1,4 +1,4 @@
-// What stands at a position of a slice: a value that is one number, or a content behind its length.
+// Reading at a position of a slice: a value that is one number, or a content after its length.
 ghost use mathlib.Core.Path.{_≡_};
 ghost use lib.ListN.{drop};
 ghost use Rattle.spec.specs.Base.{meaning};
@@ -8,9 +8,10 @@ ghost use Rattle.spec.specs.Kind.{scalar, int32, bool, sfixed32};
 ghost use Rattle.spec.specs.Skip.{content};
 ghost use Rattle.wire.specs.Answers.{asRead};
 ghost use Rattle.wire.specs.Reached.{varintOf};
-ghost use Rattle.pull.specs.Told.{spanAt};
+ghost use Rattle.skip.specs.Spans.{spanAt};
 use crate::bytes::by_bytes;
 use crate::wide::wide_found;
+use skip::content::Span;
 use spec::limits;
 use spec::refusals;
 use wire::fixed::decode_fixed32;
@@ -114,13 +115,7 @@ pub(crate) fn sfixed32_found(s: &[u8], at: usize) -> Found
 
 // ---- contents
 
-// A content: where it starts and ends, or the number of the refusal.
-pub enum Span {
-    Of { start: usize, end: usize },
-    Bad(u32),
-}
-
-// The content behind a length, which is a varint32 or a varint64.
+// The content after a length, which is a varint32 or a varint64.
 pub(crate) fn span_at(s: &[u8], at: usize, narrow: bool) -> Span
     ensures { λ r. ⌜ r ≡ spanAt at (content (varintOf narrow) (drop at (now (s .entry)))) ⌝ }
 {

@@ -30,7 +30,7 @@ const NINTH: u64 = 128 * EIGHTH;
 const TENTH: u64 = 128 * NINTH;
 
 // Those of one to three bytes are read in place, as most are, and the others by a call. It is just small enough that the compiler puts it in place wherever it is called:
-// for the second and the third byte it asks at once whether they are there.
+// for the second and the third byte one test says whether they are there.
 pub(crate) fn wide_found(s: &[u8], at: usize) -> Found
     ensures { λ r. ⌜ asRead at r ≡ varint64 (drop at (now (s .entry))) ⌝ }
 {

@@ -74,25 +74,25 @@ module _ (depth at n m kind inner : ℕ) (s : List ℕ) where
   there-texted h (Took a z) = there-either (utf8 (part a z behind)) (body.Is 0 (at + n + a) (at + n + z)) (body.Bad notUtf8) (there-is 0 a z ∙ as-value m kind inner 0 (n + a) (n + z) h) refl
   there-texted h (No k) = refl
 
-  there-bodied : (x : Shape) → headOf x ≡ headTest kind → there (bodied x depth (at + n) behind) ≡ spec.shaped x depth inner m kind n behind
+  there-bodied : (mode : spec.Mode) (x : Shape) → headOf x ≡ headTest kind → there (bodied x depth (at + n) behind) ≡ spec.shaped mode x depth inner m kind n behind
   unfolding resolved fromBody bodied spec.shaped headOf
-  there-bodied (one c) h = there-valued h (scalar c behind)
-  there-bodied (other string) h = there-texted h (content varint32 behind)
-  there-bodied (other bytes) h = there-ranged _ (λ a e. as-value m kind inner 0 (n + a) (n + e) h) (content varint32 behind)
-  there-bodied (other message) h =
+  there-bodied mode (one c) h = there-valued h (scalar c behind)
+  there-bodied mode (other string) h = there-texted h (content varint32 behind)
+  there-bodied mode (other bytes) h = there-ranged _ (λ a e. as-value m kind inner 0 (n + a) (n + e) h) (content varint32 behind)
+  there-bodied mode (other message) h =
       there-either (leb mostLevels depth) (body.Bad tooDeep) (ranged (at + n) (content varint64 behind)) refl (there-ranged _ (λ a e. as-message m kind inner 0 (n + a) (n + e) (head-one kind messageKind (omega arith) h)) (content varint64 behind))
-  there-bodied (other packed) h = there-ranged _ (λ a e. as-packed m kind inner 0 (n + a) (n + e) (head-one kind packedHead (omega arith) h)) (content varint64 behind)
-  there-bodied (other startGroup) h = ap (λ (k : ℕ). spec.given (outerGroup depth behind) λ v l. spec.Dropped m (k + l)) (omega arith)
-  there-bodied (other endGroup) h = refl
-  there-bodied (other nothing) h = refl
+  there-bodied mode (other packed) h = there-ranged _ (λ a e. as-packed m kind inner 0 (n + a) (n + e) (head-one kind packedHead (omega arith) h)) (content varint64 behind)
+  there-bodied mode (other startGroup) h = ap (λ (k : ℕ). spec.given (outerGroup depth behind) λ v l. spec.Dropped m (k + l)) (omega arith)
+  there-bodied mode (other endGroup) h = refl
+  there-bodied mode (other nothing) h = refl
 
 module _ (look : spec.Look) (depth type at : ℕ) (s : List ℕ) where
   resolved-tag : (r : Read)
-      → resolved depth at s (fromTag depth s (tagAt (look type) at r))
-      ≡ spec.given r (λ t n. spec.shaped (shape (look type t .kind)) depth (look type t .inner) (t / 8) (look type t .kind) n (drop n (drop at s)))
+      → resolved depth at s (fromTag depth s (tagAt (look .says type) at r))
+      ≡ spec.given r (λ t n. spec.shaped (look .mode) (shape (look .says type t .kind)) depth (look .says type t .inner) (t / 8) (look .says type t .kind) n (drop n (drop at s)))
   unfolding resolved fromTag tagAt spec.given
   resolved-tag (Took t n) =
-      rw drop-drop (there-bodied depth at n (t / 8) (look type t .kind) (look type t .inner) s (shape (look type t .kind)) (head-kind (look type t .kind)))
+      rw drop-drop (there-bodied depth at n (t / 8) (look .says type t .kind) (look .says type t .inner) s (look .mode) (shape (look .says type t .kind)) (head-kind (look .says type t .kind)))
   resolved-tag (No k) = refl
 
   pub asked-resolved : resolved depth at s (asked look depth type at s) ≡ spec.field look depth type (drop at s)
@@ -107,12 +107,12 @@ module _ (look : spec.Look) (depth type at : ℕ) (s : List ℕ) where
   answered : (r : Field) → r ≡ asked look depth type at s → Answered r
   answered r e = (rw e asked-resolved, e)
 
-  pub field-answer : (r : Field) {m kind inner next : ℕ} {b : Body} → tagged.Of m kind inner next ≡ tagAt (look type) at (tag (drop at s))
+  pub field-answer : (r : Field) {m kind inner next : ℕ} {b : Body} → tagged.Of m kind inner next ≡ tagAt (look .says type) at (tag (drop at s))
       → b ≡ bodied (shape kind) depth next (drop next s) → r ≡ fromBody m kind inner next b → Answered r
   unfolding asked fromTag
   field-answer r {m} {kind} {inner} {next} t e f = answered r (f ∙ ap (fromBody m kind inner next) e ∙ ap (fromTag depth s) t)
 
-  pub fault-answer : {k : ℕ} → tagged.Bad k ≡ tagAt (look type) at (tag (drop at s)) → Answered (field.Bad k 0)
+  pub fault-answer : {k : ℕ} → tagged.Bad k ≡ tagAt (look .says type) at (tag (drop at s)) → Answered (field.Bad k 0)
   unfolding asked fromTag
   fault-answer {k} t = answered (field.Bad k 0) (ap (fromTag depth s) t)
 
@@ -167,9 +167,9 @@ row-in false true m kind inner v a e (is-packed h) = h
 row-in false false m kind inner v a e (is-value h) = h
 
 module _ (look : spec.Look) (depth type at : ℕ) (s : List ℕ) where
-  kept-tag : (r : Read) → Kept depth (fromTag depth s (tagAt (look type) at r))
+  kept-tag : (r : Read) → Kept depth (fromTag depth s (tagAt (look .says type) at r))
   unfolding fromTag tagAt
-  kept-tag (Took t n) = kept-bodied depth (t / 8) (look type t .kind) (look type t .inner) (at + n) (at + n) (drop (at + n) s) (shape (look type t .kind)) (head-kind (look type t .kind))
+  kept-tag (Took t n) = kept-bodied depth (t / 8) (look .says type t .kind) (look .says type t .inner) (at + n) (at + n) (drop (at + n) s) (shape (look .says type t .kind)) (head-kind (look .says type t .kind))
   kept-tag (No k) = of-bad
 
   asked-kept : Kept depth (asked look depth type at s)
@@ -207,8 +207,8 @@ module _ (look : spec.Look) (depth type at : ℕ) (s : List ℕ) where
       from-body m′ kind inner n body.Group q = cc
       from-body m′ kind inner n (body.Bad k) q = let z : _≡_ {A = ℕ} 0 1 = cc in absurd (omega arith)
 
-      go : (r : Read) → Takes 1 (length (drop at s)) r → fromTag depth s (tagAt (look type) at r) ≡ field.Group m next → (at < next) × (next ≤ length s)
+      go : (r : Read) → Takes 1 (length (drop at s)) r → fromTag depth s (tagAt (look .says type) at r) ≡ field.Group m next → (at < next) × (next ≤ length s)
       go (Took t n) (took h j) q =
-          let z : at + n ≡ next = from-body (t / 8) (look type t .kind) (look type t .inner) (at + n) (bodied (shape (look type t .kind)) depth (at + n) (drop (at + n) s)) q in
+          let z : at + n ≡ next = from-body (t / 8) (look .says type t .kind) (look .says type t .inner) (at + n) (bodied (shape (look .says type t .kind)) depth (at + n) (drop (at + n) s)) q in
           (omega arith, omega (arith, length-drop at s))
       go (No k) none q = let z : _≡_ {A = ℕ} 0 1 = cc in absurd (omega arith)

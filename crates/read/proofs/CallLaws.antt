@@ -1,24 +1,24 @@
 -- Laws of the two calls: what a reading from the start of the room answers, and what is refused before it. Assumes nothing.
-use Prim.Native.Nat.{ℕ, _-_, _/_, _^_, _≤_, _<_}
+use Prim.Native.Nat.{ℕ, _/_, _≤_, _<_}
 use native.Mathlib.Omega.{arith}
 use mathlib.Core.Path.{_≡_, refl, sym, ap, ap₂, _∙_}
 use mathlib.Core.Bool.{_&&_}
 use mathlib.Core.Option.{Option, none, some}
 use mathlib.Core.List.{List}
-use lib.ListN.{length, replicate}
+use lib.ListN.{length}
 use lib.Dec.{leb}
 use borrow.Author.Tests.{lt-ltb, le-ltb, leb-true}
 use Rattle.spec.specs.Names.{invalidSchema, tooLarge, mostEntries, mostTypes}
 use Rattle.spec.specs.Base.{between, limit}
 use Rattle.spec.specs.Record.{stride, stored}
-use Rattle.spec.specs.Reading.{Look, Reading, Refused, within, number, place, listed, roomAfter, read, reading, refusedOr}
+use Rattle.spec.specs.Reading.{Look, Reading, Refused, within, refusedOr, called, number, place, listed, roomAfter, read, readingBy, readingAs}
 use Rattle.spec.specs.Schema.{Schema, badSchema, says}
-use Rattle.spec.specs.declared.Entry.{Entry}
 use Rattle.spec.proofs.Laws.{by-test, both}
-use Rattle.schema.specs.Layout.{infoLength, keyCount}
-use Rattle.schema.specs.Tables.{soundOf, keysWith, infoWith, tableSays}
-use Rattle.schema.proofs.TableLaws.{sound-valid, made-says, said-message}
-use Rattle.read.specs.Answers.{readingBy, answered}
+use Rattle.spec.proofs.ValidLaws.{goes}
+use Rattle.schema.specs.Tables.{keysOf, infoOf, tableSays}
+use Rattle.schema.proofs.TableLaws.{table-says, said-message}
+use Rattle.read.specs.Answers.{answered}
+use Rattle.read.specs.Prepared.{PreparedReads}
 use Rattle.read.specs.Emit.{left, emit}
 use Rattle.read.specs.declared.Answer.{Answer}
 use Rattle.read.specs.declared.room.Step.{Step}
@@ -59,35 +59,23 @@ answers-read q room {a} e =
     let h = answers-step a (within (length room / stride) q) (left-step all) in
     (h .0, h .1, h .2, left-room all)
 
-module _ (look : Look) (n : ℕ) (s : List ℕ) where
-  pub too-long : limit < length s → readingBy look n s ≡ Refused tooLarge 0
-  unfolding readingBy
-  too-long h = rw (lt-ltb limit (length s) h)
-
-  pub not-too-long : length s ≤ limit → readingBy look n s ≡ within n (read look 0 0 0 s)
-  unfolding readingBy
-  not-too-long h = rw (le-ltb limit (length s) h)
-
--- under tables
+-- under tables, which have no bad entry
 pub answers-prepared : (look : Look) (s room : List ℕ) {a : Step} {room′ : List ℕ} {r : Answer} → length s ≤ limit → left a room′ ≡ emit room 0 (read look 0 0 0 s)
-    → r ≡ answered a → Answers (readingBy look (length room / stride) s) r room room′
-answers-prepared look s room h e is = rw (is, not-too-long look (length room / stride) s h) (answers-read (read look 0 0 0 s) room e)
+    → r ≡ answered a → Answers (readingBy none look (length room / stride) s) r room room′
+answers-prepared look s room h e is = rw (is, goes none look (length room / stride) s h refl) (answers-read (read look 0 0 0 s) room e)
 
--- ---- under a schema
+-- ---- what is refused before the bytes are read
 
-module _ (sch : Schema) (n : ℕ) (s : List ℕ) where
-  pub reading-long : limit < length s → reading sch n s ≡ Refused tooLarge 0
-  unfolding reading
+module _ (bad : Option ℕ) (look : Look) (n : ℕ) (s : List ℕ) where
+  pub reading-long : limit < length s → readingBy bad look n s ≡ Refused tooLarge 0
+  unfolding readingBy called
   reading-long h = rw (lt-ltb limit (length s) h)
 
-  module _ (h : length s ≤ limit) where
-    pub reading-bad : {i : ℕ} → badSchema sch ≡ some i → reading sch n s ≡ Refused invalidSchema i
-    unfolding reading refusedOr
-    reading-bad e = rw (le-ltb limit (length s) h, e)
+  pub reading-bad : {i : ℕ} → length s ≤ limit → bad ≡ some i → readingBy bad look n s ≡ Refused invalidSchema i
+  unfolding readingBy called refusedOr
+  reading-bad h e = rw (le-ltb limit (length s) h, e)
 
-    reading-valid : badSchema sch ≡ none → reading sch n s ≡ within n (read (says sch) 0 0 0 s)
-    unfolding reading refusedOr
-    reading-valid e = rw (le-ltb limit (length s) h, e)
+-- ---- the tables of a schema
 
 -- a valid schema has a type at least, and `mostTypes` at most
 valid-types : (sch : Schema) → badSchema sch ≡ none → (1 ≤ sch .types) × (sch .types ≤ mostTypes)
@@ -99,18 +87,19 @@ valid-types sch e =
     (leb-true 1 (sch .types) (q .0), leb-true (sch .types) mostTypes (q .1)))
     (λ p. let bad : _≡_ {A = Option ℕ} (some 0) none = rw p at e in let z : _≡_ {A = ℕ} 0 1 = cc in absurd (omega arith))
 
--- its tables, made of arrays as a reader clears them, read what it says
-pub reads-tables : (sch : Schema) (n : ℕ) (s : List ℕ) (keys info info₀ : List ℕ) → badSchema sch ≡ none → keys ≡ keysWith 0 (soundOf sch) (replicate keyCount (2 ^ 64 - 1))
-    → info ≡ infoWith 0 (soundOf sch) info₀ → infoLength ≤ length info₀ → length s ≤ limit → readingBy (tableSays keys info) n s ≡ reading sch n s
-reads-tables sch n s keys info info₀ valid k i wide h =
+-- two readings that are one where no entry is bad
+called-cong : (bad : Option ℕ) (s : List ℕ) (p q : Reading) → (bad ≡ none → p ≡ q) → called bad s p ≡ called bad s q
+unfolding called refusedOr
+called-cong none s p q e = ap (called none s) (e refl)
+called-cong (some i) s p q e = refl
+
+pub prepared-reads : PreparedReads
+unfolding readingBy readingAs
+prepared-reads mode sch n s =
+    called-cong (badSchema sch) s _ _ λ valid.
     let few = valid-types sch valid in
-    let es = sound-valid sch valid in
-    let keys-are : keys ≡ keysWith 0 (sch .entries) (replicate keyCount (2 ^ 64 - 1)) = k ∙ ap (λ (x : List Entry). keysWith 0 x (replicate keyCount (2 ^ 64 - 1))) es in
-    let info-is : info ≡ infoWith 0 (sch .entries) info₀ = i ∙ ap (λ (x : List Entry). infoWith 0 x info₀) es in
-    not-too-long (tableSays keys info) n s h
-    ∙ ap (within n) (rw (keys-are, info-is)
-    (sym (read-cong (sch .types) (says sch) (tableSays (keysWith 0 (sch .entries) (replicate keyCount (2 ^ 64 - 1))) (infoWith 0 (sch .entries) info₀))
-    (λ type t a b c d. sym (made-says sch valid info₀ wide type t (omega (arith, a, few .1)) b c d))
+    ap (within n)
+    (sym (read-cong mode (sch .types) (says sch) (tableSays (keysOf sch) (infoOf sch))
+    (λ type t a b c d. sym (table-says sch valid type t (omega (arith, a, few .1)) b c d))
     (λ type t d. said-message sch valid type t d)
-    0 0 0 s (omega (arith, few .0)))))
-    ∙ sym (reading-valid sch n s h valid)
+    0 0 0 s (omega (arith, few .0))))

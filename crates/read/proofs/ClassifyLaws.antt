@@ -1,4 +1,4 @@
--- Laws of the steps of a field: its tag, its length, what stands behind them. Each says an answer of the code in the definitions' terms.
+-- Laws of the steps of a field: its tag, its length, what comes after them. Each says an answer of the code in the definitions' terms.
 -- Assumes nothing.
 use Prim.Native.Nat.{ℕ, suc, _+_, _-_, _*_, _/_, _%_, _^_, _≤_, _<_}
 use native.Mathlib.Omega.{arith}
@@ -10,28 +10,30 @@ use native.Mathlib.Numerals.{add-one}
 use lib.Seq.{drop-cons, drop-drop}
 use lib.Dec.{eqb}
 use borrow.Author.Tests.{le-leb, lt-leb, eqb-true, eqb-false}
-use Rattle.spec.specs.Names.{bytesKind, messageKind, mostLevels, packedHead, stringKind, unknownBytes, badTag, endsEarly, fixed32Wire, notUtf8, tooDeep}
-use Rattle.spec.specs.Base.{if_then_else_, part, Read, Took, No, _>>=_, longer, digit}
+use Rattle.spec.specs.Names.{bytesKind, messageKind, mostLevels, packedHead, stringKind, unknownBytes, badTag, fixed32Wire, notUtf8, tooDeep}
+use Rattle.spec.specs.Base.{if_then_else_, part, Read, Took, No, digit}
 use Rattle.spec.specs.Varint.{varint, varint32, tag, goodTag}
 use Rattle.spec.specs.Utf8.{utf8}
-use Rattle.spec.specs.Kind.{Shape, one, other, string, bytes, message, packed, startGroup, endGroup, nothing, shape, shapes}
+use Rattle.spec.specs.Kind.{headKind, Shape, one, other, string, bytes, message, packed, startGroup, endGroup, nothing, shape, shapes}
 use Rattle.spec.specs.Schema.{Says}
 use Rattle.spec.specs.Skip.{content}
-use Rattle.spec.proofs.Laws.{by-test, Takes, took, none, takes-varint, takes-scalar, takes-tag, Holds, holds, content-holds}
+use Rattle.spec.proofs.Laws.{by-test, Takes, took, none, takes-scalar, takes-tag}
 use Rattle.spec.proofs.VarintLaws.{varint-goes-on}
 use Rattle.spec.proofs.SkipLaws.{good-tag}
 use Rattle.schema.specs.Layout.{keyCount}
 use Rattle.schema.specs.Tables.{tableSays}
 use Rattle.schema.proofs.AskingLaws.{Right, guessed, says-guessed}
-use Rattle.skip.proofs.PastLaws.{one-byte, tag-refused, tag-good, tag-bad, content-short, content-refused}
+use Rattle.skip.proofs.PastLaws.{one-byte, tag-refused, tag-good, tag-bad}
 use Rattle.wire.specs.Answers.{asRead}
 use Rattle.wire.specs.Reached.{varintOf}
 use Rattle.wire.proofs.FoundLaws.{Placed, varint-placed}
 use Rattle.wire.specs.declared.found.Found.the-variants as found
-use Rattle.read.specs.Answers.{Shortly, is-short, scalarOf, hasLength, isHead, lengthOf, spanAt, valued, ranged, texted, bodied, tagAt, quickTag}
+use Rattle.read.specs.Answers.{Shortly, is-short, scalarOf, hasLength, lengthOf, valued, ranged, texted, bodied, tagAt, quickTag}
 use Rattle.read.specs.declared.scalar.Short.the-variants as short
 use Rattle.read.specs.declared.classify.Tag.the-variants as tagged
-use Rattle.read.specs.declared.classify.Span.the-variants as span
+use Rattle.skip.specs.declared.content.Span.the-variants as span
+use Rattle.skip.specs.Spans.{spanAt}
+use Rattle.skip.proofs.SpanLaws.{span-in}
 use Rattle.read.specs.declared.classify.Body.the-variants as body
 use Rattle.read.proofs.KindTests.{headOf, headTest, head-kind, head-one, sortOf}
 
@@ -111,51 +113,12 @@ module _ (keys info : List ℕ) (ty at : ℕ) (s : List ℕ) (inside : at < leng
 
 -- ---- lengths and contents
 
-pub width-placed : (narrow : Bool) (s : List ℕ) (at : ℕ) {v next : ℕ} → asRead at (found.Value v next) ≡ varintOf narrow (drop at s) → (at < next) × (next ≤ length s)
-width-placed true s at e = let p = varint-placed 4 15 s at e refl in (p .past, p .inside)
-width-placed false s at e = let p = varint-placed 9 1 s at e refl in (p .past, p .inside)
-
-content-took : (len : List ℕ → Read) (s : List ℕ) {m n : ℕ} → len s ≡ Took m n → n + m ≤ length s → content len s ≡ Took n (n + m)
-unfolding content _>>=_ longer
-content-took len s {m} {n} e h = rw (e, le-leb (n + m) (length s) h)
-
-module _ (len : List ℕ → Read) (at : ℕ) (s : List ℕ) where
-  pub span-refused : {k : ℕ} → len (drop at s) ≡ No k → span.Bad k ≡ spanAt at (content len (drop at s))
-  unfolding spanAt
-  span-refused e = rw (content-refused len (drop at s) e)
-
-  module _ {m n : ℕ} (e : len (drop at s) ≡ Took m n) where
-    pub span-short : at ≤ length s → length s < at + n + m → span.Bad endsEarly ≡ spanAt at (content len (drop at s))
-    unfolding spanAt
-    span-short l h = rw (content-short len (drop at s) e (omega (arith, length-drop at s)))
-
-    pub span-of : at + n + m ≤ length s → {a z : ℕ} → a ≡ at + n → z ≡ at + n + m → span.Of a z ≡ spanAt at (content len (drop at s))
-    unfolding spanAt
-    span-of h p q = rw (content-took len (drop at s) e (omega (arith, length-drop at s))) (ap₂ span.Of p (q ∙ omega arith))
-
 -- a length of one byte, at both widths
 pub short-length : (narrow : Bool) (at : ℕ) (s : List ℕ) → at < length s → getD s at 0 < 128 → varintOf narrow (drop at s) ≡ Took (getD s at 0) 1
 short-length true at s h l = one-byte 3 15 at s h l
 short-length false at s h l = one-byte 8 1 at s h l
 
-takes-length : (narrow : Bool) (s : List ℕ) → Takes 1 (length s) (varintOf narrow s)
-takes-length true s = takes-varint 4 15 s
-takes-length false s = takes-varint 9 1 s
-
--- a content lies in the slice
-pub span-in : (kind at : ℕ) (s : List ℕ) {a e : ℕ} → span.Of a e ≡ spanAt at (content (lengthOf kind) (drop at s)) → (at ≤ a) × (a ≤ e) × (e ≤ length s)
-unfolding spanAt
-span-in kind at s {a} {e} h =
-    go (content (lengthOf kind) (drop at s)) (content-holds (lengthOf kind) (drop at s) (takes-length (not (isHead kind)) (drop at s))) h
-  where
-    go : (r : Read) → Holds (length (drop at s)) r → span.Of a e ≡ spanAt at r → (at ≤ a) × (a ≤ e) × (e ≤ length s)
-    go (Took m n) (holds i j l) q =
-        let x : a ≡ at + m = cc in
-        let y : e ≡ at + n = cc in
-        (omega arith, omega arith, omega (arith, length-drop at s))
-    go (No k) none q = let z : _≡_ {A = ℕ} 0 1 = cc in absurd (omega arith)
-
--- ---- what stands behind a tag
+-- ---- what comes after a tag
 
 -- the kinds of a field with a length
 by-length {ℓ} : (P : ℕ → Type ℓ) → P stringKind → P messageKind → P bytesKind → P packedHead → P unknownBytes → (k : ℕ) → hasLength k ≡ true → P k
@@ -286,5 +249,5 @@ module _ (kind at : ℕ) (s : List ℕ) (long : hasLength kind ≡ true) where
 pub text-answer : (at : ℕ) (s : List ℕ) {a e : ℕ} (kind : ℕ) → kind ≡ stringKind → span.Of a e ≡ spanAt at (content (lengthOf kind) (drop at s)) → (b : Bool)
     → b ≡ utf8 (take (e - a) (drop a s)) → (if b then body.Is 0 a e else body.Bad notUtf8) ≡ bodied (shape kind) 0 at (drop at s)
 text-answer at s kind k h b u =
-    let bounds = span-in kind at s h in
+    let bounds = span-in (not (headKind kind)) at s h in
     rw (k, text-body) (texted-of at (content (lengthOf stringKind) (drop at s)) s (rw k at h) (bounds .0) u)

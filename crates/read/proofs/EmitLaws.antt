@@ -1,4 +1,4 @@
--- Laws of storing: one reading behind another, what a reader that was called leaves to its caller, and that a reading from the start of the room
+-- Laws of storing: one reading after another, what a reader that was called leaves to its caller, and that a reading from the start of the room
 -- leaves what the definition of the call says. Assumes nothing.
 use Prim.Native.Nat.{ℕ, suc, _+_, _*_, _/_, _≤_, _<_}
 use native.Mathlib.Decide.{decLt}
@@ -18,7 +18,7 @@ use Rattle.read.specs.Emit.{Left, left, storedFrom, placed, emit}
 use Rattle.read.specs.declared.room.Step.{Step}
 use Rattle.read.specs.declared.room.Step.the-variants.{Go, Stop}
 
--- ---- one reading behind another
+-- ---- one reading after another
 
 -- on with q, unless stopped
 pub onward : Left → Reading → Left
@@ -96,7 +96,7 @@ ended b Done = Go b
 ended b (Refused k p) = Stop k b p
 ended b (r then q) = ended (b + stride) q
 
--- what a reading leaves, with the numbers `pre` in use and `rest` behind them
+-- what a reading leaves, with the numbers `pre` in use and `rest` after them
 abbrev leaves : List ℕ → List ℕ → Reading → Left
 leaves pre rest q = left (ended (length pre) q) (pre ++ roomAfter q rest)
 

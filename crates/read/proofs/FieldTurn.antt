@@ -1,4 +1,4 @@
--- The turns of the loop over a message's fields, in plain values, and what the records of one field are. Assumes nothing.
+-- The iterations of the loop over a message's fields, in plain values, and what the records of one field are. Assumes nothing.
 use Prim.Native.Nat.{ℕ, suc, _+_, _-_, _/_, _%_, _≤_, _<_}
 use native.Mathlib.Omega.{arith}
 use native.Mathlib.Nat.{add-zero}
@@ -69,9 +69,9 @@ part-at at a e s h =
     let y : at + (a - at) ≡ a = omega arith in
     rw (x, drop-drop, y)
 
-module _ (inner : ℕ → ℕ → List ℕ → Reading) {depth at most : ℕ} {f : Row} (h : Held depth at most f) (off : ℕ) (s : List ℕ) where
+module _ (mode : spec.Mode) (inner : ℕ → ℕ → List ℕ → Reading) {depth at most : ℕ} {f : Row} (h : Held depth at most f) (off : ℕ) (s : List ℕ) where
   abbrev recs : Reading
-  recs = records inner depth (off + at) (drop at s) (rowField at f)
+  recs = records mode inner depth (off + at) (drop at s) (rowField at f)
 
   abbrev this : Record
   this = row depth (f .number) (f .kind) (f .value) (off + f .start) (off + f .end) (off + at)
@@ -150,13 +150,13 @@ tag-place say depth at s (No i) e = cc
 
 pub bad-place : (look : Look) (depth ty at : ℕ) (s : List ℕ) {r : Field} {k p : ℕ} → r ≡ asked look depth ty at s → r ≡ field.Bad k p → p ≡ 0
 unfolding asked
-bad-place look depth ty at s asks is = tag-place (look ty) depth at s (tag (drop at s)) (sym asks ∙ is)
+bad-place look depth ty at s asks is = tag-place (look .says ty) depth at s (tag (drop at s)) (sym asks ∙ is)
 
 -- ---- the first field
 
 module _ (look : Look) (depth ty : ℕ) where
   first : (l : List ℕ) (a : ℕ) (x : spec.Field) → 0 < length l → x ≡ spec.field look depth ty l
-      → read look depth ty a l ≡ (records (read look (depth + 1)) depth a l x followed-by read look depth ty (a + used x) (drop (used x) l))
+      → read look depth ty a l ≡ (records (look .mode) (read look (depth + 1)) depth a l x followed-by read look depth ty (a + used x) (drop (used x) l))
   first [] a x h e = absurd (omega arith)
   first (b ∷ l) a x h e = read-cons look depth ty a b l ∙ rw e
 
@@ -167,7 +167,7 @@ module _ (look : Look) (depth ty : ℕ) where
     abbrev stands : spec.Field → Type 0
     stands x = x ≡ spec.field look depth ty (drop at s)
 
-    turned : (x : spec.Field) → stands x → todo at ≡ (records (read look (depth + 1)) depth (off + at) (drop at s) x followed-by todo (at + used x))
+    turned : (x : spec.Field) → stands x → todo at ≡ (records (look .mode) (read look (depth + 1)) depth (off + at) (drop at s) x followed-by todo (at + used x))
     turned x e =
         let next : off + at + used x ≡ off + (at + used x) = omega arith in
         first (drop at s) (off + at) x (omega (arith, length-drop at s)) e ∙ rw (drop-drop, next)
@@ -207,7 +207,7 @@ module _ (look : Look) (depth ty : ℕ) {s : List ℕ} {off : ℕ} {room₀ : Li
 
     -- a record, which another stores
     module _ {f : Row} (is : r ≡ field.Of f) (held : Held depth at (length s) f) {a : Step} {room′ : List ℕ}
-        (called : left a room′ ≡ emit room to (records (read look (depth + 1)) depth (off + at) (drop at s) (rowField at f))) where
+        (called : left a room′ ≡ emit room to (records (look .mode) (read look (depth + 1)) depth (off + at) (drop at s) (rowField at f))) where
       used-row : at + used (rowField at f) ≡ f .end
       unfolding used
       used-row =
@@ -218,7 +218,7 @@ module _ (look : Look) (depth ty : ℕ) {s : List ℕ} {off : ℕ} {room₀ : Li
           (λ k. rw (j, k) (omega (arith, held .behind, held .ordered))))
 
       there : emit room₀ from (read look depth ty (off + 0) (drop 0 s))
-          ≡ emit room to (records (read look (depth + 1)) depth (off + at) (drop at s) (rowField at f) followed-by read look depth ty (off + f .end) (drop (f .end) s))
+          ≡ emit room to (records (look .mode) (read look (depth + 1)) depth (off + at) (drop at s) (rowField at f) followed-by read look depth ty (off + f .end) (drop (f .end) s))
       unfolding resolved
       there =
           h .further .same
@@ -277,16 +277,16 @@ module _ (look : Look) (depth ty : ℕ) {s : List ℕ} {off : ℕ} {room₀ : Li
                   };
             }
 
--- ---- a short integer behind a tag of one byte
+-- ---- a short integer after a tag of one byte
 
 tag-one : (c : ℕ) (l : List ℕ) → 8 ≤ c → c < 128 → c % 8 ≡ varintWire → tag (c ∷ l) ≡ Took c 1
 unfolding tag varint require
 tag-one c l h j z = rw (lt-ltb c 128 j, z, le-leb 1 (c / 8) (omega arith))
 
-shaped-one : (x : Shape) (depth inner m kind n : ℕ) (l : List ℕ) {w z : ℕ} → scalarOf x l ≡ Took w z → spec.shaped x depth inner m kind n l ≡ spec.Value m kind w n (n + z)
+shaped-one : (mode : spec.Mode) (x : Shape) (depth inner m kind n : ℕ) (l : List ℕ) {w z : ℕ} → scalarOf x l ≡ Took w z → spec.shaped mode x depth inner m kind n l ≡ spec.Value m kind w n (n + z)
 unfolding spec.shaped scalarOf spec.given
-shaped-one (one c) depth inner m kind n l e = rw e
-shaped-one (other x) depth inner m kind n l e = let z : _≡_ {A = ℕ} 0 1 = cc in absurd (omega arith)
+shaped-one mode (one c) depth inner m kind n l e = rw e
+shaped-one mode (other x) depth inner m kind n l e = let z : _≡_ {A = ℕ} 0 1 = cc in absurd (omega arith)
 
 told-kind : {say : ℕ → Says} {c : ℕ} {r : Kind} (k : ℕ) → Tells say c r → r ≡ known.Of k → (8 ≤ c) × (c < 128) × (c % 8 ≡ varintWire) × (say c .kind ≡ k)
 told-kind k (tells {kind} h j z e) is = let same : kind ≡ k = cc in (h, j, z, e ∙ same)
@@ -294,7 +294,7 @@ told-kind k tells-not is = let z : _≡_ {A = ℕ} 0 1 = cc in absurd (omega ari
 
 module _ (look : Look) (depth ty : ℕ) {s : List ℕ} {off : ℕ} {room₀ : List ℕ} {from b : ℕ} {room : List ℕ} {at to : ℕ}
     (h : Here (read look depth ty) s off room₀ from b room at to) (lt : at + 1 < length s)
-    {r : Kind} (t : Tells (look ty) (getD s at 0) r) {k : ℕ} (is-kind : r ≡ known.Of k)
+    {r : Kind} (t : Tells (look .says ty) (getD s at 0) r) {k : ℕ} (is-kind : r ≡ known.Of k)
     {a : Short} (e : Shortly (drop (at + 1) s) a) {v n : ℕ} (is : a ≡ short.Of v n) {m : Meant} (means : m ≡ meantBy (shape k) v) {w : ℕ} (that : m ≡ meant.Is w) where
   abbrev c : ℕ
   c = getD s at 0
@@ -311,7 +311,7 @@ module _ (look : Look) (depth ty : ℕ) {s : List ℕ} {off : ℕ} {room₀ : Li
       let q = told-kind k t is-kind in
       let front : drop at s ≡ c ∷ drop (suc at) s = drop-cons s at 0 (omega arith) in
       let tagged : tag (drop at s) ≡ Took c 1 = ap tag front ∙ tag-one c (drop (suc at) s) (q .0) (q .1) (q .2) in
-      sym (rw (tagged, drop-drop, q .3) (shaped-one (shape k) depth (look ty c .inner) (c / 8) k 1 (drop (at + 1) s) int-here))
+      sym (rw (tagged, drop-drop, q .3) (shaped-one (look .mode) (shape k) depth (look .says ty c .inner) (c / 8) k 1 (drop (at + 1) s) int-here))
 
   pub int-stored : {room′ : List ℕ} {to′ : ℕ} → to + stride ≤ length room
       → room′ ≡ placed room to (row depth (c / 8) k w (off + at + 1) (off + at + 1 + n) 0) → to′ ≡ to + stride

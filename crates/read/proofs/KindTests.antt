@@ -20,7 +20,7 @@ use Rattle.read.specs.Answers.{hasLength, scalarOf, meantAs, meantBy, is
 use Rattle.read.specs.declared.scalar.Meant.{Meant}
 use Rattle.read.specs.declared.scalar.Meant.the-variants.{Is, Other}
 
--- A number of the shape is told by tests on the kind: where they agree on the kinds of the table, and no test is met behind it.
+-- A number of the shape is decided by tests on the kind: where they agree on the kinds of the table, and no test is true after it.
 by-table : (f : Shape → ℕ) (g : ℕ → ℕ) → T (agree (λ k. f (shape k)) g allKinds) → ((k : ℕ) → allKinds ≤ k → f (other nothing) ≡ g k) → (k : ℕ) → f (shape k) ≡ g k
 unfolding shape shapes
 by-table f g t h k =
@@ -58,7 +58,7 @@ head-one k n positive h = by (eqb k messageKind) (eqb k packedHead) refl refl
     by false true e f = eqb-true k packedHead f ∙ sym (h ∙ rw (e, f) refl)
     by false false e f = let z : n ≡ 0 = h ∙ rw (e, f) refl in absurd (omega arith)
 
--- ---- what stands behind a tag: 1 with a length, 2 and 3 for the ends of a group, 0 for a number and for nothing
+-- ---- what comes after a tag: 1 with a length, 2 and 3 for the ends of a group, 0 for a number and for nothing
 
 unfoldable pub sortOf : Shape → ℕ
 sortOf (one c) = 0

@@ -1,5 +1,5 @@
--- The turns of a reader's loop, in plain values. Where a loop is says `Further`: what was to be emitted is what the rest emits from here. Here
--- stands how each end and each turn follows from that. Assumes nothing.
+-- The iterations of a reader's loop, in plain values. `Further` says where a loop is: what was to be emitted is what the rest emits from here. Here
+-- is how each end and each iteration follows from that. Assumes nothing.
 use Prim.Native.Nat.{ℕ, _+_, _-_, _^_, _≤_, _<_, min}
 use native.Mathlib.Omega.{arith}
 use native.Mathlib.Nat.{add-zero}
@@ -176,7 +176,7 @@ module _ (p : List ℕ) (off depth number kind tag : ℕ) where
     element-bad : {k : ℕ} → isScalar (shape kind) ≡ true → scalarOf (shape kind) (drop at p) ≡ No k → content at ≡ Refused k tag
     element-bad i e = contents-bad depth number kind tag (shape kind) (off + at) (drop at p) (omega (arith, length-drop at p)) i e
 
-    -- the same of an element that was found with the place behind it
+    -- the same of an element that was found with the place after it
     found-size : {r : Found} {v next : ℕ} → r ≡ found.Value v next → asRead at r ≡ scalarOf (shape kind) (drop at p) → (at < next) × (next ≤ length p)
     found-size {r} {v} {next} is e =
         let k = element-size {v = v} {n = next - at} (sym e ∙ ap (asRead at) is) in

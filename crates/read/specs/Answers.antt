@@ -1,16 +1,16 @@
--- What the functions of this crate answer, by the definitions of reading. Assumes nothing: these are definitions. That a field which is asked
+-- What the functions of this crate answer, by the definitions of reading. Assumes nothing: these are definitions. Public promises cite it. That a field which is asked
 -- for so is the field of the definition is a law (proofs/AskedLaws).
 use Prim.Native.Nat.{ℕ, suc, _+_, _-_, _/_, _%_, _^_, _≤_, _<_, min}
 use mathlib.Core.Path.{_≡_}
 use mathlib.Core.Bool.{Bool, true, false, not, _||_}
 use mathlib.Core.List.{List}
-use lib.ListN.{length, drop, getD}
-use lib.Dec.{leb, ltb, eqb}
-use Rattle.spec.specs.Names.{bytesKind, enumKind, int32Kind, messageKind, mostLevels, packedHead, sint32Kind, stringKind, tooLarge, uint32Kind, unknownBytes, varintWire, badTag, noGroupOpen, notUtf8, outOfRange, tooDeep}
-use Rattle.spec.specs.Base.{if_then_else_, part, limit, Read, Took, No}
+use lib.ListN.{drop, getD}
+use lib.Dec.{leb, eqb}
+use Rattle.spec.specs.Names.{bytesKind, enumKind, int32Kind, messageKind, mostLevels, packedHead, sint32Kind, stringKind, uint32Kind, unknownBytes, varintWire, badTag, noGroupOpen, notUtf8, outOfRange, tooDeep}
+use Rattle.spec.specs.Base.{if_then_else_, part, Read, Took, No}
 use Rattle.spec.specs.Varint.{varint, varint32, varint64, unzigzag, tag}
 use Rattle.spec.specs.Utf8.{utf8}
-use Rattle.spec.specs.Kind.{Scalar, int32, uint32, uint64, bool, sint32, sint64, fixed32, sfixed32, fixed64, Shape, one, other, string, bytes, message, packed, startGroup, endGroup, nothing, shape, scalar, signed32}
+use Rattle.spec.specs.Kind.{Scalar, int32, uint32, uint64, bool, sint32, sint64, fixed32, sfixed32, fixed64, Shape, one, other, string, bytes, message, packed, startGroup, endGroup, nothing, shape, scalar, signed32, headKind}
 use Rattle.spec.specs.Schema.{Says}
 use Rattle.spec.specs.Skip.{content, outerGroup}
 use Rattle.wire.specs.Reached.{varintOf}
@@ -31,8 +31,6 @@ use Rattle.read.specs.declared.classify.Field.{Field}
 use Rattle.read.specs.declared.classify.Field.the-variants as field
 use Rattle.read.specs.declared.classify.Tag.{Tag}
 use Rattle.read.specs.declared.classify.Tag.the-variants as tagged
-use Rattle.read.specs.declared.classify.Span.{Span}
-use Rattle.read.specs.declared.classify.Span.the-variants as span
 use Rattle.read.specs.declared.classify.Body.{Body}
 use Rattle.read.specs.declared.classify.Body.the-variants as body
 
@@ -109,22 +107,14 @@ intBy x fit (No k) = No k
 
 -- ---- contents
 
--- the kinds of a head, and those whose field has a length
-abbrev pub isHead : ℕ → Bool
-isHead kind = eqb kind messageKind || eqb kind packedHead
-
+-- the kinds whose field has a length
 abbrev pub hasLength : ℕ → Bool
 hasLength kind = eqb kind stringKind || eqb kind messageKind || eqb kind bytesKind || eqb kind packedHead || eqb kind unknownBytes
 
 abbrev pub lengthOf : ℕ → List ℕ → Read
-lengthOf kind s = varintOf (not (isHead kind)) s
+lengthOf kind s = varintOf (not (headKind kind)) s
 
--- a content that was found behind the place `at`
-unfoldable pub spanAt : ℕ → Read → Span
-spanAt at (Took a z) = span.Of (at + a) (at + z)
-spanAt at (No k) = span.Bad k
-
--- ---- what stands behind a tag, at the place `at`
+-- ---- what comes after a tag, at the place `at`
 
 unfoldable pub valued : ℕ → Read → Body
 valued at (Took v n) = body.Is v at (at + n)
@@ -177,7 +167,7 @@ fromTag depth s (tagged.Bad k) = field.Bad k 0
 
 -- the field at a place of s, as it is asked for
 unfoldable pub asked : spec.Look → (depth type at : ℕ) → List ℕ → Field
-asked look depth type at s = fromTag depth s (tagAt (look type) at (tag (drop at s)))
+asked look depth type at s = fromTag depth s (tagAt (look .says type) at (tag (drop at s)))
 
 -- the definition's field of a record that is asked for, and of what is asked for at the place `at` of s
 abbrev pub asField : (number kind inner value start end : ℕ) → spec.Field
@@ -203,10 +193,7 @@ pub record Held (depth at most : ℕ) (r : Row) : Type 0 where
   pub message-zero : r .kind ≡ messageKind → r .value ≡ 0
   pub packed-zero : r .kind ≡ packedHead → r .value ≡ 0
 
--- ---- the call, by what is known of tags
-
-unfoldable pub readingBy : spec.Look → ℕ → List ℕ → spec.Reading
-readingBy look room s = if ltb limit (length s) then spec.Refused tooLarge 0 else spec.within room (spec.read look 0 0 0 s)
+-- ---- the answer
 
 -- the answer of a reader that began at the start of the room, whose places count numbers; a caller counts records
 abbrev pub answerOf : (number to place : ℕ) → Answer

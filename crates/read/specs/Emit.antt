@@ -1,5 +1,5 @@
--- What a reader does with lent room: each record in turn is stored behind those before it, until one does not fit. Assumes nothing: these are
--- definitions. That reading from the start of the room leaves what the definition of the call says is a law (proofs/EmitLaws).
+-- What a reader does with lent room: each record in order is stored after those before it, until one does not fit. Assumes nothing: these are
+-- definitions. That reading from the start of the room leaves what the definition of the call says is a law (proofs/EmitLaws). Only inner functions and loops cite it.
 use Prim.Native.Nat.{ℕ, suc, _+_, _≤_}
 use mathlib.Core.Path.{_≡_}
 use mathlib.Core.List.{List, [], _∷_}

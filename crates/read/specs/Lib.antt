@@ -1,2 +1,3 @@
 pub mod Answers
 pub mod Emit
+pub mod Prepared

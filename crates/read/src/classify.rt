@@ -1,16 +1,18 @@
-// What the field at a place of a message is, and what it asks of a reader. Nothing is stored here, and no group is skipped: a reader does that in
+// What the field at a place of a message is, and what a reader has to do with it. Nothing is stored here, and no group is skipped: a reader does that in
 // its own way.
 ghost use mathlib.Core.Path.{_≡_};
 ghost use mathlib.Core.Bool.{true, false};
 ghost use Prim.Native.Nat.{_+_, _^_, _≤_, _<_};
 ghost use lib.ListN.{length, drop};
 ghost use Rattle.spec.specs.Varint.{tag};
-ghost use Rattle.spec.specs.Kind.{shape};
+ghost use Rattle.spec.specs.Kind.{shape, headKind};
 ghost use Rattle.spec.specs.Skip.{content};
-ghost use Rattle.spec.specs.Reading.{field};
+ghost use Rattle.spec.specs.Reading.{plainly, field};
 ghost use Rattle.schema.specs.Layout.{keyCount};
 ghost use Rattle.schema.specs.Tables.{tableSays};
-ghost use Rattle.read.specs.Answers.{tagAt, quickTag, isHead, lengthOf, spanAt, hasLength, bodied, fromBody, asked, resolved};
+ghost use Rattle.skip.specs.Spans.{spanAt};
+ghost use Rattle.read.specs.Answers.{tagAt, quickTag, lengthOf, hasLength, bodied, fromBody, asked, resolved};
+ghost use Rattle.read.specs.Prepared.{prepared};
 use crate::scalar::index;
 use crate::scalar::scalar_at;
 use crate::scalar::varint_at;
@@ -18,6 +20,7 @@ use crate::scalar::wide;
 use crate::scalar::wide32;
 use schema::layout;
 use schema::says;
+use skip::content::Span;
 use spec::kinds;
 use spec::limits;
 use spec::refusals;
@@ -45,14 +48,14 @@ pub struct Row {
     pub end: usize,
 }
 
-// What a field asks: a record; that a group is skipped, whose fields stand at `next`; or a refusal, at a place that counts from the field's tag.
+// What a reader has to do: store a record; skip a group, whose fields start at `next`; or refuse, at a place that counts from the field's tag.
 pub enum Field {
     Of(Row),
     Group { number: u64, next: usize },
     Bad { number: u32, place: usize },
 }
 
-// What a tag says, and the place behind it.
+// What a tag says, and the place after it.
 enum Tag {
     Of {
         number: u64,
@@ -63,13 +66,7 @@ enum Tag {
     Bad(u32),
 }
 
-// The content of a field with a length.
-enum Span {
-    Of { start: usize, end: usize },
-    Bad(u32),
-}
-
-// What stands behind a tag: a value and the range of its record, the fields of a group, or a refusal.
+// What comes after a tag: a value and the range of its record, the fields of a group, or a refusal.
 enum Body {
     Is {
         value: u64,
@@ -167,7 +164,7 @@ fn tag_at(
 // ---- contents
 
 fn is_head(kind: u64) -> bool
-    ensures { λ r. ⌜ r ≡ isHead kind ⌝ }
+    ensures { λ r. ⌜ r ≡ headKind kind ⌝ }
 {
     kind == kinds::MESSAGE || kind == kinds::PACKED_HEAD
 }
@@ -207,7 +204,7 @@ fn span_at(s: &[u8], at: usize, kind: u64) -> Span
     long_span(s, at, kind)
 }
 
-// ---- what stands behind a tag
+// ---- what comes after a tag
 
 fn has_length(kind: u64) -> bool
     ensures { λ r. ⌜ r ≡ hasLength kind ⌝ }
@@ -314,8 +311,8 @@ pub fn field_at(
     ty: u32,
     depth: u32,
 ) -> Field
-    ensures { λ r. ⌜ (resolved depth at (now (s .entry)) r ≡ field (tableSays (now (keys .entry)) (now (info .entry))) depth ty (drop at (now (s .entry))))
-        × (r ≡ asked (tableSays (now (keys .entry)) (now (info .entry))) depth ty at (now (s .entry))) ⌝ }
+    ensures { λ r. ⌜ (resolved depth at (now (s .entry)) r ≡ field (prepared plainly (now (keys .entry)) (now (info .entry))) depth ty (drop at (now (s .entry))))
+        × (r ≡ asked (prepared plainly (now (keys .entry)) (now (info .entry))) depth ty at (now (s .entry))) ⌝ }
 {
     match tag_at(keys, info, s, at, ty) {
         Tag::Of {

@@ -1,12 +1,13 @@
 // A message to records in lent room.
 ghost use mathlib.Core.Path.{_≡_};
+ghost use mathlib.Core.Option.{none};
 ghost use lib.ListN.{length};
 ghost use Prim.Native.Nat.{_/_};
 ghost use Rattle.spec.specs.Record.{stride};
 ghost use Rattle.spec.specs.Schema.{schemaOf};
-ghost use Rattle.spec.specs.Reading.{reading, number, place, listed, roomAfter};
-ghost use Rattle.schema.specs.Tables.{tableSays};
-ghost use Rattle.read.specs.Answers.{readingBy, answerOf, answered};
+ghost use Rattle.spec.specs.Reading.{plainly, reading, readingBy, number, place, listed, roomAfter};
+ghost use Rattle.read.specs.Answers.{answerOf, answered};
+ghost use Rattle.read.specs.Prepared.{prepared};
 
 pub mod classify;
 mod message;
@@ -18,12 +19,12 @@ use crate::message::message;
 use crate::room::Step;
 use schema::Verdict;
 use schema::layout;
-use schema::tables;
+use schema::note_entries;
 use spec::columns;
 use spec::limits;
 use spec::refusals;
 
-// What a reading comes to: the refusal's number, 0 for none; how many records stand in the room; the place of the refusal.
+// The answer of a reading: the refusal's number, 0 for none; how many records are in the room; the place of the refusal.
 pub struct Answer {
     pub number: u32,
     pub count: usize,
@@ -57,10 +58,10 @@ pub fn read_prepared(
     s: &[u8],
     room: &mut [u64],
 ) -> Answer
-    ensures { λ r. ⌜ (r .number ≡ number (readingBy (tableSays (now (keys .entry)) (now (info .entry))) (length (now (room .entry)) / stride) (now (s .entry))))
-        × (r .place ≡ place (readingBy (tableSays (now (keys .entry)) (now (info .entry))) (length (now (room .entry)) / stride) (now (s .entry))))
-        × (r .count ≡ length (listed (readingBy (tableSays (now (keys .entry)) (now (info .entry))) (length (now (room .entry)) / stride) (now (s .entry)))))
-        × (now (room .exit) ≡ roomAfter (readingBy (tableSays (now (keys .entry)) (now (info .entry))) (length (now (room .entry)) / stride) (now (s .entry))) (now (room .entry))) ⌝ }
+    ensures { λ r. ⌜ (r .number ≡ number (readingBy none (prepared plainly (now (keys .entry)) (now (info .entry))) (length (now (room .entry)) / stride) (now (s .entry))))
+        × (r .place ≡ place (readingBy none (prepared plainly (now (keys .entry)) (now (info .entry))) (length (now (room .entry)) / stride) (now (s .entry))))
+        × (r .count ≡ length (listed (readingBy none (prepared plainly (now (keys .entry)) (now (info .entry))) (length (now (room .entry)) / stride) (now (s .entry)))))
+        × (now (room .exit) ≡ roomAfter (readingBy none (prepared plainly (now (keys .entry)) (now (info .entry))) (length (now (room .entry)) / stride) (now (s .entry))) (now (room .entry))) ⌝ }
 {
     if limits::MOST_BYTES < s.len() {
         return Answer {
@@ -88,7 +89,7 @@ pub fn read(types: u32, numbers: &[u32], s: &[u8], room: &mut [u64]) -> Answer
     }
     let mut keys: [u64; layout::KEYS] = [layout::NO_KEY; layout::KEYS];
     let mut info: [u8; layout::INFO] = [0; layout::INFO];
-    match tables(types, numbers, &mut keys, &mut info) {
+    match note_entries(types, numbers, &mut keys, &mut info) {
         Verdict::Bad(i) => Answer {
             number: refusals::INVALID_SCHEMA,
             count: 0,

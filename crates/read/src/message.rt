@@ -3,10 +3,11 @@ ghost use mathlib.Core.Path.{_≡_};
 ghost use Prim.Native.Nat.{_+_, _^_, _≤_, _<_};
 ghost use lib.ListN.{length, drop};
 ghost use Rattle.spec.specs.Names.{mostLevels, mostTypes};
-ghost use Rattle.spec.specs.Reading.{records, read};
+ghost use Rattle.spec.specs.Reading.{plainly, records, read};
 ghost use Rattle.schema.specs.Tables.{tableSays};
 ghost use Rattle.read.specs.Answers.{Held, Tells, rowField};
 ghost use Rattle.read.specs.Emit.{left, emit, Further};
+ghost use Rattle.read.specs.Prepared.{prepared};
 use crate::classify::Field;
 use crate::classify::Row;
 use crate::classify::field_at;
@@ -34,7 +35,7 @@ enum Kind {
     Other,
 }
 
-// The kind of the field whose tag is the one byte c, of the wire type of varints. Number 0 is asked for last: no table of a schema has a key for it.
+// The kind of the field whose tag is the one byte c, of the wire type of varints. Number 0 is tested last: no table of a schema has a key for it.
 fn int_kind(keys: &[u64; layout::KEYS], info: &[u8; layout::INFO], c: u8, ty: u32) -> Kind
     requires { ⌜ ty < mostTypes ⌝ }
     ensures { λ r. ⌜ Tells (tableSays (now (keys .entry)) (now (info .entry)) ty) c r ⌝ }
@@ -65,7 +66,7 @@ fn short_ints(
     from: Spot,
 ) -> Spot
     requires { ⌜ (from .at < length (now s)) × (off + length (now s) < 2 ^ 64) × (from .to ≤ length (now room)) × (ty < mostTypes) ⌝ }
-    ensures { λ r. ⌜ Further (length (now (s .entry))) (λ at. read (tableSays (now (keys .entry)) (now (info .entry))) depth ty (off + at) (drop at (now (s .entry))))
+    ensures { λ r. ⌜ Further (length (now (s .entry))) (λ at. read (prepared plainly (now (keys .entry)) (now (info .entry))) depth ty (off + at) (drop at (now (s .entry))))
         (now (room .entry)) (from .at) (from .to) (now (room .exit)) (r .at) (r .to) ⌝ }
 {
     let mut at = from.at;
@@ -106,7 +107,7 @@ fn short_ints(
     Spot { at, to }
 }
 
-// What a field asks, where its tag stands at `at`: its record, and for a head what lies below it.
+// Does what a field asks, whose tag is at `at`: stores its record, and for a head what lies below it.
 fn store(
     keys: &[u64; layout::KEYS],
     info: &[u8; layout::INFO],
@@ -120,7 +121,7 @@ fn store(
 ) -> Step
     requires { ⌜ (depth ≤ mostLevels) × (off + length (now s) < 2 ^ 64) × (from ≤ length (now room)) × Held depth at (length (now s)) f ⌝ }
     ensures { λ r. ⌜ left r (now (room .exit)) ≡ emit (now (room .entry)) from
-        (records (read (tableSays (now (keys .entry)) (now (info .entry))) (depth + 1)) depth (off + at) (drop at (now (s .entry))) (rowField at f)) ⌝ }
+        (records plainly (read (prepared plainly (now (keys .entry)) (now (info .entry))) (depth + 1)) depth (off + at) (drop at (now (s .entry))) (rowField at f)) ⌝ }
 {
     let start = f.start;
     let end = f.end;
@@ -174,7 +175,7 @@ fn store(
     Step::Go(to)
 }
 
-// The fields of the message s, which stands at `off`, behind the first `from` numbers of the room.
+// Stores the fields of the message s, which is at `off`, after the first `from` numbers of the room.
 pub(crate) fn message(
     keys: &[u64; layout::KEYS],
     info: &[u8; layout::INFO],
@@ -186,7 +187,7 @@ pub(crate) fn message(
     from: usize,
 ) -> Step
     requires { ⌜ (depth ≤ mostLevels) × (off + length (now s) < 2 ^ 64) × (from ≤ length (now room)) ⌝ }
-    ensures { λ r. ⌜ left r (now (room .exit)) ≡ emit (now (room .entry)) from (read (tableSays (now (keys .entry)) (now (info .entry))) depth ty off (now (s .entry))) ⌝ }
+    ensures { λ r. ⌜ left r (now (room .exit)) ≡ emit (now (room .entry)) from (read (prepared plainly (now (keys .entry)) (now (info .entry))) depth ty off (now (s .entry))) ⌝ }
 {
     let mut at: usize = 0;
     let mut to = from;

@@ -1,4 +1,4 @@
-// Storing records: the one place that knows how a record stands in lent room.
+// Storing records: the one place that knows how a record is laid out in lent room.
 ghost use mathlib.Core.Path.{_≡_};
 ghost use Prim.Native.Nat.{_+_, _≤_};
 ghost use lib.ListN.{length};
@@ -6,7 +6,7 @@ ghost use Rattle.spec.specs.Record.{row, stride};
 ghost use Rattle.read.specs.Emit.{placed};
 use spec::columns;
 
-// How far a reader came: on, with `to` numbers of the room in use; or refused. Numbers, and not records, so that no turn multiplies.
+// How far a reader came: on, with `to` numbers of the room in use; or refused. It counts numbers, and not records, so that no iteration multiplies.
 pub enum Step {
     Go(usize),
     Stop {
@@ -16,7 +16,7 @@ pub enum Step {
     },
 }
 
-// Where a reader stands: `at` in the bytes, with `to` numbers of the room in use.
+// Where a reader is: `at` in the bytes, with `to` numbers of the room in use.
 pub struct Spot {
     pub at: usize,
     pub to: usize,

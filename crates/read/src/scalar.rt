@@ -91,7 +91,7 @@ pub enum Meant {
     Other,
 }
 
-// Ranges first, the most frequent kinds before the others: the compiler asks them once, before a loop over one kind, but an arm of the match for each element.
+// Ranges first, the most frequent kinds before the others: the compiler tests them once, before a loop over one kind, but an arm of the match for each element.
 pub(crate) fn meaning_of(kind: u64, v: u64) -> Meant
     ensures { λ r. ⌜ r ≡ meantBy (shape kind) v ⌝ }
 {

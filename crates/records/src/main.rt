@@ -96,7 +96,7 @@ fn read_some(buf: &mut [u8], have: usize) -> Input {
     }
 }
 
-// Reads until the buffer is full, the input ends or a read fails. Each turn but the last reads a byte at least.
+// Reads until the buffer is full, the input ends or a read fails. Each iteration but the last reads a byte at least.
 fn read_input(buf: &mut [u8]) -> Input {
     let mut have: usize = 0;
     let mut turns = buf.len();
@@ -133,7 +133,7 @@ fn write_listing(number: u32, count: usize, place: usize, list: &[u64], out: &mu
     write_front(out, size);
 }
 
-// The records that stand in the room are listed, with how the reading ended.
+// Lists the records in the room, and how the reading ended.
 fn list_answer(r: Answer, room: &[u64], out: &mut [u8]) {
     let count = r.count;
     if count <= room.len() / STRIDE {

@@ -1,5 +1,5 @@
 // The program that answers case lines: one answer line for each line of standard input, written before the next line is waited for. docs/CASES.md has the
-// lines. A line is answered in three steps: its verb is found (verbs), its words are parsed (cases), and the call that the verb names is made and told.
+// lines. A line is answered in three steps: its verb is found (verbs), its words are parsed (cases), and the call that the verb names is made and its answer printed.
 mod answers;
 mod cases;
 mod input;
@@ -100,7 +100,7 @@ fn answer_to(
     }
 }
 
-// Where an entry is looked up, whatever `repeated` says is taken.
+// A lookup takes any `repeated`.
 fn clip_for(verb: usize, numbers: &mut [u32]) {
     if verb == verbs::LOOKUP {
         schemas::clip(numbers);
@@ -186,7 +186,7 @@ fn write_front(out: &[u8], size: usize) -> bool {
     false
 }
 
-// Answers each line in turn.
+// Answers each line in order.
 fn serve(buf: &mut [u8], bytes: &mut [u8], list: &mut [u64], numbers: &mut [u32], out: &mut [u8]) {
     let mut from: usize = 0;
     let mut have: usize = 0;
@@ -206,7 +206,7 @@ fn serve(buf: &mut [u8], bytes: &mut [u8], list: &mut [u64], numbers: &mut [u32]
     }
 }
 
-// Answers each line in turn, with buffers for lists and entries.
+// Answers each line in order, with buffers for lists and entries.
 fn serve_all(buf: &mut [u8], bytes: &mut [u8], out: &mut [u8]) {
     let mut list = [0u64; NUMBERS];
     let mut numbers = [0u32; NUMBERS];

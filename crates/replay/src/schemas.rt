@@ -77,7 +77,7 @@ pub fn schema(types: u32, numbers: &[u32]) -> Answer {
     }
 }
 
-// The number at place i, where `repeated` is at most 1: an entry has only yes or no there.
+// The number at place i, with `repeated` at most 1: an entry has only yes or no there.
 fn clipped(i: usize, v: u32) -> u32 {
     if i % ENTRY_STRIDE == ENTRY_REPEATED {
         if 1 < v {
@@ -87,7 +87,7 @@ fn clipped(i: usize, v: u32) -> u32 {
     v
 }
 
-// Makes `repeated` at most 1 in each entry, for a look-up, which does not ask for it.
+// Makes `repeated` at most 1 in each entry, for a lookup, which ignores it.
 pub fn clip(numbers: &mut [u32]) {
     let mut i: usize = 0;
     while i < numbers.len() {

@@ -1,4 +1,4 @@
--- The tables while they are made: an array after some entries holds what each of them stored in turn. Assumes nothing.
+-- The tables while they are made: an array after some entries holds what each of them stored in order. Assumes nothing.
 use Prim.Native.Nat.{ℕ, suc, _+_, _/_, _^_, _≤_, _<_, min}
 use native.Mathlib.Omega.{arith}
 use native.Mathlib.Numerals.{add-one}

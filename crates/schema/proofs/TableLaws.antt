@@ -23,7 +23,7 @@ use Rattle.schema.proofs.SearchLaws.{Keyed, placedOr, search-place}
 use Rattle.schema.proofs.MakingLaws.{wire-below}
 use Rattle.schema.proofs.StoredLaws.{length-keys, keys-at, keys-else, kinds-at, inners-at}
 use Rattle.schema.specs.Search.{seek}
-use Rattle.schema.specs.Tables.{upTo, soundOf, keyOf, innerOf, keysWith, infoWith, keyAt, entryFor, unknown, typed, tableSays}
+use Rattle.schema.specs.Tables.{upTo, soundOf, keyOf, innerOf, keysOf, infoOf, keyAt, entryFor, unknown, typed, tableSays}
 use Rattle.schema.proofs.AskingLaws.{guessed, Near, near-or-not, entry-guessed, entry-searched, typed-same, typed-packed, typed-else, says-typed, says-unknown}
 
 -- each kind of descriptor.proto is one number exactly when its wire type is not 2
@@ -113,14 +113,18 @@ keyed-row type t {types} {e} {x} g is l =
     above (type-before h) = omega (arith, low, g .number-to)
     above (number-before p h) = omega (arith, low, g .number-to)
 
--- Tables that are made over keys that no tag has, and over any `infoLength` numbers.
-module _ (sch : Schema) (valid : badSchema sch ≡ none) (keys₀ info₀ : List ℕ) (sized : length keys₀ ≡ keyCount) (unused : (i : ℕ) → i < keyCount → getD keys₀ i 0 ≡ noKey)
-    (wide : infoLength ≤ length info₀) where
+-- all entries of a valid schema are in its tables
+sound-valid : (sch : Schema) → badSchema sch ≡ none → soundOf sch ≡ sch .entries
+unfolding soundOf
+sound-valid sch valid = ap (λ (bad : Option ℕ). upTo bad (sch .entries)) valid
+
+-- The tables of a valid schema.
+module _ (sch : Schema) (valid : badSchema sch ≡ none) where
   abbrev keys : List ℕ
-  keys = keysWith 0 (sch .entries) keys₀
+  keys = keysOf sch
 
   abbrev info : List ℕ
-  info = infoWith 0 (sch .entries) info₀
+  info = infoOf sch
 
   good-at : (i : ℕ) → i < length (sch .entries) → Good (sch .types) (at sch i)
   good-at i l = good-entry (sch .types) (at sch i) (valid-good sch valid i l)
@@ -131,29 +135,53 @@ module _ (sch : Schema) (valid : badSchema sch ≡ none) (keys₀ info₀ : List
   small : sch .types ≤ mostTypes
   small = valid-types sch valid .1
 
-  key-at : (i : ℕ) → i < length (sch .entries) → getD keys i 0 ≡ keyOf (at sch i)
-  key-at i l = keys-at (sch .entries) keys₀ few (omega arith) i l
+  -- at the place of an entry stands its key
+  pub key-at : (i : ℕ) → i < length (sch .entries) → getD (keysOf sch) i 0 ≡ keyOf (at sch i)
+  unfolding keysOf
+  key-at i l =
+      let n = length-replicate {A = ℕ} keyCount noKey in
+      rw (sound-valid sch valid) (keys-at (sch .entries) (replicate keyCount noKey) few (omega arith) i l)
+
+  -- at a place that no entry has stands the key that no tag has
+  pub key-else : (i : ℕ) → length (sch .entries) ≤ i → i < keyCount → getD (keysOf sch) i 0 ≡ noKey
+  unfolding keysOf
+  key-else i l u =
+      let n = length-replicate {A = ℕ} keyCount noKey in
+      rw (sound-valid sch valid) (keys-else (sch .entries) (replicate keyCount noKey) few (omega arith) i l u) ∙ getD-replicate keyCount i noKey 0 u
+
+  keys-length : length keys ≡ keyCount
+  unfolding keysOf
+  keys-length = length-keys (soundOf sch) (replicate keyCount noKey) ∙ length-replicate keyCount noKey
+
+  owned-at : (k : ℕ) → k < length (sch .entries) → at sch k .owner < mostTypes
+  owned-at k u = let o = good-at k u .owned in omega (arith, small)
 
   kind-at : (i : ℕ) → i < length (sch .entries) → getD info (kindsAt + i) 0 ≡ at sch i .kind
-  kind-at i l = kinds-at (sch .entries) info₀ few wide (λ k u. let o = good-at k u .owned in omega (arith, small)) i l
+  unfolding infoOf
+  kind-at i l =
+      let n = length-replicate {A = ℕ} infoLength 0 in
+      rw (sound-valid sch valid) (kinds-at (sch .entries) (replicate infoLength 0) few (omega arith) owned-at i l)
 
   inner-at : (i : ℕ) → i < length (sch .entries) → getD info (innersAt + i) 0 ≡ innerOf (at sch i)
-  inner-at i l = inners-at (sch .entries) info₀ few wide (λ k u. let o = good-at k u .owned in omega (arith, small)) i l
+  unfolding infoOf
+  inner-at i l =
+      let n = length-replicate {A = ℕ} infoLength 0 in
+      rw (sound-valid sch valid) (inners-at (sch .entries) (replicate infoLength 0) few (omega arith) owned-at i l)
 
   -- a key that a tag of these types has is an entry's
   key-within : (i key : ℕ) → getD keys i 0 ≡ key → 0 < key → key < noKey → i < length (sch .entries)
   key-within i key p a b =
       lower-or-not i (length (sch .entries)) (λ l. l)
       (λ l. lower-or-not i keyCount
-      (λ u. absurd (omega (arith, keys-else (sch .entries) keys₀ few (omega arith) i l u, unused i u)))
-      (λ u. absurd (omega (arith, List·getD-eq-default keys 0 {n = i} (omega (arith, length-keys (sch .entries) keys₀))))))
+      (λ u. absurd (omega (arith, key-else i l u)))
+      (λ u. absurd (omega (arith, List·getD-eq-default keys 0 {n = i} (omega (arith, keys-length))))))
 
   module _ (type t : ℕ) (typed-below : type < mostTypes) (numbered : 1 ≤ t / 8) (tag-below : t < 2 ^ 32) where
     searched : seek keyCount (keyAt keys) notFound ((type * ownerUnit + t) / 8) 0 keyCount ≡ placedOr notFound (placeOf 0 (sch .entries) type (t / 8))
     searched =
         search-place sch valid (keyAt keys) keyCount type (t / 8) ((type * ownerUnit + t) / 8) few
         (λ i l. keyed-row type t (good-at i l) (key-at i l) tag-below)
-        (λ i l u. omega (arith, keys-else (sch .entries) keys₀ few (omega arith) i l u, unused i u))
+        (λ i l u. omega (arith, key-else i l u))
 
     guess-right : Near keys info type t → guessed info type t ≡ placedOr notFound (placeOf 0 (sch .entries) type (t / 8))
     guess-right r =
@@ -209,8 +237,8 @@ module _ (sch : Schema) (valid : badSchema sch ≡ none) (keys₀ info₀ : List
           typed-run n (b .0, b .1, eqb-true (t % 8) delimitedWire (a .1)))
           (λ p. typed-unknown n p))
 
-    -- the tables say what the schema says
-    pub table-says : t % 8 ≤ fixed32Wire → tableSays keys info type t ≡ says sch type t
+    -- they say what the schema says
+    pub table-says : t % 8 ≤ fixed32Wire → tableSays (keysOf sch) (infoOf sch) type t ≡ says sch type t
     unfolding says
     table-says wired = go (placeOf 0 (sch .entries) type (t / 8)) refl
       where
@@ -224,17 +252,6 @@ module _ (sch : Schema) (valid : badSchema sch ≡ none) (keys₀ info₀ : List
             says-typed keys info type t {i = i} (sym (entry-place ∙ ap (placedOr notFound) p)) (omega (arith, few, f .0))
             ∙ typed-entry wired i (f .0) (f .2)
             ∙ ap (λ (x : Entry). saysOf x (t % 8)) (sym (f .1))
-
--- all entries of a valid schema are in them
-pub sound-valid : (sch : Schema) → badSchema sch ≡ none → soundOf sch ≡ sch .entries
-unfolding soundOf
-sound-valid sch valid = ap (λ (bad : Option ℕ). upTo bad (sch .entries)) valid
-
--- The same of the arrays that a reader clears: every key the largest number.
-pub made-says : (sch : Schema) → badSchema sch ≡ none → (info : List ℕ) → infoLength ≤ length info → (type t : ℕ) → type < mostTypes → 1 ≤ t / 8 → t < 2 ^ 32 → t % 8 ≤ fixed32Wire
-    → tableSays (keysWith 0 (sch .entries) (replicate keyCount noKey)) (infoWith 0 (sch .entries) info) type t ≡ says sch type t
-made-says sch valid info wide type t a b c d =
-    table-says sch valid (replicate keyCount noKey) info (length-replicate keyCount noKey) (λ i l. getD-replicate keyCount i noKey 0 l) wide type t a b c d
 
 -- ---- what is said is in range
 

@@ -4,7 +4,7 @@
 --     info[kindsAt + e]         the kind of entry e
 --     info[innersAt + e]        its child type, or `mayPack`
 -- Each is an `abbrev`: to the checker a name and its number are one and the same.
--- Assumes nothing: these are definitions.
+-- Assumes nothing: these are definitions. Public promises cite it.
 use Prim.Native.Nat.{ℕ}
 use Rattle.spec.specs.Names.{mostEntries}
 

@@ -1,5 +1,5 @@
 -- A search by halves. What is searched is any function from places to numbers, so that the same is said of the numbers of a schema and of
--- the keys of its tables. Assumes nothing: these are definitions.
+-- the keys of its tables. Assumes nothing: these are definitions. Public promises cite it.
 use Prim.Native.Nat.{ℕ, zero, suc, _+_, _*_, _/_}
 use mathlib.Core.Bool.{not}
 use mathlib.Core.List.{List}

@@ -1,19 +1,19 @@
 -- The tables of a schema, which a reader makes once for each call, and what they say of a tag. Any two arrays are tables: what they say is defined
 -- for all of them, and that those made of a valid schema say what the schema says is a law (proofs/TableLaws).
 -- How they are laid out, with the names of their places, is in specs/Layout.
--- Assumes nothing: these are definitions.
+-- Assumes nothing: these are definitions. Public promises cite it.
 use Prim.Native.Nat.{ℕ, _+_, _*_, _/_, _%_}
 use mathlib.Core.Bool.{Bool, not, _&&_}
 use mathlib.Core.List.{List, [], _∷_}
 use mathlib.Core.Option.{Option, none, some}
-use lib.ListN.{getD, set, take}
+use lib.ListN.{getD, replicate, set, take}
 use lib.Dec.{leb, ltb, eqb}
 use Rattle.spec.specs.Names.{delimitedWire, messageKind, mostTypes, packedHead}
 use Rattle.spec.specs.Base.{if_then_else_, between}
 use Rattle.spec.specs.Kind.{wire}
 use Rattle.spec.specs.Schema.{Schema, goodEntry, badSchema, entryStride, Says, unknownKind}
 use Rattle.spec.specs.declared.Entry.{Entry}
-use Rattle.schema.specs.Layout.{guessedTags, guesses, innersAt, keyCount, kindsAt, mayPack, mostNumbers, notFound, ownerUnit}
+use Rattle.schema.specs.Layout.{guessedTags, guesses, infoLength, innersAt, keyCount, kindsAt, mayPack, mostNumbers, noKey, notFound, ownerUnit}
 use Rattle.schema.specs.Search.{seek}
 
 -- ---- which entries are in them
@@ -71,6 +71,13 @@ keysWith = storing putKey
 
 abbrev pub infoWith : ℕ → List Entry → List ℕ → List ℕ
 infoWith = storing putInfo
+
+-- the tables of a schema: the entries before the first bad one, noted in cleared arrays
+unfoldable pub keysOf : Schema → List ℕ
+keysOf sch = keysWith 0 (soundOf sch) (replicate keyCount noKey)
+
+unfoldable pub infoOf : Schema → List ℕ
+infoOf sch = infoWith 0 (soundOf sch) (replicate infoLength 0)
 
 -- ---- asking them
 

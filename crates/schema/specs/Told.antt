@@ -1,4 +1,4 @@
--- What the answers of this crate say, in the terms of the definitions. Assumes nothing: these are definitions.
+-- What the answers of this crate say, in the terms of the definitions. Assumes nothing: these are definitions. Public promises cite it.
 use Prim.Native.Nat.{ℕ, _+_}
 use mathlib.Core.List.{List}
 use mathlib.Core.Option.{Option, none, some}

@@ -8,7 +8,7 @@ ghost use Rattle.spec.specs.Names.{childColumn, delimitedWire, mostTypes};
 ghost use Rattle.spec.specs.Schema.{goodEntry, badSchema, schemaOf};
 ghost use Rattle.schema.specs.Layout.{keyCount, notFound};
 ghost use Rattle.schema.specs.Search.{seek, findIn};
-ghost use Rattle.schema.specs.Tables.{counted, nextKey, innerIn, noted, soundOf, keysWith, infoWith, keyAt, entryFor, unknown, typed, tableSays};
+ghost use Rattle.schema.specs.Tables.{counted, nextKey, innerIn, noted, soundOf, keysWith, infoWith, keysOf, infoOf, keyAt, entryFor, unknown, typed, tableSays};
 ghost use Rattle.schema.specs.Told.{entry, fiveAt, badPlace, place, said};
 
 pub mod layout;
@@ -21,6 +21,7 @@ use crate::layout::KEYS;
 use crate::layout::KINDS_AT;
 use crate::layout::MAY_PACK;
 use crate::layout::MOST_NUMBERS;
+use crate::layout::NO_KEY;
 use crate::layout::NOT_FOUND;
 use crate::layout::OWNER_UNIT;
 use spec::columns::ENTRY_CHILD;
@@ -238,8 +239,14 @@ fn note(e: usize, f: Five, key: u64, w: u8, keys: &mut [u64; KEYS], info: &mut [
     }
 }
 
-// The tables of a schema; of the entries before the first bad one where it is not valid.
-pub fn tables(types: u32, numbers: &[u32], keys: &mut [u64; KEYS], info: &mut [u8; INFO]) -> Verdict
+// Adds the entries of a schema to arrays that the caller has just cleared; those before the first bad one where it is not valid. It leaves all else in
+// the arrays as it is, and is here for the calls of the library that make their arrays. `tables` is the call for users.
+pub fn note_entries(
+    types: u32,
+    numbers: &[u32],
+    keys: &mut [u64; KEYS],
+    info: &mut [u8; INFO],
+) -> Verdict
     ensures { λ r. ⌜ (badPlace r ≡ badSchema (schemaOf types (now (numbers .entry))))
         × (now (keys .exit) ≡ keysWith 0 (soundOf (schemaOf types (now (numbers .entry)))) (now (keys .entry)))
         × (now (info .exit) ≡ infoWith 0 (soundOf (schemaOf types (now (numbers .entry)))) (now (info .entry))) ⌝ }
@@ -263,6 +270,17 @@ pub fn tables(types: u32, numbers: &[u32], keys: &mut [u64; KEYS], info: &mut [u
         e += 1;
     }
     Verdict::Valid
+}
+
+// The tables of a schema, whatever the arrays held before; of the entries before the first bad one where it is not valid.
+pub fn tables(types: u32, numbers: &[u32], keys: &mut [u64; KEYS], info: &mut [u8; INFO]) -> Verdict
+    ensures { λ r. ⌜ (badPlace r ≡ badSchema (schemaOf types (now (numbers .entry))))
+        × (now (keys .exit) ≡ keysOf (schemaOf types (now (numbers .entry))))
+        × (now (info .exit) ≡ infoOf (schemaOf types (now (numbers .entry)))) ⌝ }
+{
+    *keys = [NO_KEY; KEYS];
+    *info = [0; INFO];
+    note_entries(types, numbers, keys, info)
 }
 
 // ---- asking them

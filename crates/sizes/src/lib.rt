@@ -1,4 +1,4 @@
-// Sizes, after src/rt of rust-protobuf. A size that could leave the limit is refused as too large, and nothing wraps on the way.
+// Sizes, as in src/rt of rust-protobuf. A size above the limit is refused as too large, and no sum wraps.
 ghost use mathlib.Core.Path.{_≡_};
 ghost use mir.Syntax.{w64};
 ghost use mir.Val.{ofZ};
@@ -105,7 +105,7 @@ fn coded_of(kind: u32, value: u64) -> u64
     }
 }
 
-// What stands behind the tag of a field of this kind, cut off above the limit; `value` is the pattern of a number, or the length of a content.
+// What comes after the tag of a field of this kind, cut off above the limit; `value` is the pattern of a number, or the length of a content.
 fn value_size(kind: u32, value: u64) -> u64
     ensures { λ r. ⌜ r ≡ capped (valueSize (shape kind) value) ⌝ }
 {

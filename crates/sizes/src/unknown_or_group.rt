@@ -1,4 +1,4 @@
-// The size of unknown fields: src/rt/unknown_or_group.rs. They stand in a list of records, STRIDE numbers each: depth, number, kind, value, start, end.
+// The size of unknown fields: src/rt/unknown_or_group.rs. They are in a list of records, STRIDE numbers each: depth, number, kind, value, start, end.
 ghost use mathlib.Core.Path.{_≡_};
 ghost use mathlib.Core.List.{[], _∷_};
 ghost use Prim.Native.Nat.{ℕ, _-_, _^_, _<_};
@@ -62,7 +62,7 @@ fn record_size(number: u64, kind: u64, value: u64, start: u64, stop: u64) -> u64
     tag_size64(number) + value_size(kind as u32, value_of(kind, value, start, stop))
 }
 
-// The sum of the records' sizes. A rest of fewer numbers than a record has counts nothing.
+// The sum of the records' sizes. A remainder of fewer numbers than a record has counts nothing.
 pub fn unknown_fields_size(records: &[u64]) -> Sized
     ensures { λ r. ⌜ sizeTold r ≡ unknownFieldsSize (recordsOf (now (records .entry))) ⌝ }
 {

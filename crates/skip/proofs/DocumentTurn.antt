@@ -1,4 +1,4 @@
--- One turn of the document check, in plain values. Assumes nothing.
+-- One iteration of the document check, in plain values. Assumes nothing.
 use Prim.Native.Nat.{ℕ, zero, suc, _+_, _-_, _/_, _%_, _≤_, _<_}
 use native.Mathlib.Omega.{arith}
 use native.Mathlib.Numerals.{add-one}
@@ -31,7 +31,7 @@ unfolding opened
 length-opened numbers zero = refl
 length-opened numbers (suc n) = ap suc (length-opened numbers n)
 
--- a number stored behind them is none of them
+-- a number stored after them is none of them
 opened-set : (numbers : List ℕ) (i v n : ℕ) → n ≤ i → opened (set numbers i v) n ≡ opened numbers n
 unfolding opened
 opened-set numbers i v zero h = refl
@@ -80,7 +80,7 @@ module _ {s numbers : List ℕ} {n at : ℕ} (h : Here s numbers n at) where
       go [] l e = absurd (omega arith)
       go (b ∷ u) l e = rw e refl
 
-  -- a tag, and the position behind it
+  -- a tag, and the position after it
   module _ (t next : ℕ) (r : Took t (next - at) ≡ tag (drop at s)) where
     pub bounds : Placed (top 4 15) s at t next
     bounds = tag-placed s at t next r

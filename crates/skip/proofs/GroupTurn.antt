@@ -1,4 +1,4 @@
--- One turn of the loop over a group's fields, in plain values. Assumes nothing.
+-- One iteration of the loop over a group's fields, in plain values. Assumes nothing.
 use Prim.Native.Nat.{ℕ, _+_, _-_, _%_, _≤_, _<_}
 use native.Mathlib.Omega.{arith}
 use mathlib.Core.Path.{_≡_, refl, sym, ap, _∙_}
@@ -18,7 +18,7 @@ use Rattle.skip.specs.declared.field.Past.the-variants.{To, Refused}
 use Rattle.skip.specs.Passed.{behind, atEnd}
 use Rattle.skip.proofs.PastLaws.{behind-longer, Behind, stands, behind-of, refused-of, refused-behind, tag-placed, drop-to}
 
--- the place behind a group whose fields stand at a position; e is what the end of the bytes means
+-- the place after a group whose fields stand at a position; e is what the end of the bytes means
 abbrev pub groupFrom : Read → ℕ → List ℕ → ℕ → Past
 groupFrom e level s at = behind at (skipGroup (length (drop at s)) e level (drop at s))
 
@@ -49,7 +49,7 @@ module _ {e : Read} {level : ℕ} {s : List ℕ} {from at : ℕ} (h : Here e lev
       go [] l r = absurd (omega arith)
       go (b ∷ u) l r = group-bad-tag e level b k u r
 
-  -- a tag, and the position behind it
+  -- a tag, and the position after it
   module _ (t next : ℕ) (r : Took t (next - at) ≡ tag (drop at s)) where
     pub bounds : Placed (top 4 15) s at t next
     bounds = tag-placed s at t next r
@@ -61,11 +61,11 @@ module _ {e : Read} {level : ℕ} {s : List ℕ} {from at : ℕ} (h : Here e lev
         let q : at + (next - at) ≡ next = omega arith in
         ap To (sym q) ∙ sym (h .rest ∙ ap (behind at) (group-closes e level (drop at s) t (next - at) (sym r) w))
 
-    -- the bytes behind the tag, as the laws of a group have them
+    -- the bytes after the tag, as the laws of a group have them
     behind-tag : drop (next - at) (drop at s) ≡ drop next s
     behind-tag = let b = bounds in drop-to at next s (omega arith)
 
-    -- the field behind the tag was skipped
+    -- the field after the tag was skipped
     module _ (w : t % 8 ≡ endGroupWire → ⊥) (p : Past) (f : p ≡ behind next (skipField innerGroup level (t % 8) (drop next s))) where
       pub lost : (k : ℕ) → p ≡ Refused k → p ≡ groupFrom e level s from
       lost k z =

@@ -1,4 +1,5 @@
 pub mod PastLaws
+pub mod SpanLaws
 pub mod VarintTurn
 pub mod GroupTurn
 pub mod SkipAnswers

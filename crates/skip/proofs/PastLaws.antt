@@ -1,4 +1,4 @@
--- Laws of a position behind what was read: of varints, fixed values and contents, and of one reading behind another.
+-- Laws of a position after what was read: of varints, fixed values and contents, and of one reading after another.
 -- Assumes nothing.
 use Prim.Native.Nat.{ℕ, zero, suc, _+_, _-_, _≤_, _<_}
 use native.Mathlib.Omega.{arith}
@@ -11,7 +11,7 @@ use lib.ListN.{length, drop, getD, length-drop}
 use lib.Seq.{drop-cons, drop-drop}
 use borrow.Author.Tests.{le-leb, lt-leb}
 use Rattle.spec.specs.Names.{badTag, endsEarly}
-use Rattle.spec.specs.Base.{Read, Took, No, longer, require, _>>=_, digit}
+use Rattle.spec.specs.Base.{Read, Took, No, longer, require, digit}
 use Rattle.spec.specs.Varint.{varint, varint32, fixed, tag, goodTag}
 use Rattle.spec.specs.Skip.{content}
 use Rattle.spec.proofs.Laws.{chosen}
@@ -47,7 +47,7 @@ module _ (k last at : ℕ) (s : List ℕ) (inside : at < length s) where
   pub ends-here : getD s at 0 < 128 → Ends 1 (varint (suc k) last (drop at s))
   ends-here h = rw (one-byte h) ends
 
-  -- and behind a byte that is not, the rest
+  -- and after a byte that is not, the rest
   pub behind-byte : 128 ≤ getD s at 0 → behind at (varint (suc k) last (drop at s)) ≡ behind (at + 1) (varint k last (drop (at + 1) s))
   behind-byte h =
       rw (drop-cons s at 0, varint-goes-on k last (getD s at 0) (drop (suc at) s) h) (behind-digit at 128 _ _ ∙ rw add-one refl)
@@ -69,15 +69,19 @@ fixed-short (suc n) (b ∷ s) h = ap (digit 256 b) (fixed-short n s (omega arith
 module _ (len : List ℕ → Read) (s : List ℕ) where
   module _ {m n : ℕ} (e : len s ≡ Took m n) where
     pub content-ends : n + m ≤ length s → Ends (n + m) (content len s)
-    unfolding content _>>=_ longer
+    unfolding content
     content-ends h = rw (e, le-leb (n + m) (length s) h) ends
 
+    pub content-took : n + m ≤ length s → content len s ≡ Took n (n + m)
+    unfolding content
+    content-took h = rw (e, le-leb (n + m) (length s) h) refl
+
     pub content-short : length s < n + m → content len s ≡ No endsEarly
-    unfolding content _>>=_ longer
+    unfolding content
     content-short h = rw (e, lt-leb (n + m) (length s) h) refl
 
   pub content-refused : {k : ℕ} → len s ≡ No k → content len s ≡ No k
-  unfolding content _>>=_
+  unfolding content
   content-refused e = rw e refl
 
 -- ---- a tag: the varint, if it is a good one
@@ -106,7 +110,7 @@ module _ (s : List ℕ) where
           chosen (λ x. Took t n ≡ x → Took t n ≡ Took v m) (goodTag v) (λ g q. q) (λ g q. let z : _≡_ {A = ℕ} 0 1 = cc in absurd (omega arith)) e
       go (No k) e = e
 
--- so the position that was told with it lies behind it and within the bytes, and it is below 2 ^ 32
+-- so the position that is returned with it lies after it and within the bytes, and it is below 2 ^ 32
 pub tag-placed : (s : List ℕ) (at t next : ℕ) → Took t (next - at) ≡ tag (drop at s) → Placed (top 4 15) s at t next
 tag-placed s at t next e = varint-placed 4 15 s at {f = Value t next} (tag-varint (drop at s) e) refl
 
@@ -121,7 +125,7 @@ unfolding behind longer
 behind-longer at n (Took v m) = ap To (sym (add-assoc at n m))
 behind-longer at n (No k) = refl
 
--- what was read, where the position behind it is known
+-- what was read, where the position after it is known
 pub data Behind (at next : ℕ) : Read → Type 0 where
   stands : {v n : ℕ} → at + n ≡ next → Behind at next (Took v n)
 
@@ -139,7 +143,7 @@ refused-of at k (No j) e = let q : k ≡ j = cc in ap No (sym q)
 pub drop-to : (at next : ℕ) (s : List ℕ) → at ≤ next → drop (next - at) (drop at s) ≡ drop next s
 drop-to at next s h = let q : at + (next - at) ≡ next = omega arith in drop-drop (next - at) at s ∙ ap (λ (i : ℕ). drop i s) q
 
--- a content whose length was told, and the bytes behind it
+-- a content whose length is known, and the bytes after it
 module _ (at m next : ℕ) (s : List ℕ) (e : Took m (next - at) ≡ varint32 (drop at s)) where
   pub length-placed : Placed (top 4 15) s at m next
   length-placed = varint-placed 4 15 s at {f = Value m next} e refl

@@ -2,21 +2,21 @@
 use Prim.Native.Nat.{ℕ, zero, suc, _+_, _-_, _%_, _≤_, _<_}
 use native.Mathlib.Omega.{arith}
 use mathlib.Core.Path.{_≡_, refl, sym, ap, ap₂, _∙_}
-use mathlib.Core.Bool.{true}
+use mathlib.Core.Bool.{Bool, true, false}
 use mathlib.Core.Logic.{inl}
 use mathlib.Core.List.{List, [], _∷_}
 use lib.ListN.{length, drop, length-drop}
-use lib.Dec.{eqb}
-use Rattle.spec.specs.Names.{endGroupWire, endsEarly}
-use Rattle.spec.specs.Base.{limit, Read, Took, No, refusal, taken, longer, _>>=_}
+use lib.Dec.{ltb, eqb}
+use borrow.Author.Tests.{ltb-false}
+use Rattle.spec.specs.Names.{badTag, endGroupWire, endsEarly, tooLarge}
+use Rattle.spec.specs.Base.{if_then_else_, limit, Read, Took, No, refusal, taken, longer, _>>=_}
 use Rattle.spec.specs.Varint.{tag, goodTag}
-use Rattle.spec.specs.Skip.{plain, skipField, skipGroup, innerGroup, outerGroup, skipFieldForTag, readUnknownOrSkipGroup}
+use Rattle.spec.specs.Skip.{plain, skipField, skipGroup, innerGroup, outerGroup, checked, skipFieldForTag, readUnknownOrSkipGroup}
 use Rattle.spec.proofs.Laws.{Takes, took, none, either-way, takes-tag, takes-weaker, takes-next}
-use Rattle.spec.proofs.SkipLaws.{takes-skipField, takes-skipGroup, group-step, outer-end, skip-long, skip-bad-tag, skip-plain, unknown-long, unknown-bad-tag}
+use Rattle.spec.proofs.SkipLaws.{takes-skipField, takes-skipGroup, group-step, outer-end, skip-plain}
 use Rattle.skip.specs.declared.field.Past.{Past}
 use Rattle.skip.specs.declared.field.Past.the-variants.{To, Refused}
 use Rattle.skip.specs.declared.unknown_or_group.Skipped.{Skipped}
-use Rattle.skip.specs.Checked.{Checked, long, bad, good}
 use Rattle.skip.specs.Passed.{past, behind}
 use Rattle.skip.proofs.PastLaws.{Behind, stands, behind-of}
 use Rattle.skip.proofs.GroupTurn.{no-value}
@@ -72,32 +72,36 @@ answer-past p (No k) e q = rw e at q
 
 -- ---- too many bytes, then a bad tag, then what the field says
 
-module _ {t : ℕ} {s : List ℕ} {k : ℕ} (c : Checked t s k) where
-  pub checked-skip : (level : ℕ) → 0 < k → skipFieldForTag t level s ≡ No k
-  checked-skip level h = go c h
+module _ (t : ℕ) (s : List ℕ) {k : ℕ} (c : k ≡ refusal (checked t s (Took 0 0))) where
+  refused-first : (r : Read) → 0 < k → checked t s r ≡ No k
+  unfolding refusal
+  refused-first r h = go (ltb limit (length s)) (goodTag t) c
     where
-      go : {k : ℕ} → Checked t s k → 0 < k → skipFieldForTag t level s ≡ No k
-      go (long l) h = skip-long t level s l
-      go (bad l g) h = skip-bad-tag t level s l g
-      go (good l g) h = absurd (omega arith)
+      go : (long good : Bool) → k ≡ refusal (if long then No tooLarge else if good then Took 0 0 else No badTag)
+          → (if long then No tooLarge else if good then r else No badTag) ≡ No k
+      go true b e = ap No (sym e)
+      go false false e = ap No (sym e)
+      go false true e = absurd (omega arith)
+
+  pub checked-skip : (level : ℕ) → 0 < k → skipFieldForTag t level s ≡ No k
+  unfolding skipFieldForTag
+  checked-skip level h = refused-first _ h
 
   pub checked-unknown : (level : ℕ) → 0 < k → readUnknownOrSkipGroup t level s ≡ No k
-  checked-unknown level h = go c h
-    where
-      go : {k : ℕ} → Checked t s k → 0 < k → readUnknownOrSkipGroup t level s ≡ No k
-      go (long l) h = unknown-long t level s l
-      go (bad l g) h = unknown-bad-tag t level s l g
-      go (good l g) h = absurd (omega arith)
+  unfolding readUnknownOrSkipGroup
+  checked-unknown level h = refused-first _ h
 
   pub checked-good : k ≤ 0 → (length s ≤ limit) × (goodTag t ≡ true)
-  checked-good h = go c h
+  unfolding refusal
+  checked-good h = go (ltb limit (length s)) (goodTag t) refl refl c
     where
-      go : {k : ℕ} → Checked t s k → k ≤ 0 → (length s ≤ limit) × (goodTag t ≡ true)
-      go (long l) h = absurd (omega arith)
-      go (bad l g) h = absurd (omega arith)
-      go (good l g) h = (l, g)
+      go : (long good : Bool) → ltb limit (length s) ≡ long → goodTag t ≡ good → k ≡ refusal (if long then No tooLarge else if good then Took 0 0 else No badTag)
+          → (length s ≤ limit) × (goodTag t ≡ true)
+      go true b p q e = absurd (omega arith)
+      go false false p q e = absurd (omega arith)
+      go false true p q e = (ltb-false limit (length s) p, q)
 
--- a value that is no group's, behind a good tag
+-- a value that is no group's, after a good tag
 pub value-answer : (t level q : ℕ) (s : List ℕ) → length s ≤ limit → goodTag t ≡ true → To q ≡ behind 0 (plain (t % 8) s)
     → (0 ≡ refusal (skipFieldForTag t level s)) × (q ≡ taken (skipFieldForTag t level s))
 value-answer t level q s h g e =

@@ -1,4 +1,4 @@
--- One turn of the loop over the bytes of a varint, of which only the position behind it is asked. Assumes nothing.
+-- One iteration of the loop over the bytes of a varint, of which only the position after it is asked. Assumes nothing.
 use Prim.Native.Nat.{ℕ, zero, suc, _+_, _-_, _≤_, _<_}
 use native.Mathlib.Omega.{arith}
 use mathlib.Core.Path.{_≡_, refl, sym, ap, _∙_}
@@ -13,7 +13,7 @@ use Rattle.skip.specs.declared.field.Past.the-variants.{To, Refused}
 use Rattle.skip.specs.Passed.{behind}
 use Rattle.skip.proofs.PastLaws.{ends-behind, ends-here, behind-byte, refused-behind}
 
--- n bytes are passed, and each said that another follows: what is behind all is what is behind the rest
+-- n bytes are passed, and each said that another follows: the position after all is the position after the rest
 pub record Along (s : List ℕ) (at n : ℕ) : Type 0 where
   pub few : n ≤ 9
   pub rest : behind at (varint64 (drop at s)) ≡ behind (at + n) (varint (9 - n) 1 (drop (at + n) s))

@@ -1,3 +1,3 @@
-pub mod Checked
 pub mod Opened
 pub mod Passed
+pub mod Spans

@@ -1,4 +1,4 @@
--- The groups that are open, as the document check keeps them. Assumes nothing: this is a definition.
+-- The groups that are open, as the document check keeps them. Assumes nothing: this is a definition. Only laws cite it.
 use Prim.Native.Nat.{ℕ, zero, suc}
 use mathlib.Core.List.{List, [], _∷_}
 use lib.ListN.{getD}

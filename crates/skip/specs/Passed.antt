@@ -1,5 +1,5 @@
 -- What the answers of skipping say, in the terms of the definitions.
--- Assumes nothing: these are definitions.
+-- Assumes nothing: these are definitions. Public promises cite it.
 use Prim.Native.Nat.{ℕ, _+_, _-_}
 use mathlib.Core.Bool.{Bool, true, false}
 use Rattle.spec.specs.Names.{endsEarly}
@@ -7,12 +7,12 @@ use Rattle.spec.specs.Base.{Read, Took, No}
 use Rattle.skip.specs.declared.field.Past.{Past}
 use Rattle.skip.specs.declared.field.Past.the-variants.{To, Refused}
 
--- what was skipped from a position on: as many bytes as lie before the place behind it, or the refusal's number
+-- what was skipped from a position on: as many bytes as lie before the place after it, or the refusal's number
 abbrev pub past : ℕ → Past → Read
 past at (To next) = Took 0 (next - at)
 past at (Refused k) = No k
 
--- the other way round: the place behind what was read at a position, whatever its value, or the refusal
+-- the other way round: the place after what was read at a position, whatever its value, or the refusal
 unfoldable pub behind : ℕ → Read → Past
 behind at (Took v n) = To (at + n)
 behind at (No k) = Refused k

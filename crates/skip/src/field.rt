@@ -1,4 +1,4 @@
-// A field that is no group: its tag, and the position behind its value.
+// A field that is no group: its tag, and the position after its value.
 ghost use mathlib.Core.Path.{_≡_};
 ghost use Prim.Native.Nat.{_<_, _≤_};
 ghost use lib.ListN.{length, drop};
@@ -16,7 +16,7 @@ use wire::varint::decode::decode_varint32;
 // The largest tenth byte of a varint.
 const LAST_OF_64: u8 = varint::LAST_OF_64 as u8;
 
-// What skipping at a position of a slice comes to: the position behind what was skipped, or the number of the refusal.
+// The answer of skipping at a position of a slice: the position after what was skipped, or the number of the refusal.
 pub enum Past {
     To(usize),
     Refused(u32),
@@ -60,7 +60,7 @@ fn long_tag(s: &[u8], at: usize) -> Found
 }
 
 // The values that are most frequent, with no call: varints of one to five bytes, fixed values, and contents whose length is one byte. The
-// position behind the value, or `at` itself where it is none of these or ends too soon, of which nothing is said.
+// position after the value, or `at` itself where it is none of these or ends too soon, which the general path decides.
 
 fn quick_varint(s: &[u8], at: usize) -> usize
     requires { ⌜ at ≤ length (now s) ⌝ }
@@ -130,7 +130,7 @@ pub(crate) fn quick_value(s: &[u8], at: usize, w: u64) -> usize
 
 // Any value, by its wire type.
 
-// A varint's value is of no use here, so its bytes are only looked at.
+// A varint's value is not needed here, so only the end of its bytes is found.
 fn past_varint(s: &[u8], at: usize) -> Past
     requires { ⌜ at ≤ length (now s) ⌝ }
     ensures { λ r. ⌜ r ≡ behind at (varint64 (drop at (now (s .entry)))) ⌝ }

@@ -2,10 +2,9 @@
 ghost use mathlib.Core.Path.{_≡_};
 ghost use Prim.Native.Nat.{_≤_};
 ghost use lib.ListN.{length, drop};
-ghost use Rattle.spec.specs.Base.{refusal, taken};
-ghost use Rattle.spec.specs.Skip.{skipField, skipGroup, innerGroup, outerGroup, skipFieldForTag, readUnknownOrSkipGroup};
+ghost use Rattle.spec.specs.Base.{Took, refusal, taken};
+ghost use Rattle.spec.specs.Skip.{skipField, skipGroup, innerGroup, outerGroup, checked, skipFieldForTag, readUnknownOrSkipGroup};
 ghost use Rattle.skip.specs.Passed.{past, behind, atEnd};
-ghost use Rattle.skip.specs.Checked.{Checked};
 use crate::field::Past;
 use crate::field::past_plain;
 use crate::field::quick_value;
@@ -19,14 +18,14 @@ use wire::found::Found;
 // The largest wire type, at a tag's width.
 const FIXED32: u32 = wire_types::FIXED32 as u32;
 
-// What a skip comes to: the refusal's number, 0 for none, and the bytes used, 0 on refusal.
+// The answer of a skip: the refusal's number, 0 for none, and the bytes used, 0 on refusal.
 pub struct Skipped {
     pub number: u32,
     pub used: usize,
 }
 
-// Skips the fields of a group from `from` on, and the end-group tag that closes it. A loop, so that the stack grows with the groups only;
-// what is no group's is passed in it, and skip_field is called for a group within.
+// Skips the fields of a group from `from` on, and the end-group tag that closes it. It is a loop, so that the stack grows with the groups only;
+// other fields are skipped in it, and skip_field is called for a group within.
 fn skip_group(s: &[u8], from: usize, level: u32, outer: bool) -> Past
     ensures { λ r. ⌜ r ≡ behind from (skipGroup (length (drop from (now (s .entry)))) (atEnd outer) level (drop from (now (s .entry)))) ⌝ }
 {
@@ -104,7 +103,7 @@ fn used_of(p: Past) -> Skipped
 
 // Before all else: the refusal of more bytes than may be read, then that of a bad tag; 0 where neither is so.
 fn checked(tag: u32, s: &[u8]) -> u32
-    ensures { λ r. ⌜ Checked tag (now (s .entry)) r ⌝ }
+    ensures { λ r. ⌜ r ≡ refusal (checked tag (now (s .entry)) (Took 0 0)) ⌝ }
 {
     if limits::MOST_BYTES < s.len() {
         return refusals::TOO_LARGE;
@@ -118,7 +117,7 @@ fn checked(tag: u32, s: &[u8]) -> u32
     refusals::BAD_TAG
 }
 
-// Skips the field behind a tag. Every group counts, and the end of the bytes closes all open groups.
+// Skips the field after a tag. Every group counts, and the end of the bytes closes all open groups.
 pub fn skip_field_for_tag(tag: u32, s: &[u8], level: u32) -> Skipped
     ensures { λ r. ⌜ (r .number ≡ refusal (skipFieldForTag tag level (now (s .entry)))) × (r .used ≡ taken (skipFieldForTag tag level (now (s .entry)))) ⌝ }
 {
@@ -134,7 +133,7 @@ pub fn skip_field_for_tag(tag: u32, s: &[u8], level: u32) -> Skipped
     used_of(skip_field(s, 0, w, level))
 }
 
-// Skips the field behind the tag of an unknown field, as the message loop does: its outermost group is not counted.
+// Skips the field after the tag of an unknown field, as the message loop does: its outermost group is not counted.
 pub fn read_unknown_or_skip_group(tag: u32, s: &[u8], level: u32) -> Skipped
     ensures { λ r. ⌜ (r .number ≡ refusal (readUnknownOrSkipGroup tag level (now (s .entry)))) × (r .used ≡ taken (readUnknownOrSkipGroup tag level (now (s .entry)))) ⌝ }
 {

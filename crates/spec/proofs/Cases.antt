@@ -13,7 +13,7 @@ use Rattle.spec.specs.Kind.{kindWires, ownWires, wires, wire, shapes, sh
 use Rattle.spec.specs.Schema.{Schema, goodEntry, badEntry, badSchema, lookup, unknownKind, kindOf, says, saysOf}
 use Rattle.spec.specs.Skip.{content, plain, skipField, skipGroup, skipFieldForTag}
 use Rattle.spec.specs.Record.{numbers}
-use Rattle.spec.specs.Reading.{given, shaped, field, used, _followed-by_, element, elements, contents, records, fields, read, within, refusedOr, reading, number, place, listed}
+use Rattle.spec.specs.Reading.{given, shaped, field, used, _followed-by_, element, elements, contents, records, fields, read, within, refusedOr, called, readingBy, readingAs, reading, number, place, listed}
 use Rattle.spec.specs.declared.Entry.{Entry}
 
 abbrev entry : ℕ → ℕ → ℕ → Bool → ℕ → Entry
@@ -88,7 +88,7 @@ cases =
     ∷ []
 
 pub all-right : map (λ (c : Case). c .is) cases ≡ map (λ (c : Case). c .should) cases
-unfolding cases schemaA schemaB meaning require longer _>>=_ digit varint unzigzag fixed tag lead followers behind char chars validPrefix kindWires ownWires wires wire shapes shape isScalar extend scalar goodEntry badEntry badSchema lookup unknownKind kindOf says saysOf content plain skipField skipGroup skipFieldForTag given shaped field used _followed-by_ element elements contents records fields read within refusedOr reading number place listed numbers
+unfolding cases schemaA schemaB meaning require longer _>>=_ digit varint unzigzag fixed tag lead followers behind char chars validPrefix kindWires ownWires wires wire shapes shape isScalar extend scalar goodEntry badEntry badSchema lookup unknownKind kindOf says saysOf content plain skipField skipGroup skipFieldForTag given shaped field used _followed-by_ element elements contents records fields read within refusedOr called readingBy readingAs reading number place listed numbers
 all-right = refl
 
 -- ---- the numbers that the rules give to the names of specs/Names

@@ -1,4 +1,4 @@
--- Laws of records as numbers: what was stored is loaded again, but for the tags' places, which writing does not look at; and the equations of
+-- Laws of records as numbers: what was stored is loaded again, but for the tags' places, which writing ignores; and the equations of
 -- `recordsOf` with no count. Assumes nothing.
 use Prim.Native.Nat.{ℕ, zero, suc, _+_, _≤_, _<_}
 use native.Mathlib.Omega.{arith}
@@ -30,7 +30,7 @@ records-enough (suc f) (suc g) (n ∷ ns) hf hg =
     ap (λ (rs : List Record). if ltb (length (n ∷ ns)) stride then broken ∷ [] else loaded (n ∷ ns) ∷ rs)
     (records-enough f g (drop stride (n ∷ ns)) (omega (arith, length-drop stride (n ∷ ns))) (omega (arith, length-drop stride (n ∷ ns))))
 
--- none; a rest that is too short; and else the first, and those of the rest
+-- none; a remainder that is too short; and else the first, and those of the rest
 pub records-nil : recordsOf [] ≡ []
 unfolding recordsOf recordsUpTo
 records-nil = refl

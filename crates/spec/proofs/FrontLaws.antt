@@ -1,4 +1,4 @@
--- What is read depends only on the bytes it takes: those bytes, with anything behind them, read the same. So it is for numbers, for contents, for
+-- What is read depends only on the bytes it takes: those bytes, with anything after them, read the same. So it is for numbers, for contents, for
 -- groups that a tag closed and for whole fields; and of a field of bytes, the content may be any of the same length.
 -- Assumes nothing.
 use Prim.Native.Nat.{ℕ, zero, suc, _+_, _-_, _/_, _%_, _≤_, _<_}
@@ -15,14 +15,14 @@ use Rattle.spec.specs.Base.{if_then_else_, part, Read, Took, No, refusal
 use Rattle.spec.specs.Varint.{varint, fixed, tag, varint32, varint64}
 use Rattle.spec.specs.Utf8.{utf8}
 use Rattle.spec.specs.Kind.{Scalar, int32, uint32, uint64, bool, sint32, sint64, fixed32, sfixed32, fixed64, Shape, one, other, string, bytes, message, packed, startGroup, endGroup, nothing, shape, scalar}
-use Rattle.spec.specs.Skip.{content, plain, skipField, skipGroup, innerGroup, outerGroup}
-use Rattle.spec.specs.Reading.{Look, Field, Value, Message, Packed, Dropped, Fault, given, shaped, field, used}
+use Rattle.spec.specs.Skip.{content, spanned, plain, skipField, skipGroup, innerGroup, outerGroup}
+use Rattle.spec.specs.Reading.{Mode, Look, Field, Value, Message, Packed, Dropped, Fault, given, shaped, field, used}
 use Rattle.spec.proofs.Laws.{either-way, chosen, Takes, took, none, takes-tag}
 use Rattle.spec.proofs.SkipLaws.{takes-skipField, takes-skipGroup, group-step}
 use Rattle.spec.proofs.VarintLaws.{lower-or-not}
 use Rattle.spec.proofs.FieldLaws.{message-head, message-too-deep}
 
--- what p reads in s it reads again in the bytes that it took, with u behind them
+-- what p reads in s it reads again in the bytes that it took, with u after them
 pub data Again (p : List ℕ → Read) (s u : List ℕ) : Read → Type 0 where
   again : {v n : ℕ} → p (take n s ++ u) ≡ Took v n → Again p s u (Took v n)
   not-read : {k : ℕ} → Again p s u (No k)
@@ -91,26 +91,26 @@ again-scalar fixed64 s u = again-fixed _ s u
 front-parts : (n m : ℕ) (s u : List ℕ) → take (n + m) s ++ u ≡ take n s ++ (take m (drop n s) ++ u)
 front-parts n m s u = ap (λ (x : List ℕ). x ++ u) (take-add n m s) ∙ append-assoc (take n s) (take m (drop n s)) u
 
--- A content is found by its length: behind that, any bytes will do that are enough.
+-- A content is found by its length: after that, any bytes will do that are enough.
 pub data Found (p : List ℕ → Read) (s : List ℕ) : Read → Type 0 where
   found : {a m : ℕ} → a + m ≤ length s → ((y : List ℕ) → m ≤ length y → p (take a s ++ y) ≡ Took a (a + m)) → Found p s (Took a (a + m))
   not-found : {k : ℕ} → Found p s (No k)
 
 pub content-found : (k last : ℕ) (s : List ℕ) → Found (content (varint k last)) s (content (varint k last) s)
-unfolding content _>>=_ longer
+unfolding content
 content-found k last s = go (varint k last s) (λ t. again-varint k last s t)
   where
     go : (r : Read) → ((t : List ℕ) → Again (varint k last) s t r)
-        → Found (content (varint k last)) s (r >>= λ m n. if leb (n + m) (length s) then Took n m else No endsEarly)
+        → Found (content (varint k last)) s (spanned (length s) r)
     go (No j) f = not-found
     go (Took m n) f =
-        chosen (λ (x : Read). Found (content (varint k last)) s (longer n x)) (leb (n + m) (length s))
+        chosen (Found (content (varint k last)) s) (leb (n + m) (length s))
         (λ t.
         let h : n + m ≤ length s = leb-true (n + m) (length s) t in
         found h λ y l.
         let x : List ℕ = take n s ++ y in
-        ap (λ (r : Read). r >>= λ m n. if leb (n + m) (length x) then Took n m else No endsEarly) (again-read (f y))
-        ∙ ap (λ (c : Bool). longer n (if c then Took n m else No endsEarly))
+        ap (spanned (length x)) (again-read (f y))
+        ∙ ap (λ (c : Bool). if c then Took n (n + m) else No endsEarly)
         (le-leb (n + m) (length x) (omega (arith, length-append (take n s) y, length-take-le n s (omega arith)))))
         (λ t. not-found)
 
@@ -133,14 +133,14 @@ again-plain w s u =
 
 -- ---- groups
 
--- A group that was read was closed by a tag: what it took is then read the same with anything behind it. Or the end of the bytes closed it,
+-- A group that was read was closed by a tag: what it took is then read the same with anything after it. Or the end of the bytes closed it,
 -- where that is no refusal: it then took them all.
 pub data Closed (atEnd : Read) (p : List ℕ → Read) (s : List ℕ) : Read → Type 0 where
   by-tag : {v n : ℕ} → ((u : List ℕ) → p (take n s ++ u) ≡ Took v n) → Closed atEnd p s (Took v n)
   by-end : {v n : ℕ} → refusal atEnd ≡ 0 → length s ≤ n → Closed atEnd p s (Took v n)
   not-closed : {k : ℕ} → Closed atEnd p s (No k)
 
--- the fields of a group, with no count, and what they are behind the first tag
+-- the fields of a group, with no count, and what they are after the first tag
 abbrev inGroup : Read → ℕ → List ℕ → Read
 inGroup atEnd level s = skipGroup (length s) atEnd level s
 
@@ -162,7 +162,7 @@ module _ (atEnd : Read) where
   closed-choice s true p q f g = f
   closed-choice s false p q f g = g
 
-  -- where p reads q behind the first n bytes
+  -- where p reads q after the first n bytes
   closed-behind : (p q : List ℕ → Read) (s : List ℕ) (n : ℕ) → ((y : List ℕ) → p (take n s ++ y) ≡ longer n (q y))
       → {r : Read} → Closed atEnd q (drop n s) r → Closed atEnd p s (longer n r)
   unfolding longer
@@ -247,7 +247,7 @@ again-outerGroup level s u = go (group-closed (No endsEarly) level s)
     go (by-end e h) = absurd (omega arith)
     go not-closed = not-read
 
--- The same for equations. A front part that was taken whole is read with anything behind it, and what was taken is read alone.
+-- The same for equations. A front part that was taken whole is read with anything after it, and what was taken is read alone.
 module _ (p : List ℕ → Read) (law : (s u : List ℕ) → Again p s u (p s)) (bound : (s : List ℕ) → Takes 0 (length s) (p s)) where
   pub front : (a u : List ℕ) (v : ℕ) → p a ≡ Took v (length a) → p (a ++ u) ≡ Took v (length a)
   front a u v e = ap (λ (x : List ℕ). p (x ++ u)) (sym (take-length a)) ∙ again-read (subst (Again p a u) e (law a u))
@@ -265,7 +265,7 @@ module _ (p : List ℕ → Read) (law : (s u : List ℕ) → Again p s u (p s)) 
 
 -- ---- fields
 
--- a part of the first n bytes, with anything behind them
+-- a part of the first n bytes, with anything after them
 pub part-front : (a e n : ℕ) (s u : List ℕ) → a ≤ e → e ≤ n → n ≤ length s → part a e (take n s ++ u) ≡ part a e s
 part-front a e n s u h j l = in-front u ∙ sym (in-front (drop n s)) ∙ ap (part a e) (take-append-drop n s)
   where
@@ -275,7 +275,7 @@ part-front a e n s u h j l = in-front u ∙ sym (in-front (drop n s)) ∙ ap (pa
         ap (take (e - a)) (drop-append-le a (take n s) y (omega arith))
         ∙ take-append-le (e - a) (drop a (take n s)) y (omega (arith, length-drop a (take n s)))
 
--- What g reads in s, behind a tag of n bytes, it reads again in the bytes that it took, with u behind them.
+-- What g reads in s, after a tag of n bytes, it reads again in the bytes that it took, with u after them.
 data Kept (n : ℕ) (g : List ℕ → Field) (s u : List ℕ) : Field → Type 0 where
   kept : {x : Field} (l : ℕ) → used x ≡ n + l → g (take l s ++ u) ≡ x → Kept n g s u x
   faulty : {k p : ℕ} → Kept n g s u (Fault k p)
@@ -314,25 +314,26 @@ kept-behind f g n s u h (kept l e q) some =
 kept-behind f g n s u h faulty some = absurd (omega arith)
 
 -- by the shape of the field
-shaped-kept : (x : Shape) (depth inner m kind n : ℕ) (s u : List ℕ) → Kept n (shaped x depth inner m kind n) s u (shaped x depth inner m kind n s)
+shaped-kept : (mode : Mode) (x : Shape) (depth inner m kind n : ℕ) (s u : List ℕ) → Kept n (shaped mode x depth inner m kind n) s u (shaped mode x depth inner m kind n s)
 unfolding shaped used
-shaped-kept (one c) depth inner m kind n s u = kept-given n s u _ _ (λ v l. refl) (again-scalar c s u)
-shaped-kept (other string) depth inner m kind n s u = kept-string n s u _ utf8 _ (λ a z. refl) (content-found _ _ s)
-shaped-kept (other bytes) depth inner m kind n s u = kept-given n s u _ _ (λ a z. refl) (again-content _ _ s u)
-shaped-kept (other message) depth inner m kind n s u =
+shaped-kept mode (one c) depth inner m kind n s u = kept-given n s u _ _ (λ v l. refl) (again-scalar c s u)
+shaped-kept mode (other string) depth inner m kind n s u = kept-string n s u _ utf8 _ (λ a z. refl) (content-found _ _ s)
+shaped-kept mode (other bytes) depth inner m kind n s u = kept-given n s u _ _ (λ a z. refl) (again-content _ _ s u)
+shaped-kept mode (other message) depth inner m kind n s u =
     lower-or-not depth mostLevels
-    (λ c. kept-same n s u _ _ (λ x. message-head depth inner m kind n x c) (kept-given n s u _ _ (λ a z. refl) (again-content _ _ s u)))
-    (λ c. subst (Kept n _ s u) (sym (message-too-deep depth inner m kind n s c)) faulty)
-shaped-kept (other packed) depth inner m kind n s u = kept-given n s u _ _ (λ a z. refl) (again-content _ _ s u)
-shaped-kept (other startGroup) depth inner m kind n s u = kept-given n s u _ _ (λ v l. refl) (again-outerGroup depth s u)
-shaped-kept (other endGroup) depth inner m kind n s u = faulty
-shaped-kept (other nothing) depth inner m kind n s u = faulty
+    (λ c. kept-same n s u _ _ (λ x. message-head mode depth inner m kind n x c) (kept-given n s u _ _ (λ a z. refl) (again-content _ _ s u)))
+    (λ c. subst (Kept n _ s u) (sym (message-too-deep mode depth inner m kind n s c)) faulty)
+shaped-kept mode (other packed) depth inner m kind n s u = kept-given n s u _ _ (λ a z. refl) (again-content _ _ s u)
+shaped-kept mode (other startGroup) depth inner m kind n s u = kept-given n s u _ _ (λ v l. refl) (again-outerGroup depth s u)
+shaped-kept mode (other endGroup) depth inner m kind n s u = faulty
+shaped-kept mode (other nothing) depth inner m kind n s u = faulty
 
 module _ (look : Look) (depth type : ℕ) where
-  -- the field behind a tag t of n bytes
+  -- the field after a tag t of n bytes
   abbrev behind : ℕ → ℕ → List ℕ → Field
   behind t n s =
-      shaped (shape (look type t .kind)) depth (look type t .inner) (t / 8) (look type t .kind) n s
+      let x = look .says type t in
+      shaped (look .mode) (shape (x .kind)) depth (x .inner) (t / 8) (x .kind) n s
 
   field-behind : (s : List ℕ) (t n : ℕ) → n ≤ length s → (y : List ℕ) → Again tag s y (Took t n) → field look depth type (take n s ++ y) ≡ behind t n y
   unfolding field given
@@ -340,7 +341,7 @@ module _ (look : Look) (depth type : ℕ) where
       ap (λ (r : Read). given r λ t i. behind t i (drop i (take n s ++ y))) (again-read f)
       ∙ ap (behind t n) (drop-at (take n s) y n (length-take-le n s h))
 
-  -- A field that is no fault, and so takes some bytes, is the same with anything behind them.
+  -- A field that is no fault, and so takes some bytes, is the same with anything after them.
   pub again-field : (s u : List ℕ) → 1 ≤ used (field look depth type s)
       → field look depth type (take (used (field look depth type s)) s ++ u) ≡ field look depth type s
   unfolding field given used
@@ -349,7 +350,7 @@ module _ (look : Look) (depth type : ℕ) where
       go : (r : Read) → Takes 1 (length s) r → ((y : List ℕ) → Again tag s y r) → 1 ≤ used (given r λ t n. behind t n (drop n s))
           → field look depth type (take (used (given r λ t n. behind t n (drop n s))) s ++ u) ≡ given r (λ t n. behind t n (drop n s))
       go (Took t n) (took h j) f =
-          kept-behind (field look depth type) (behind t n) n s u (λ y. field-behind s t n j y (f y)) (shaped-kept _ depth _ (t / 8) _ n (drop n s) u)
+          kept-behind (field look depth type) (behind t n) n s u (λ y. field-behind s t n j y (f y)) (shaped-kept (look .mode) _ depth _ (t / 8) _ n (drop n s) u)
       go (No k) none f = λ h. absurd (omega arith)
 
 -- ---- a content of bytes
@@ -367,29 +368,29 @@ unfolding given
 of-given (Took v n) f h = h v n
 of-given (No j) f h = of-fault
 
-shaped-of : (x : Shape) (depth inner m k n : ℕ) (s : List ℕ) → Of k (shaped x depth inner m k n s)
+shaped-of : (mode : Mode) (x : Shape) (depth inner m k n : ℕ) (s : List ℕ) → Of k (shaped mode x depth inner m k n s)
 unfolding shaped
-shaped-of (one c) depth inner m k n s = of-given _ _ λ v l. of-value
-shaped-of (other string) depth inner m k n s = of-given _ _ λ a z. either-way (Of k) (utf8 (part a z s)) of-value of-fault
-shaped-of (other bytes) depth inner m k n s = of-given _ _ λ a z. of-value
-shaped-of (other message) depth inner m k n s =
+shaped-of mode (one c) depth inner m k n s = of-given _ _ λ v l. of-value
+shaped-of mode (other string) depth inner m k n s = of-given _ _ λ a z. either-way (Of k) (utf8 (part a z s)) of-value of-fault
+shaped-of mode (other bytes) depth inner m k n s = of-given _ _ λ a z. of-value
+shaped-of mode (other message) depth inner m k n s =
     lower-or-not depth mostLevels
-    (λ c. subst (Of k) (sym (message-head depth inner m k n s c)) (of-given _ _ λ a z. of-message))
-    (λ c. subst (Of k) (sym (message-too-deep depth inner m k n s c)) of-fault)
-shaped-of (other packed) depth inner m k n s = of-given _ _ λ a z. of-packed
-shaped-of (other startGroup) depth inner m k n s = of-given _ _ λ v l. of-dropped
-shaped-of (other endGroup) depth inner m k n s = of-fault
-shaped-of (other nothing) depth inner m k n s = of-fault
+    (λ c. subst (Of k) (sym (message-head mode depth inner m k n s c)) (of-given _ _ λ a z. of-message))
+    (λ c. subst (Of k) (sym (message-too-deep mode depth inner m k n s c)) of-fault)
+shaped-of mode (other packed) depth inner m k n s = of-given _ _ λ a z. of-packed
+shaped-of mode (other startGroup) depth inner m k n s = of-given _ _ λ v l. of-dropped
+shaped-of mode (other endGroup) depth inner m k n s = of-fault
+shaped-of mode (other nothing) depth inner m k n s = of-fault
 
--- What g reads in s, behind a tag of n bytes, is a content that it does not look at: behind where that starts, any bytes will do that are enough.
+-- What g reads in s, after a tag of n bytes, is a content that it ignores: from where that starts on, any bytes will do that are enough.
 data Unseen (n : ℕ) (g : List ℕ → Field) (s : List ℕ) : Field → Type 0 where
   unseen : {m k v : ℕ} (a l : ℕ) → ((y : List ℕ) → l ≤ length y → g (take a s ++ y) ≡ Value m k v (n + a) (n + (a + l)))
       → Unseen n g s (Value m k v (n + a) (n + (a + l)))
   faulty : {k p : ℕ} → Unseen n g s (Fault k p)
 
-bytes-unseen : (depth inner m k n : ℕ) (s : List ℕ) → Unseen n (shaped (other bytes) depth inner m k n) s (shaped (other bytes) depth inner m k n s)
+bytes-unseen : (mode : Mode) (depth inner m k n : ℕ) (s : List ℕ) → Unseen n (shaped mode (other bytes) depth inner m k n) s (shaped mode (other bytes) depth inner m k n s)
 unfolding shaped given
-bytes-unseen depth inner m k n s = go (content-found _ _ s)
+bytes-unseen mode depth inner m k n s = go (content-found _ _ s)
   where
     go : {r : Read} → Found (content varint32) s r
         → Unseen n (λ x. given (content varint32 x) λ a z. Value m k 0 (n + a) (n + z)) s (given r λ a z. Value m k 0 (n + a) (n + z))
@@ -404,7 +405,7 @@ same-kind : {m j k v a e : ℕ} → Of k (Value m j v a e) → k ≡ j
 same-kind of-value = refl
 
 module _ (look : Look) (depth type : ℕ) where
-  -- Where a field's kind is that of bytes, the bytes before its content say what it is: behind them, any bytes will do that are enough.
+  -- Where a field's kind is that of bytes, the bytes before its content say what it is: after them, any bytes will do that are enough.
   pub any-content : (s : List ℕ) (m kind v a e : ℕ) → field look depth type s ≡ Value m kind v a e → shape kind ≡ other bytes
       → (y : List ℕ) → e - a ≤ length y → field look depth type (take a s ++ y) ≡ Value m kind v a e
   unfolding field given
@@ -413,11 +414,11 @@ module _ (look : Look) (depth type : ℕ) where
       go : (r : Read) → Takes 1 (length s) r → ((x : List ℕ) → Again tag s x r) → given r (λ t n. behind look depth type t n (drop n s)) ≡ Value m kind v a e
           → field look depth type (take a s ++ y) ≡ Value m kind v a e
       go (Took t n) (took h j) f p =
-          let i : ℕ = look type t .inner in
-          let k : ℕ = look type t .kind in
-          let g : Shape → List ℕ → Field = λ x. shaped x depth i (t / 8) k n in
-          let is : shape k ≡ other bytes = ap shape (same-kind (subst (Of k) p (shaped-of (shape k) depth i (t / 8) k n (drop n s)))) ∙ q in
+          let i : ℕ = look .says type t .inner in
+          let k : ℕ = look .says type t .kind in
+          let g : Shape → List ℕ → Field = λ x. shaped (look .mode) x depth i (t / 8) k n in
+          let is : shape k ≡ other bytes = ap shape (same-kind (subst (Of k) p (shaped-of (look .mode) (shape k) depth i (t / 8) k n (drop n s)))) ∙ q in
           unseen-behind (field look depth type) (g (shape k)) n s (λ x. field-behind look depth type s t n j x (f x))
           (subst (Unseen n (g (shape k)) (drop n s)) p
-          (subst (λ (x : Shape). Unseen n (g x) (drop n s) (g x (drop n s))) (sym is) (bytes-unseen depth i (t / 8) k n (drop n s)))) y l
+          (subst (λ (x : Shape). Unseen n (g x) (drop n s) (g x (drop n s))) (sym is) (bytes-unseen (look .mode) depth i (t / 8) k n (drop n s)))) y l
       go (No k) none f p = cc

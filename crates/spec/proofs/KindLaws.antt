@@ -71,7 +71,7 @@ scalar-encoded fixed32 v s h = fixed-little 4 v s ∙ ap₂ Took (mod-eq-of-lt (
 scalar-encoded sfixed32 v s h = ap (meaning extend) (fixed-little 4 v s) ∙ ap₂ Took (extend-back (signed-of v h)) (sym (length-little 4 v))
 scalar-encoded fixed64 v s h = fixed-little 8 v s ∙ ap₂ Took (mod-eq-of-lt (ltb-true v (2 ^ 64) h)) (sym (length-little 8 v))
 
--- ---- the wire type is said by the shape
+-- ---- the shape gives the wire type
 
 unfoldable pub wireOne : Scalar → ℕ
 wireOne int32 = 0

@@ -19,3 +19,6 @@ pub mod TreeLaws
 pub mod SizeLaws
 pub mod RunLaws
 pub mod Cases
+pub mod LeastLaws
+pub mod MadeLaws
+pub mod ValidLaws

@@ -13,13 +13,13 @@ use Rattle.spec.specs.Names.{fixed32Wire, largestNumber, messageKind, mo
 use Rattle.spec.specs.Base.{if_then_else_, between, part, limit}
 use Rattle.spec.specs.Utf8.{utf8}
 use Rattle.spec.specs.Kind.{Scalar, Shape, Special, one, other, string, bytes, message, packed, startGroup, endGroup, nothing, shapes, shape, wire, isScalar, encoded, fits}
-use mathlib.Core.Option.{none}
-use Rattle.spec.specs.Schema.{Schema, badSchema, lookup, unknownKind, kindOf, says}
+use mathlib.Core.Option.{Option, none, some}
+use Rattle.spec.specs.Schema.{Schema, badSchema, lookup, unknownKind, kindOf}
 use Rattle.spec.proofs.Laws.{both, by-test}
 use Rattle.spec.specs.Record.{Record, deeper}
 use Rattle.spec.specs.declared.Entry.{Entry}
-use Rattle.spec.specs.Reading.{Done, read, after}
-use Rattle.spec.specs.Writing.{prefixed, body, tagOf, bytesOf, written, Place, Fields, Elements, recorded, expected, lies, fitting, nextDeeper, around, inside, recordFault, Verdict, Fine, orElse, listFault}
+use Rattle.spec.specs.Reading.{Mode, looking, Done, read, after}
+use Rattle.spec.specs.Writing.{prefixed, body, tagOf, bytesOf, written, Place, Fields, Elements, recorded, expected, lies, fitting, nextDeeper, around, inside, recordFault, Verdict, Fine, orElse, listFault, schemaFirst}
 use Rattle.spec.proofs.VarintLaws.{lower-or-not}
 use Rattle.spec.proofs.SchemaLaws.{schema-kinds}
 use Rattle.spec.proofs.WritingLaws.{bytesIn, bytes-cons}
@@ -39,6 +39,12 @@ pass false k y e = absurd (omega arith)
 pass-not : (b : Bool) (k y : ℕ) → (if b then suc k else y) ≡ 0 → (b ≡ false) × (y ≡ 0)
 pass-not true k y e = absurd (omega arith)
 pass-not false k y e = (refl, e)
+
+-- a list that is accepted: the schema is valid, and no record has a fault
+pub accepted : (bad : Option ℕ) (v : Verdict) → schemaFirst bad v ≡ Fine → (bad ≡ none) × (v ≡ Fine)
+unfolding schemaFirst
+accepted none v e = (refl, e)
+accepted (some i) v e = let z : _≡_ {A = ℕ} 0 1 = cc in absurd (omega arith)
 
 -- ---- which kind has a shape: one test of the table
 
@@ -130,7 +136,7 @@ deeper-run d (y ∷ ys) over-nil l = ap (λ (b : Bool). if b then deeper d ys + 
 deeper-run d ys (over-cons {r} {rs} h a) l =
     ap (λ (b : Bool). if b then deeper d (rs ++ ys) + 1 else 0) (lt-ltb d (r .depth) (omega arith)) ∙ omega (arith, deeper-run d ys a l)
 
--- the bytes of a record, of those in it and of those behind it
+-- the bytes of a record, of those in it and of those after it
 pub bytes-run : (tags : Bool) (payload : List ℕ) (r : Record) (xs ys : List Record) → Over (r .depth + 1) xs → Low (r .depth + 1) ys
     → bytesIn tags payload (r ∷ (xs ++ ys))
     ≡ tagOf tags r ++ body (shape (r .kind)) payload r (bytesIn (not (eqb (r .kind) packedHead)) payload xs) ++ bytesIn tags payload ys
@@ -255,7 +261,7 @@ module _ (sch : Schema) (payload : List ℕ) where
     j : ℕ
     fine : listFault sch payload j (Elements m k ∷ out) rest ≡ Fine
 
-  -- a record with none deeper behind it
+  -- a record with none deeper after it
   bytes-leaf : (tags : Bool) (r : Record) (ys : List Record) → Low (r .depth + 1) ys
       → bytesIn tags payload (r ∷ ys) ≡ tagOf tags r ++ body (shape (r .kind)) payload r (bytesIn (not (eqb (r .kind) packedHead)) payload []) ++ bytesIn tags payload ys
   bytes-leaf tags r ys l = bytes-run tags payload r [] ys over-nil l
@@ -306,7 +312,7 @@ module _ (sch : Schema) (payload : List ℕ) where
     j : ℕ
     fine : listFault sch payload j (Fields t ∷ out) rest ≡ Fine
 
-  -- r, with none in it, in front of what was grown behind it
+  -- r, with none in it, in front of what was grown after it
   leaf : (t : ℕ) (out : List Place) (r : Record) (rs : List Record) → r .depth ≡ length out → (b : List ℕ)
       → body (shape (r .kind)) payload r (bytesIn (not (eqb (r .kind) packedHead)) payload []) ≡ b
       → ((g : Grown t out rs) → Tree sch payload t (length out) (r ∷ g .xs) (tagBytes r ++ b ++ bytesIn true payload (g .xs)))
@@ -327,7 +333,7 @@ module _ (sch : Schema) (payload : List ℕ) where
         fine = g .fine;
       }
 
-  -- a head r, with the records xs in it, in front of what was grown behind them
+  -- a head r, with the records xs in it, in front of what was grown after them
   headed : (t : ℕ) (out : List Place) (r : Record) (xs rest : List Record) → r .depth ≡ length out → Over (length out + 1) xs → (i : List ℕ)
       → body (shape (r .kind)) payload r (bytesIn (not (eqb (r .kind) packedHead)) payload xs) ≡ prefixed i
       → ((g : Grown t out rest) → Tree sch payload t (length out) (r ∷ (xs ++ g .xs)) (tagBytes r ++ prefixed i ++ bytesIn true payload (g .xs)))
@@ -477,8 +483,8 @@ module _ (sch : Schema) (payload : List ℕ) where
 
 -- ---- what is written reads back as the list: the same depths, numbers, kinds, values and contents, and no refusal
 
-pub round-trip : (sch : Schema) (payload : List ℕ) (rs : List Record) → badSchema sch ≡ none → listFault sch payload 0 (Fields 0 ∷ []) rs ≡ Fine
+pub round-trip : (mode : Mode) (sch : Schema) (payload : List ℕ) (rs : List Record) → badSchema sch ≡ none → listFault sch payload 0 (Fields 0 ∷ []) rs ≡ Fine
     → length (written payload rs) ≤ limit
-    → (qs : List Record) × (read (says sch) 0 0 0 (written payload rs) ≡ after qs Done) × Alike (written payload rs) payload qs rs × Tree sch (written payload rs) 0 0 qs (written payload rs)
-round-trip sch payload rs valid fine small =
-    back sch payload (written payload rs) (valid-tree sch payload (schema-kinds sch valid) rs fine) 0 (stands-self sch payload (written payload rs) (written payload rs)) small
+    → (qs : List Record) × (read (looking mode sch) 0 0 0 (written payload rs) ≡ after qs Done) × Alike (written payload rs) payload qs rs × Tree sch (written payload rs) 0 0 qs (written payload rs)
+round-trip mode sch payload rs valid fine small =
+    back sch payload (written payload rs) mode (valid-tree sch payload (schema-kinds sch valid) rs fine) 0 (stands-self sch payload (written payload rs) (written payload rs)) small

@@ -1,4 +1,4 @@
--- Laws of the pull reader: a refused step stays and tells its position, any other goes forward in the bytes, and a content lies in them;
+-- Laws of the pull reader: a refused step stays and returns its position, any other goes forward in the bytes, and a content lies in them;
 -- entering and opening, by their bounds; and that a raw tag is not judged.
 -- Assumes nothing.
 use Prim.Native.Nat.{ℕ, zero, suc, _+_, _-_, _%_, _≤_, _<_}
@@ -21,7 +21,7 @@ use Rattle.spec.proofs.VarintLaws.{lower-or-not}
 
 -- ---- what a step may be
 
--- A step from `at`, with `most` bytes there: it is refused, and stays; or it takes at least `least` bytes of them, and a content that it tells ends
+-- A step from `at`, with `most` bytes there: it is refused, and stays; or it takes at least `least` bytes of them, and a content that it returns ends
 -- where it stops; or the bytes are at their end.
 pub data Step (at least most : ℕ) : Moved → Type 0 where
   stays : {k : ℕ} → Step at least most (says (Refused k at) at)
@@ -141,7 +141,7 @@ module _ (s : List ℕ) (at : ℕ) where
   steps level string = string-step at (drop at s) (omega arith) (content-there _ (takes-varint _ _ (drop at s)))
   steps level (skip t) = number-step at (λ v n. n) (taken-there (takes-skipFieldForTag t level (drop at s)))
 
-  -- ---- entering: 7 at level 100 or more, whatever the bytes are, and else the content behind a length
+  -- ---- entering: 7 at level 100 or more, whatever the bytes are, and else the content after a length
 
   pub enter-too-deep : (level : ℕ) → mostLevels ≤ level → enterAt s at level ≡ says (Refused tooDeep at) at
   unfolding enterAt
@@ -165,7 +165,7 @@ module _ (s : List ℕ) (at level : ℕ) (ask : Ask) where
   pub refused-stays : (k p : ℕ) → stepAt s at level ask .said ≡ Refused k p → (stepAt s at level ask .at ≡ at) × (p ≡ at)
   refused-stays k p e = step-refused (steps s at level ask) e
 
-  -- no step goes back, or behind the bytes
+  -- no step goes back, or past the bytes
   pub goes-forward : at ≤ length s → (at ≤ stepAt s at level ask .at) × (stepAt s at level ask .at ≤ length s)
   goes-forward h = let f = step-forward (steps s at level ask) in omega arith
 
@@ -173,7 +173,7 @@ module _ (s : List ℕ) (at level : ℕ) (ask : Ask) where
   pub takes-fewest : ((k p : ℕ) → stepAt s at level ask .said ≡ Refused k p → ⊥) → at + fewest s at ask ≤ stepAt s at level ask .at
   takes-fewest well = step-takes (steps s at level ask) well
 
-  -- a content lies in the bytes, behind its length, and the step stops at its end
+  -- a content lies in the bytes, after its length, and the step stops at its end
   pub content-in : (a z : ℕ) → stepAt s at level ask .said ≡ Content a z → (at < a) × (a ≤ z) × (z ≤ length s) × (stepAt s at level ask .at ≡ z)
   content-in a z e = let c = step-content (steps s at level ask) e in omega arith
 
@@ -208,7 +208,7 @@ module _ (r : Reader) where
       let h = enter-refused (r .bytes) (r .at) (r .level) k p e in
       (ap (λ (n : ℕ). reader (r .bytes) n (r .level)) (h .0), ap (innerOf r) e, h .1)
 
-  -- the inner reader is over the content, one level up, and the outer one behind it
+  -- the inner reader is over the content, one level up, and the outer one after it
   pub entered-content : (a z : ℕ) → entered r .said ≡ Content a z
       → (entered r .inner ≡ reader (part a z (r .bytes)) 0 (r .level + 1)) × (entered r .outer ≡ reader (r .bytes) z (r .level))
   unfolding entered innerOf

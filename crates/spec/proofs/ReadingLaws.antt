@@ -9,14 +9,14 @@ use Rattle.spec.specs.Names.{endsEarly, messageKind, mostLevels}
 use Rattle.spec.specs.Base.{part, Read, No}
 use Rattle.spec.specs.Utf8.{utf8}
 use Rattle.spec.specs.Kind.{Scalar, Shape, one, other, string, bytes, message, packed, startGroup, endGroup, nothing, shape, scalar}
-use Rattle.spec.specs.Reading.{Look, Field, Value, Message, Packed, Dropped, Fault, given, shaped, field, used, Reading, Done, Refused, _then_, _followed-by_, element, elements, records, fields, read}
+use Rattle.spec.specs.Reading.{Mode, Look, Field, Value, Message, Packed, Dropped, Fault, given, shaped, field, used, Reading, Done, Refused, _then_, _followed-by_, element, elements, records, fields, read}
 use Rattle.spec.specs.Record.{row}
 use Rattle.spec.proofs.Laws.{either-way, Takes, took, none, takes-tag, takes-scalar, takes-varint, Holds, holds, content-holds}
 use Rattle.spec.proofs.VarintLaws.{lower-or-not}
 use Rattle.spec.proofs.SkipLaws.{takes-skipGroup}
 use Rattle.spec.proofs.FieldLaws.{message-head, message-too-deep}
 
--- from a up to e, behind at least one byte, and in the first `most`
+-- from a up to e, after at least one byte, and in the first `most`
 abbrev pub In : ℕ → ℕ → ℕ → Type 0
 In a e most = (1 ≤ a) × (a ≤ e) × (e ≤ most)
 
@@ -53,31 +53,32 @@ unfolding given
 sound-held (holds {a} {e} h i j) g = g a e h i j
 sound-held Holds.none g = is-fault
 
-shaped-sound : (x : Shape) (depth inner m k n : ℕ) (s : List ℕ) (most : ℕ) → 1 ≤ n → n + length s ≤ most
-    → Sound most (shaped x depth inner m k n s)
+shaped-sound : (mode : Mode) (x : Shape) (depth inner m k n : ℕ) (s : List ℕ) (most : ℕ) → 1 ≤ n → n + length s ≤ most
+    → Sound most (shaped mode x depth inner m k n s)
 unfolding shaped
-shaped-sound (one c) depth inner m k n s most h j = sound-given (takes-scalar c s) λ v i p q. value-in (omega arith)
-shaped-sound (other string) depth inner m k n s most h j =
+shaped-sound mode (one c) depth inner m k n s most h j = sound-given (takes-scalar c s) λ v i p q. value-in (omega arith)
+shaped-sound mode (other string) depth inner m k n s most h j =
     sound-held (content-holds _ s (takes-varint _ _ s)) λ a z p o q.
     either-way (Sound most) (utf8 (part a z s)) (value-in (omega arith)) is-fault
-shaped-sound (other bytes) depth inner m k n s most h j =
+shaped-sound mode (other bytes) depth inner m k n s most h j =
     sound-held (content-holds _ s (takes-varint _ _ s)) λ a z p o q. value-in (omega arith)
-shaped-sound (other message) depth inner m k n s most h j =
+shaped-sound mode (other message) depth inner m k n s most h j =
     lower-or-not depth mostLevels
-    (λ c. subst (Sound most) (sym (message-head depth inner m k n s c)) (sound-held (content-holds _ s (takes-varint _ _ s)) λ a z p o q. message-in (omega arith)))
-    (λ c. subst (Sound most) (sym (message-too-deep depth inner m k n s c)) is-fault)
-shaped-sound (other packed) depth inner m k n s most h j =
+    (λ c. subst (Sound most) (sym (message-head mode depth inner m k n s c)) (sound-held (content-holds _ s (takes-varint _ _ s)) λ a z p o q. message-in (omega arith)))
+    (λ c. subst (Sound most) (sym (message-too-deep mode depth inner m k n s c)) is-fault)
+shaped-sound mode (other packed) depth inner m k n s most h j =
     sound-held (content-holds _ s (takes-varint _ _ s)) λ a z p o q. packed-in (omega arith)
-shaped-sound (other startGroup) depth inner m k n s most h j =
+shaped-sound mode (other startGroup) depth inner m k n s most h j =
     sound-given (takes-skipGroup (length s) (No endsEarly) none depth s) λ v i p q. dropped-in (omega arith)
-shaped-sound (other endGroup) depth inner m k n s most h j = is-fault
-shaped-sound (other nothing) depth inner m k n s most h j = is-fault
+shaped-sound mode (other endGroup) depth inner m k n s most h j = is-fault
+shaped-sound mode (other nothing) depth inner m k n s most h j = is-fault
 
 pub field-sound : (look : Look) (depth type : ℕ) (s : List ℕ) → Sound (length s) (field look depth type s)
 unfolding field
 field-sound look depth type s =
     sound-given (takes-tag s) λ t n h j.
-    shaped-sound (shape (look type t .kind)) depth (look type t .inner) (t / 8) (look type t .kind) n (drop n s) (length s) h (omega (arith, length-drop n s))
+    let x = look .says type t in
+    shaped-sound (look .mode) (shape (x .kind)) depth (x .inner) (t / 8) (x .kind) n (drop n s) (length s) h (omega (arith, length-drop n s))
 
 -- ---- enough steps are enough
 
@@ -91,20 +92,20 @@ pub refused-first : (n i : ℕ) (q : Reading) → (Refused n i followed-by q) �
 unfolding _followed-by_
 refused-first n i q = refl
 
--- the records of a field, and then the rest: what inner reads matters only at shorter bytes, and the rest only behind the field
-pub field-cong : {most : ℕ} (p q : Inner) (p′ q′ : Reading) (depth at : ℕ) (s : List ℕ) (x : Field) → Sound most x
+-- the records of a field, and then what follows: what `inner` reads matters only at shorter bytes, and what follows only after the field
+pub field-cong : {most : ℕ} (mode : Mode) (p q : Inner) (p′ q′ : Reading) (depth at : ℕ) (s : List ℕ) (x : Field) → Sound most x
     → ((c a : ℕ) (u : List ℕ) → length u < most → p c a u ≡ q c a u)
     → (1 ≤ used x → used x ≤ most → p′ ≡ q′)
-    → (records p depth at s x followed-by p′) ≡ (records q depth at s x followed-by q′)
+    → (records mode p depth at s x followed-by p′) ≡ (records mode q depth at s x followed-by q′)
 unfolding records used
-field-cong p q p′ q′ depth at s (Value m k v a e) (is-value h) inner rest = ap (λ (r : Reading). (row depth m k v (at + a) (at + e) at then Done) followed-by r) (rest (omega arith) (omega arith))
-field-cong p q p′ q′ depth at s (Message m c a e) (is-message h) inner rest =
+field-cong mode p q p′ q′ depth at s (Value m k v a e) (is-value h) inner rest = ap (λ (r : Reading). (row depth m k v (at + a) (at + e) at then Done) followed-by r) (rest (omega arith) (omega arith))
+field-cong mode p q p′ q′ depth at s (Message m c a e) (is-message h) inner rest =
     ap₂ (λ (i r : Reading). (row depth m messageKind 0 (at + a) (at + e) at then i) followed-by r)
     (inner c (at + a) (part a e s) (omega (arith, length-part a e s))) (rest (omega arith) (omega arith))
-field-cong p q p′ q′ depth at s (Packed m k a e) (is-packed h) inner rest =
-    ap (λ (r : Reading). records p depth at s (Packed m k a e) followed-by r) (rest (omega arith) (omega arith))
-field-cong p q p′ q′ depth at s (Dropped m e) (is-dropped h) inner rest = ap (λ (r : Reading). Done followed-by r) (rest (omega arith) (omega arith))
-field-cong p q p′ q′ depth at s (Fault n i) is-fault inner rest = refused-first n (at + i) p′ ∙ sym (refused-first n (at + i) q′)
+field-cong mode p q p′ q′ depth at s (Packed m k a e) (is-packed h) inner rest =
+    ap (λ (r : Reading). records mode p depth at s (Packed m k a e) followed-by r) (rest (omega arith) (omega arith))
+field-cong mode p q p′ q′ depth at s (Dropped m e) (is-dropped h) inner rest = ap (λ (r : Reading). Done followed-by r) (rest (omega arith) (omega arith))
+field-cong mode p q p′ q′ depth at s (Fault n i) is-fault inner rest = refused-first n (at + i) p′ ∙ sym (refused-first n (at + i) q′)
 
 pub fields-enough : (f g : ℕ) (look : Look) (depth type at : ℕ) (s : List ℕ) → length s ≤ f → length s ≤ g
     → fields f look depth type at s ≡ fields g look depth type at s
@@ -117,7 +118,7 @@ fields-enough (suc f) zero look depth type at (b ∷ s) hf hg = absurd (omega ar
 fields-enough (suc f) (suc g) look depth type at [] hf hg = refl
 fields-enough (suc f) (suc g) look depth type at (b ∷ s) hf hg =
     let x = field look depth type (b ∷ s) in
-    field-cong (λ c a u. fields f look (depth + 1) c a u) (λ c a u. fields g look (depth + 1) c a u) _ _ depth at (b ∷ s) x (field-sound look depth type (b ∷ s))
+    field-cong (look .mode) (λ c a u. fields f look (depth + 1) c a u) (λ c a u. fields g look (depth + 1) c a u) _ _ depth at (b ∷ s) x (field-sound look depth type (b ∷ s))
     (λ c a u h. fields-enough f g look (depth + 1) c a u (omega arith) (omega arith))
     (λ h j. fields-enough f g look depth type (at + used x) (drop (used x) (b ∷ s)) (omega (arith, length-drop (used x) (b ∷ s))) (omega (arith, length-drop (used x) (b ∷ s))))
 
@@ -129,12 +130,12 @@ read-nil look depth type at = refl
 
 pub read-cons : (look : Look) (depth type at b : ℕ) (s : List ℕ)
     → read look depth type at (b ∷ s)
-    ≡ (records (λ c a u. read look (depth + 1) c a u) depth at (b ∷ s) (field look depth type (b ∷ s))
+    ≡ (records (look .mode) (λ c a u. read look (depth + 1) c a u) depth at (b ∷ s) (field look depth type (b ∷ s))
     followed-by read look depth type (at + used (field look depth type (b ∷ s))) (drop (used (field look depth type (b ∷ s))) (b ∷ s)))
 unfolding read fields
 read-cons look depth type at b s =
     let x = field look depth type (b ∷ s) in
-    field-cong (λ c a u. fields (length s) look (depth + 1) c a u) (λ c a u. fields (length u) look (depth + 1) c a u) _ _ depth at (b ∷ s) x (field-sound look depth type (b ∷ s))
+    field-cong (look .mode) (λ c a u. fields (length s) look (depth + 1) c a u) (λ c a u. fields (length u) look (depth + 1) c a u) _ _ depth at (b ∷ s) x (field-sound look depth type (b ∷ s))
     (λ c a u h. fields-enough (length s) (length u) look (depth + 1) c a u (omega arith) (omega arith))
     (λ h j. fields-enough (length s) (length (drop (used x) (b ∷ s))) look depth type (at + used x) (drop (used x) (b ∷ s)) (omega (arith, length-drop (used x) (b ∷ s))) (omega arith))
 

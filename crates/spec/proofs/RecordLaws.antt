@@ -1,4 +1,4 @@
--- Laws of the list of records: one reading behind another, records put before one, and the room for them.
+-- Laws of the list of records: one reading after another, records put before one, and the room for them.
 -- Assumes nothing.
 use Prim.Native.Nat.{ℕ, zero, suc, _-_, _*_, _/_, _≤_}
 use native.Mathlib.Omega.{arith}
@@ -60,7 +60,7 @@ unfolding after within
 within-full [] r q = refl
 within-full (x ∷ rs) r q = ap (_then_ x) (within-full rs r q)
 
--- ---- the room: what is stored fits it, and nothing behind the records is touched
+-- ---- the room: what is stored fits it, and nothing after the records is touched
 
 pub within-fits : (n : ℕ) (q : Reading) → length (listed (within n q)) ≤ n
 unfolding within listed

@@ -1,6 +1,6 @@
 -- Written bytes read back as the list: depths, numbers, kinds, values and contents. `Tree` is a valid list, by its nesting, with its bytes.
 -- Assumes nothing.
-use Prim.Native.Nat.{ℕ, zero, suc, _+_, _-_, _*_, _≤_, _<_}
+use Prim.Native.Nat.{ℕ, zero, suc, _+_, _-_, _*_, _≤_}
 use native.Mathlib.Omega.{arith}
 use mathlib.Core.Path.{_≡_, refl, sym, ap, ap₂, _∙_, subst}
 use mathlib.Core.Bool.{Bool, true, false, false≢true}
@@ -9,15 +9,15 @@ use lib.ListN.{length, take, drop, length-append}
 use lib.Seq.{drop-append-seam, take-append-seam, drop-at}
 use lib.Dec.{eqb}
 use borrow.Author.Tests.{le-leb, ne-eqb}
-use Rattle.spec.specs.Names.{largestNumber, messageKind, mostLevels, packedHead, fixed32Wire}
+use Rattle.spec.specs.Names.{messageKind, packedHead}
 use Rattle.spec.specs.Base.{if_then_else_, part, Read, Took, require, limit}
 use Rattle.spec.specs.Varint.{varint, encode, shortest, tag}
 use Rattle.spec.specs.Record.{Record, row}
 use Rattle.spec.proofs.VarintLaws.{lower-or-not, shortest-ends, shortest-goes-on}
 use Rattle.spec.specs.Utf8.{utf8}
 use Rattle.spec.specs.Kind.{Scalar, Shape, Special, one, other, string, bytes, message, packed, startGroup, endGroup, nothing, shape, wire, scalar, encoded, fits}
-use Rattle.spec.specs.Schema.{Schema, lookup, kindOf, insideOf, saysOf, says}
-use Rattle.spec.specs.Reading.{Field, Value, Message, Packed, given, shaped, field, used, Reading, Done, _then_, _followed-by_, element, elements, contents, records, read, after}
+use Rattle.spec.specs.Schema.{Schema, lookup, insideOf, saysOf}
+use Rattle.spec.specs.Reading.{Mode, looking, Field, Value, Message, Packed, given, shaped, field, used, Reading, Done, _then_, _followed-by_, element, elements, contents, records, read, after}
 use Rattle.spec.specs.Writing.{prefixed, lies}
 use Rattle.spec.proofs.Laws.{both-true, Takes, took, takes-scalar}
 use Rattle.spec.proofs.ReadingLaws.{read-nil, read-cons, elements-cons}
@@ -25,6 +25,8 @@ use Rattle.spec.proofs.RecordLaws.{after-append, after-followed}
 use Rattle.spec.proofs.KindLaws.{scalar-encoded}
 use Rattle.spec.proofs.WritingLaws.{field-written, scalar-written, from, to, bytes-written, string-written, message-written, packed-written}
 use Rattle.spec.specs.declared.Entry.{Entry}
+-- with the laws below, as whoever cites one needs these names too
+pub use Rattle.spec.specs.Tree.{Expected, tagBytes, Values, no-value, value, Tree, no-field, number, text, blob, inner, row-of}
 
 -- ---- what is compared
 
@@ -91,86 +93,50 @@ stands-part {s} {at} b h e p =
 
 -- ---- one field
 
-read-at : (sch : Schema) (depth type at : ℕ) (s : List ℕ) (x : Field) → field (says sch) depth type s ≡ x → 1 ≤ used x
-    → read (says sch) depth type at s ≡ (records (λ c a u. read (says sch) (depth + 1) c a u) depth at s x followed-by read (says sch) depth type (at + used x) (drop (used x) s))
+read-at : (mode : Mode) (sch : Schema) (depth type at : ℕ) (s : List ℕ) (x : Field) → field (looking mode sch) depth type s ≡ x → 1 ≤ used x
+    → read (looking mode sch) depth type at s ≡ (records mode (λ c a u. read (looking mode sch) (depth + 1) c a u) depth at s x followed-by read (looking mode sch) depth type (at + used x) (drop (used x) s))
 unfolding field given tag require varint used
-read-at sch depth type at [] x e h = let z : used x ≡ 0 = sym (ap used e) in absurd (omega arith)
-read-at sch depth type at (b ∷ s) x e h =
-    read-cons (says sch) depth type at b s
-    ∙ ap (λ (y : Field). records (λ c a u. read (says sch) (depth + 1) c a u) depth at (b ∷ s) y followed-by read (says sch) depth type (at + used y) (drop (used y) (b ∷ s))) e
-
--- a record's number and kind are what reading gives in a message of type t
-pub record Expected (sch : Schema) (t : ℕ) (r : Record) : Type 0 where
-  pub low : 1 ≤ r .number
-  pub high : r .number ≤ largestNumber
-  pub wired : wire (r .kind) ≤ fixed32Wire
-  pub reads : kindOf (lookup (sch .entries) t (r .number)) (wire (r .kind)) ≡ r .kind
+read-at mode sch depth type at [] x e h = let z : used x ≡ 0 = sym (ap used e) in absurd (omega arith)
+read-at mode sch depth type at (b ∷ s) x e h =
+    read-cons (looking mode sch) depth type at b s
+    ∙ ap (λ (y : Field). records mode (λ c a u. read (looking mode sch) (depth + 1) c a u) depth at (b ∷ s) y followed-by read (looking mode sch) depth type (at + used y) (drop (used y) (b ∷ s))) e
 
 -- another record of this number and kind
 pub again : {sch : Schema} {t : ℕ} {r : Record} {d v a e g : ℕ} → Expected sch t r → Expected sch t (row d (r .number) (r .kind) v a e g)
 again x = record { low = x .low; high = x .high; wired = x .wired; reads = x .reads }
 
-abbrev pub tagBytes : Record → List ℕ
-tagBytes r = encode (r .number * 8 + wire (r .kind))
-
 -- the entry of a record's number
 abbrev entryFor : Schema → ℕ → Record → Entry
 entryFor sch t r = lookup (sch .entries) t (r .number)
 
-field-is : (sch : Schema) (depth t : ℕ) (r : Record) (u : List ℕ) → Expected sch t r → (x : Shape) → shape (r .kind) ≡ x → (k : ℕ) → r .kind ≡ k
-    → field (says sch) depth t (tagBytes r ++ u) ≡ shaped x depth (insideOf k (entryFor sch t r)) (r .number) (r .kind) (length (tagBytes r)) u
+field-is : (mode : Mode) (sch : Schema) (depth t : ℕ) (r : Record) (u : List ℕ) → Expected sch t r → (x : Shape) → shape (r .kind) ≡ x → (k : ℕ) → r .kind ≡ k
+    → field (looking mode sch) depth t (tagBytes r ++ u) ≡ shaped mode x depth (insideOf k (entryFor sch t r)) (r .number) (r .kind) (length (tagBytes r)) u
 unfolding saysOf
-field-is sch depth t r u h x e k p =
+field-is mode sch depth t r u h x e k p =
     let n : ℕ = length (tagBytes r) in
     let y : Entry = entryFor sch t r in
-    field-written sch depth t (r .number) (wire (r .kind)) u (h .low) (h .high) (h .wired)
-    ∙ ap (λ (k : ℕ). shaped (shape k) depth (insideOf k y) (r .number) k n u) (h .reads)
-    ∙ ap (λ (z : Shape). shaped z depth (insideOf (r .kind) y) (r .number) (r .kind) n u) e
-    ∙ ap (λ (j : ℕ). shaped x depth (insideOf j y) (r .number) (r .kind) n u) p
+    field-written mode sch depth t (r .number) (wire (r .kind)) u (h .low) (h .high) (h .wired)
+    ∙ ap (λ (k : ℕ). shaped mode (shape k) depth (insideOf k y) (r .number) k n u) (h .reads)
+    ∙ ap (λ (z : Shape). shaped mode z depth (insideOf (r .kind) y) (r .number) (r .kind) n u) e
+    ∙ ap (λ (j : ℕ). shaped mode x depth (insideOf j y) (r .number) (r .kind) n u) p
 
--- ---- a list by its nesting, with its bytes
+-- ---- reading a tree's bytes
 
--- values of a packed field: number, kind, and the scalar that the kind is
-pub data Values (c : Scalar) (m k d : ℕ) : List Record → List ℕ → Type 0 where
-  no-value : Values c m k d [] []
-  value : {r : Record} {rs : List Record} {b : List ℕ} → r .depth ≡ d → r .number ≡ m → r .kind ≡ k → fits c (r .value) ≡ true
-      → Values c m k d rs b → Values c m k d (r ∷ rs) (encoded c (r .value) ++ b)
-
-pub data Tree (sch : Schema) (payload : List ℕ) : (t d : ℕ) → List Record → List ℕ → Type 0 where
-  no-field : {t d : ℕ} → Tree sch payload t d [] []
-  number : {t d : ℕ} {r : Record} {rs : List Record} {b : List ℕ} (c : Scalar) → r .depth ≡ d → Expected sch t r
-      → shape (r .kind) ≡ one c → fits c (r .value) ≡ true
-      → Tree sch payload t d rs b → Tree sch payload t d (r ∷ rs) (tagBytes r ++ encoded c (r .value) ++ b)
-  text : {t d : ℕ} {r : Record} {rs : List Record} {b : List ℕ} → r .depth ≡ d → Expected sch t r
-      → shape (r .kind) ≡ other string → r .value ≡ 0 → lies payload r ≡ true → utf8 (part (r .start) (r .stop) payload) ≡ true
-      → Tree sch payload t d rs b → Tree sch payload t d (r ∷ rs) (tagBytes r ++ prefixed (part (r .start) (r .stop) payload) ++ b)
-  blob : {t d : ℕ} {r : Record} {rs : List Record} {b : List ℕ} → r .depth ≡ d → Expected sch t r
-      → shape (r .kind) ≡ other bytes → r .value ≡ 0 → lies payload r ≡ true
-      → Tree sch payload t d rs b → Tree sch payload t d (r ∷ rs) (tagBytes r ++ prefixed (part (r .start) (r .stop) payload) ++ b)
-  inner : {t d : ℕ} {r : Record} {rs qs : List Record} {b i : List ℕ} → r .depth ≡ d → Expected sch t r
-      → r .kind ≡ messageKind → r .value ≡ 0 → d < mostLevels
-      → Tree sch payload (lookup (sch .entries) t (r .number) .child) (d + 1) qs i
-      → Tree sch payload t d rs b → Tree sch payload t d (r ∷ (qs ++ rs)) (tagBytes r ++ prefixed i ++ b)
-  row-of : {t d : ℕ} {r : Record} {rs qs : List Record} {b i : List ℕ} (c : Scalar) → r .depth ≡ d → Expected sch t r
-      → r .kind ≡ packedHead → r .value ≡ 0 → shape (lookup (sch .entries) t (r .number) .kind) ≡ one c
-      → Values c (r .number) (lookup (sch .entries) t (r .number) .kind) (d + 1) qs i → 1 ≤ length qs
-      → Tree sch payload t d rs b → Tree sch payload t d (r ∷ (qs ++ rs)) (tagBytes r ++ prefixed i ++ b)
-
-abbrev pub Back : Schema → List ℕ → List ℕ → (t d at : ℕ) → List Record → List ℕ → Type 0
-Back sch payload s t d at rs b = (qs : List Record) × (read (says sch) d t at b ≡ after qs Done) × Alike s payload qs rs × Tree sch s t d qs b
+abbrev pub Back : Mode → Schema → List ℕ → List ℕ → (t d at : ℕ) → List Record → List ℕ → Type 0
+Back mode sch payload s t d at rs b = (qs : List Record) × (read (looking mode sch) d t at b ≡ after qs Done) × Alike s payload qs rs × Tree sch s t d qs b
 
 -- one more record q in front, where the first field of x ++ b is it, and takes x
-in-front : (sch : Schema) (payload s : List ℕ) (t d at : ℕ) (q r : Record) (rs : List Record) (x b : List ℕ) (f : Field)
-    → field (says sch) d t (x ++ b) ≡ f → used f ≡ length x → 1 ≤ length x
-    → records (λ c a u. read (says sch) (d + 1) c a u) d at (x ++ b) f ≡ (q then Done)
+in-front : (mode : Mode) (sch : Schema) (payload s : List ℕ) (t d at : ℕ) (q r : Record) (rs : List Record) (x b : List ℕ) (f : Field)
+    → field (looking mode sch) d t (x ++ b) ≡ f → used f ≡ length x → 1 ≤ length x
+    → records mode (λ c a u. read (looking mode sch) (d + 1) c a u) d at (x ++ b) f ≡ (q then Done)
     → Same s payload q r → ((qs : List Record) → Tree sch s t d qs b → Tree sch s t d (q ∷ qs) (x ++ b))
-    → Back sch payload s t d (at + length x) rs b → Back sch payload s t d at (r ∷ rs) (x ++ b)
+    → Back mode sch payload s t d (at + length x) rs b → Back mode sch payload s t d at (r ∷ rs) (x ++ b)
 unfolding after _followed-by_
-in-front sch payload s t d at q r rs x b f e l h g same grown (qs, p, alike, tree) = (
+in-front mode sch payload s t d at q r rs x b f e l h g same grown (qs, p, alike, tree) = (
   q ∷ qs,
-  read-at sch d t at (x ++ b) f e (omega arith)
+  read-at mode sch d t at (x ++ b) f e (omega arith)
       ∙ ap₂ (λ (y z : Reading). y followed-by z) g
-      (ap₂ (λ (n : ℕ) (u : List ℕ). read (says sch) d t (at + n) u) l (ap (λ (n : ℕ). drop n (x ++ b)) l ∙ drop-append-seam x b) ∙ p),
+      (ap₂ (λ (n : ℕ) (u : List ℕ). read (looking mode sch) d t (at + n) u) l (ap (λ (n : ℕ). drop n (x ++ b)) l ∙ drop-append-seam x b) ∙ p),
   and-so-on same alike,
   grown qs tree,
 )
@@ -203,7 +169,7 @@ shape-packed = refl
 
 module _ (sch : Schema) (payload s : List ℕ) where
   -- a content c of a record r, and what is read of it
-  module _ (t d at : ℕ) (r : Record) (rs : List Record) (c b : List ℕ) (z : Special) (dep : r .depth ≡ d) (ex : Expected sch t r) (val : r .value ≡ 0)
+  module _ (mode : Mode) (t d at : ℕ) (r : Record) (rs : List Record) (c b : List ℕ) (z : Special) (dep : r .depth ≡ d) (ex : Expected sch t r) (val : r .value ≡ 0)
       (here : Stands s at (tagBytes r ++ prefixed c ++ b)) where
     abbrev n : ℕ
     n = length (tagBytes r)
@@ -218,17 +184,17 @@ module _ (sch : Schema) (payload s : List ℕ) where
     placed = row d (r .number) (r .kind) 0 (at + (n + from c)) (at + (n + to c)) at
 
     content-front : c ≡ part (r .start) (r .stop) payload
-        → field (says sch) d t (tagBytes r ++ prefixed c ++ b) ≡ Value (r .number) (r .kind) 0 (n + from c) (n + to c)
+        → field (looking mode sch) d t (tagBytes r ++ prefixed c ++ b) ≡ Value (r .number) (r .kind) 0 (n + from c) (n + to c)
         → ((qs : List Record) → part (at + (n + from c)) (at + (n + to c)) s ≡ c → lies s placed ≡ true → Tree sch s t d qs b
         → Tree sch s t d (placed ∷ qs) (tagBytes r ++ prefixed (part (at + (n + from c)) (at + (n + to c)) s) ++ b))
-        → Back sch payload s t d (at + length (tagBytes r ++ prefixed c)) rs b → Back sch payload s t d at (r ∷ rs) (tagBytes r ++ prefixed c ++ b)
+        → Back mode sch payload s t d (at + length (tagBytes r ++ prefixed c)) rs b → Back mode sch payload s t d at (r ∷ rs) (tagBytes r ++ prefixed c ++ b)
     unfolding used records
     content-front e f grown back =
         let found : part (at + (n + from c)) (at + (n + to c)) s ≡ c = stands-part c content-stands (at + (n + to c)) (omega (arith, length-append (encode (length c)) c)) in
         let fine : lies s placed ≡ true =
         both-true (le-leb (at + (n + from c)) (at + (n + to c)) (omega (arith, length-append (encode (length c)) c)))
         (le-leb (at + (n + to c)) (length s) (omega (arith, stands-lies c content-stands, length-append (encode (length c)) c))) in
-        in-front sch payload s t d at placed r rs (tagBytes r ++ prefixed c) b
+        in-front mode sch payload s t d at placed r rs (tagBytes r ++ prefixed c) b
         (Value (r .number) (r .kind) 0 (n + from c) (n + to c)) f (sym (length-append (tagBytes r) (prefixed c)))
         (omega (arith, length-append (tagBytes r) (prefixed c), encode-pos 9 (r .number * 8 + wire (r .kind)))) refl
         (record {
@@ -310,14 +276,14 @@ module _ (sch : Schema) (payload s : List ℕ) where
     rest-stands h = subst (λ (k : ℕ). Stands s k b) (ap (λ (k : ℕ). at + k) (length-append (tagBytes r) (prefixed i))) (stands-right (tagBytes r ++ prefixed i) b h)
 
     -- what the head's field gives, followed by the rest
-    head-back : (f : Field) (kind : ℕ) (qs rs xs ys : List Record) → field (says sch) d t whole ≡ f → used f ≡ stop → 1 ≤ stop
+    head-back : (mode : Mode) (f : Field) (kind : ℕ) (qs rs xs ys : List Record) → field (looking mode sch) d t whole ≡ f → used f ≡ stop → 1 ≤ stop
         → r .depth ≡ d → r .kind ≡ kind → r .value ≡ 0 → hasContent (shape kind) ≡ false
-        → records (λ c a u. read (says sch) (d + 1) c a u) d at whole f ≡ (row d (r .number) kind 0 (at + start) (at + stop) at then after xs Done)
-        → Alike s payload xs qs → read (says sch) d t (at + stop) b ≡ after ys Done → Alike s payload ys rs
+        → records mode (λ c a u. read (looking mode sch) (d + 1) c a u) d at whole f ≡ (row d (r .number) kind 0 (at + start) (at + stop) at then after xs Done)
+        → Alike s payload xs qs → read (looking mode sch) d t (at + stop) b ≡ after ys Done → Alike s payload ys rs
         → Tree sch s t d (row d (r .number) (r .kind) 0 (at + start) (at + stop) at ∷ (xs ++ ys)) whole
-        → Back sch payload s t d at (r ∷ (qs ++ rs)) whole
+        → Back mode sch payload s t d at (r ∷ (qs ++ rs)) whole
     unfolding after _followed-by_
-    head-back f kind qs rs xs ys e l h dep kin val bare g al p al′ tree =
+    head-back mode f kind qs rs xs ys e l h dep kin val bare g al p al′ tree =
         let q : Record = row d (r .number) kind 0 (at + start) (at + stop) at in
         let same : Same s payload q r = record {
           depths = sym dep;
@@ -327,9 +293,9 @@ module _ (sch : Schema) (payload s : List ℕ) where
           contents = not-content (shape kind) (ap shape kin) bare;
         } in (
           q ∷ (xs ++ ys),
-          read-at sch d t at whole f e (omega arith)
+          read-at mode sch d t at whole f e (omega arith)
               ∙ ap₂ (λ (y z : Reading). y followed-by z) g
-              (ap₂ (λ (n : ℕ) (u : List ℕ). read (says sch) d t (at + n) u) l
+              (ap₂ (λ (n : ℕ) (u : List ℕ). read (looking mode sch) d t (at + n) u) l
               (ap (λ (n : ℕ). drop n whole) (l ∙ sym (length-append (tagBytes r) (prefixed i))) ∙ drop-append-seam (tagBytes r ++ prefixed i) b) ∙ p)
               ∙ ap (_then_ q) (after-followed xs Done (after ys Done) ∙ sym (after-append xs ys Done)),
           and-so-on same (alike-append al al′),
@@ -338,10 +304,10 @@ module _ (sch : Schema) (payload s : List ℕ) where
 
   -- ---- the theorem
 
-  pub back : {t d : ℕ} {rs : List Record} {b : List ℕ} → Tree sch payload t d rs b → (at : ℕ) → Stands s at b → length b ≤ limit → Back sch payload s t d at rs b
+  pub back : (mode : Mode) {t d : ℕ} {rs : List Record} {b : List ℕ} → Tree sch payload t d rs b → (at : ℕ) → Stands s at b → length b ≤ limit → Back mode sch payload s t d at rs b
   unfolding after used records contents
-  back {t} {d} no-field at h l = ([], read-nil (says sch) d t at, nothing-left, no-field)
-  back {t} {d} (number {r = r} {rs = rs} {b = b} c dep ex sh f rest) at h l =
+  back mode {t} {d} no-field at h l = ([], read-nil (looking mode sch) d t at, nothing-left, no-field)
+  back mode {t} {d} (number {r = r} {rs = rs} {b = b} c dep ex sh f rest) at h l =
       let e : List ℕ = encoded c (r .value) in
       let n : ℕ = length (tagBytes r) in
       let x : List ℕ = tagBytes r ++ e in
@@ -352,45 +318,45 @@ module _ (sch : Schema) (payload s : List ℕ) where
         values = refl;
         contents = not-content (one c) sh refl;
       } in
-      in-front sch payload s t d at (row d (r .number) (r .kind) (r .value) (at + n) (at + (n + length e)) at) r rs x b (Value (r .number) (r .kind) (r .value) n (n + length e))
-      (ap (field (says sch) d t) (append-assoc (tagBytes r) e b) ∙ field-is sch d t r (e ++ b) ex (one c) sh (r .kind) refl
-      ∙ scalar-written c d (insideOf (r .kind) (entryFor sch t r)) (r .number) (r .kind) n (r .value) b f)
+      in-front mode sch payload s t d at (row d (r .number) (r .kind) (r .value) (at + n) (at + (n + length e)) at) r rs x b (Value (r .number) (r .kind) (r .value) n (n + length e))
+      (ap (field (looking mode sch) d t) (append-assoc (tagBytes r) e b) ∙ field-is mode sch d t r (e ++ b) ex (one c) sh (r .kind) refl
+      ∙ scalar-written mode c d (insideOf (r .kind) (entryFor sch t r)) (r .number) (r .kind) n (r .value) b f)
       (sym (length-append (tagBytes r) e)) (omega (arith, length-append (tagBytes r) e, encode-pos 9 (r .number * 8 + wire (r .kind)))) refl same
       (λ qs tree. number c refl (again ex) sh f tree)
-      (back rest (at + length x) (stands-right x b h) (omega (arith, length-append x b)))
-  back {t} {d} (text {r = r} {rs = rs} {b = b} dep ex sh val li u rest) at h l =
+      (back mode rest (at + length x) (stands-right x b h) (omega (arith, length-append x b)))
+  back mode {t} {d} (text {r = r} {rs = rs} {b = b} dep ex sh val li u rest) at h l =
       let c : List ℕ = part (r .start) (r .stop) payload in
       let x : List ℕ = tagBytes r ++ prefixed c in
-      content-front t d at r rs c b string dep ex val h refl
-      (ap (field (says sch) d t) (append-assoc (tagBytes r) (prefixed c) b) ∙ field-is sch d t r (prefixed c ++ b) ex (other string) sh (r .kind) refl
-      ∙ string-written d (insideOf (r .kind) (entryFor sch t r)) (r .number) (r .kind) (length (tagBytes r)) c b
+      content-front mode t d at r rs c b string dep ex val h refl
+      (ap (field (looking mode sch) d t) (append-assoc (tagBytes r) (prefixed c) b) ∙ field-is mode sch d t r (prefixed c ++ b) ex (other string) sh (r .kind) refl
+      ∙ string-written mode d (insideOf (r .kind) (entryFor sch t r)) (r .number) (r .kind) (length (tagBytes r)) c b
       (omega (arith, length-append x b, length-append (tagBytes r) (prefixed c), length-append (encode (length c)) c)) u)
       (λ qs found fine tree. text refl (again ex) sh refl fine (ap utf8 found ∙ u) tree)
-      (back rest (at + length x) (stands-right x b h) (omega (arith, length-append x b)))
-  back {t} {d} (blob {r = r} {rs = rs} {b = b} dep ex sh val li rest) at h l =
+      (back mode rest (at + length x) (stands-right x b h) (omega (arith, length-append x b)))
+  back mode {t} {d} (blob {r = r} {rs = rs} {b = b} dep ex sh val li rest) at h l =
       let c : List ℕ = part (r .start) (r .stop) payload in
       let x : List ℕ = tagBytes r ++ prefixed c in
-      content-front t d at r rs c b bytes dep ex val h refl
-      (ap (field (says sch) d t) (append-assoc (tagBytes r) (prefixed c) b) ∙ field-is sch d t r (prefixed c ++ b) ex (other bytes) sh (r .kind) refl
-      ∙ bytes-written d (insideOf (r .kind) (entryFor sch t r)) (r .number) (r .kind) (length (tagBytes r)) c b
+      content-front mode t d at r rs c b bytes dep ex val h refl
+      (ap (field (looking mode sch) d t) (append-assoc (tagBytes r) (prefixed c) b) ∙ field-is mode sch d t r (prefixed c ++ b) ex (other bytes) sh (r .kind) refl
+      ∙ bytes-written mode d (insideOf (r .kind) (entryFor sch t r)) (r .number) (r .kind) (length (tagBytes r)) c b
       (omega (arith, length-append x b, length-append (tagBytes r) (prefixed c), length-append (encode (length c)) c)))
       (λ qs found fine tree. blob refl (again ex) sh refl fine tree)
-      (back rest (at + length x) (stands-right x b h) (omega (arith, length-append x b)))
-  back {t} {d} (inner {r = r} {rs = rs} {qs = qs} {b = b} {i = i} dep ex kin val deep in-it rest) at h l =
+      (back mode rest (at + length x) (stands-right x b h) (omega (arith, length-append x b)))
+  back mode {t} {d} (inner {r = r} {rs = rs} {qs = qs} {b = b} {i = i} dep ex kin val deep in-it rest) at h l =
       let y : Entry = entryFor sch t r in
       let x : List ℕ = tagBytes r ++ prefixed i in
       let small : length i ≤ limit = omega (arith, length-append x b, length-append (tagBytes r) (prefixed i), length-append (encode (length i)) i) in
       let a : ℕ = length (tagBytes r) + from i in
       let z : ℕ = length (tagBytes r) + to i in
-      let xs = back in-it (at + a) (inner-stands t d at r i b h) small in
-      let ys = back rest (at + z) (rest-stands t d at r i b h) (omega (arith, length-append x b)) in
-      head-back t d at r i b (Message (r .number) (y .child) a z) messageKind qs rs (xs .0) (ys .0)
-      (ap (field (says sch) d t) (append-assoc (tagBytes r) (prefixed i) b) ∙ field-is sch d t r (prefixed i ++ b) ex (other message) (ap shape kin ∙ shape-message) messageKind kin
-      ∙ message-written d (y .child) (r .number) (r .kind) (length (tagBytes r)) i b small deep)
+      let xs = back mode in-it (at + a) (inner-stands t d at r i b h) small in
+      let ys = back mode rest (at + z) (rest-stands t d at r i b h) (omega (arith, length-append x b)) in
+      head-back t d at r i b mode (Message (r .number) (y .child) a z) messageKind qs rs (xs .0) (ys .0)
+      (ap (field (looking mode sch) d t) (append-assoc (tagBytes r) (prefixed i) b) ∙ field-is mode sch d t r (prefixed i ++ b) ex (other message) (ap shape kin ∙ shape-message) messageKind kin
+      ∙ message-written mode d (y .child) (r .number) (r .kind) (length (tagBytes r)) i b small deep)
       refl (omega (arith, encode-pos 9 (r .number * 8 + wire (r .kind)))) dep kin val (ap hasContent shape-message)
-      (ap (_then_ (row d (r .number) messageKind 0 (at + a) (at + z) at)) (ap (read (says sch) (d + 1) (y .child) (at + a)) (inner-part t d at r i b) ∙ xs .1))
+      (ap (_then_ (row d (r .number) messageKind 0 (at + a) (at + z) at)) (ap (read (looking mode sch) (d + 1) (y .child) (at + a)) (inner-part t d at r i b) ∙ xs .1))
       (xs .2) (ys .1) (ys .2) (inner refl (again ex) kin refl deep (xs .3) (ys .3))
-  back {t} {d} (row-of {r = r} {rs = rs} {qs = qs} {b = b} {i = i} c dep ex kin val sh in-it some rest) at h l =
+  back mode {t} {d} (row-of {r = r} {rs = rs} {qs = qs} {b = b} {i = i} c dep ex kin val sh in-it some rest) at h l =
       let y : Entry = entryFor sch t r in
       let x : List ℕ = tagBytes r ++ prefixed i in
       let small : length i ≤ limit = omega (arith, length-append x b, length-append (tagBytes r) (prefixed i), length-append (encode (length i)) i) in
@@ -398,11 +364,11 @@ module _ (sch : Schema) (payload s : List ℕ) where
       let z : ℕ = length (tagBytes r) + to i in
       let apart : eqb a z ≡ false = ne-eqb a z (λ (e : a ≡ z). omega (arith, e, length-append (encode (length i)) i, values-long in-it some)) in
       let xs = values-back sh in-it at (at + a) in
-      let ys = back rest (at + z) (rest-stands t d at r i b h) (omega (arith, length-append x b)) in
+      let ys = back mode rest (at + z) (rest-stands t d at r i b h) (omega (arith, length-append x b)) in
       let top : Record = row d (r .number) packedHead 0 (at + a) (at + z) at in
-      head-back t d at r i b (Packed (r .number) (y .kind) a z) packedHead qs rs (xs .0) (ys .0)
-      (ap (field (says sch) d t) (append-assoc (tagBytes r) (prefixed i) b) ∙ field-is sch d t r (prefixed i ++ b) ex (other packed) (ap shape kin ∙ shape-packed) packedHead kin
-      ∙ packed-written d (y .kind) (r .number) (r .kind) (length (tagBytes r)) i b small)
+      head-back t d at r i b mode (Packed (r .number) (y .kind) a z) packedHead qs rs (xs .0) (ys .0)
+      (ap (field (looking mode sch) d t) (append-assoc (tagBytes r) (prefixed i) b) ∙ field-is mode sch d t r (prefixed i ++ b) ex (other packed) (ap shape kin ∙ shape-packed) packedHead kin
+      ∙ packed-written mode d (y .kind) (r .number) (r .kind) (length (tagBytes r)) i b small)
       refl (omega (arith, encode-pos 9 (r .number * 8 + wire (r .kind)))) dep kin val (ap hasContent shape-packed)
       (ap (λ (w : Bool). if w then Done else (top then contents (shape (y .kind)) (d + 1) (r .number) (y .kind) at (at + a) (part a z (x ++ b)))) apart
       ∙ ap (_then_ top)

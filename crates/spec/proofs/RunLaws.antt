@@ -1,5 +1,5 @@
 -- What a pass over a list that the check found without fault may rely on: `Sane`, which still holds when the first record is taken off, so that a
--- loop can keep it; the runs that the depths cut a list into, with their sizes and bytes; and the records of some numbers, one behind the other.
+-- loop can keep it; the runs that the depths cut a list into, with their sizes and bytes; and the records of some numbers, one after the other.
 -- Assumes nothing.
 use Prim.Native.Nat.{ℕ, zero, suc, _+_, _*_, _≤_, _<_}
 use native.Mathlib.Omega.{arith}
@@ -34,7 +34,7 @@ use Rattle.spec.proofs.SizeLaws.{sizeIn, size-cons, size-written}
 
 -- ---- runs
 
--- the records in front that stand at depth d or deeper, and those behind them
+-- the records in front that stand at depth d or deeper, and those after them
 unfoldable pub front : ℕ → List Record → List Record
 front d [] = []
 front d (r ∷ rs) =
@@ -109,7 +109,7 @@ module _ (d e : ℕ) (deep : d ≤ e) where
       (λ l. rw (front-low e (r ∷ rs) l, behind-low e (r ∷ rs) l) refl)
       (λ l. front-cons d r rs (omega arith) ∙ ap (_∷_ r) (front-front rs) ∙ sym (rw (front-cons e r rs l, behind-cons e r rs l) refl))
 
--- the size of a record, of those in it and of those behind it
+-- the size of a record, of those in it and of those after it
 pub size-run : (tags : Bool) (r : Record) (xs ys : List Record) → Over (r .depth + 1) xs → Low (r .depth + 1) ys
     → sizeIn tags (r ∷ (xs ++ ys))
     ≡ (if tags then tagSize (r .number) else 0) + bodySize (shape (r .kind)) r (sizeIn (not (eqb (r .kind) packedHead)) xs) + sizeIn tags ys
@@ -151,7 +151,7 @@ pub data Row (d m k : ℕ) : List Record → Type 0 where
   row-end : {rs : List Record} → Low d rs → Row d m k rs
   row-more : {r : Record} {rs : List Record} → r .depth ≡ d → r .number ≡ m → r .kind ≡ k → Row d m k rs → Row d m k (r ∷ rs)
 
--- What stands behind a record of this shape. Only a head has deeper records behind it, and a packed head has at least one.
+-- What comes after a record of this shape. Only a head has deeper records after it, and a packed head has at least one.
 pub data Nested (r : Record) : List Record → Shape → Type 0 where
   a-scalar : {rs : List Record} {c : Scalar} → fits c (r .value) ≡ true → Low (r .depth + 1) rs → Nested r rs (one c)
   a-string : {rs : List Record} → r .start ≤ r .stop → Low (r .depth + 1) rs → Nested r rs (other string)
@@ -389,7 +389,7 @@ records-drop (suc n) ns =
     let one-more : stride + stride * n ≡ stride * suc n = omega arith in
     ap (drop (suc n)) (records-cons ns l) ∙ records-drop n (drop stride ns) ∙ ap recordsOf (drop-drop (stride * n) stride ns ∙ ap (λ (k : ℕ). drop k ns) one-more))
 
--- as many numbers as the stride says make a record, and so does a rest of fewer
+-- as many numbers as the stride says make a record, and so does a remainder of fewer
 pub records-count : (k : ℕ) (ns : List ℕ) → length ns ≤ k → (length ns ≤ stride * length (recordsOf ns)) × (stride * length (recordsOf ns) < length ns + stride)
 records-count zero ns h =
     let empty : ns ≡ [] = drop-of-length-le ns {i = 0} (omega arith) in

@@ -94,7 +94,7 @@ repeated-bad types o n k r c h =
     ap (λ (b : Bool). goodEntry types (if b then record { owner = o; number = n; kind = k; repeated = eqb r 1; child = c } else noEntry)) (le-ltb r 2 h)
     ∙ no-entry-bad types
 
--- a rest behind the whole entries is bad at 0
+-- a remainder after the whole entries is bad at 0
 pub rest-bad : (types : ℕ) (ns : List ℕ) → (length ns % entryStride ≡ 0 → ⊥) → badSchema (schemaOf types ns) ≡ some 0
 unfolding schemaOf badSchema
 rest-bad types ns h =
@@ -269,7 +269,7 @@ module _ (types o n i : ℕ) (e : Entry) (es : List Entry) where
   unfolding badEntry
   entry-stops h = simp h
 
--- a valid list of entries: the first rises, and the rest is valid behind it
+-- a valid list of entries: the first rises, and the rest is valid after it
 pub first-entry : (types o n i : ℕ) (e : Entry) (es : List Entry) → badEntry types o n i (e ∷ es) ≡ none
     → Before o n (e .owner) (e .number) × (badEntry types (e .owner) (e .number) (i + 1) es ≡ none) × (goodEntry types e ≡ true)
 first-entry types o n i e es h =
@@ -283,7 +283,7 @@ first-entry types o n i e es h =
 abbrev pub Rises : Entry → Entry → Type 0
 Rises e f = Before (e .owner) (e .number) (f .owner) (f .number)
 
--- each entry is good, and stands behind the owner and number that stand before all
+-- each entry is good, and comes after the owner and number that stand before all
 entry-valid : (types o n i : ℕ) (es : List Entry) → badEntry types o n i es ≡ none → (j : ℕ) → j < length es
     → Before o n (getD es j noEntry .owner) (getD es j noEntry .number) × (goodEntry types (getD es j noEntry) ≡ true)
 entry-valid types o n i [] h j l = absurd (omega arith)
@@ -338,7 +338,7 @@ module _ (sch : Schema) (valid : badSchema sch ≡ none) where
       let f = first-found (sch .entries) o n i 0 l is (λ j u other. before-not (valid-rises j i u l) (omega arith)) in
       (f .0, f .1 ∙ ap some (omega arith))
 
-  -- what stands behind an entry stands behind all below it, and what stands before one before all above it
+  -- what comes after an entry comes after all below it, and what stands before one before all above it
   pub valid-below : (o n i : ℕ) → i < length (sch .entries) → Before (at sch i .owner) (at sch i .number) o n → (j : ℕ) → j ≤ i → Before (at sch j .owner) (at sch j .number) o n
   valid-below o n i l b j u =
       lower-or-not j i (λ c. before-after (valid-rises j i c l) b) (λ c. let e : i ≡ j = omega arith in subst (λ (k : ℕ). Before (at sch k .owner) (at sch k .number) o n) e b)
@@ -347,7 +347,7 @@ module _ (sch : Schema) (valid : badSchema sch ≡ none) where
   valid-above o n i b j u l =
       lower-or-not i j (λ c. before-after b (valid-rises i j c l)) (λ c. let e : i ≡ j = omega arith in subst (λ (k : ℕ). Before o n (at sch k .owner) (at sch k .number)) e b)
 
-  -- where the entries below a place stand before this owner and number, and those from the place on behind them, none is found
+  -- where the entries below a place stand before this owner and number, and those from the place on after them, none is found
   pub valid-none : (o n i : ℕ) → ((j : ℕ) → j < i → Before (at sch j .owner) (at sch j .number) o n)
       → ((j : ℕ) → i ≤ j → j < length (sch .entries) → Before o n (at sch j .owner) (at sch j .number))
       → (lookup (sch .entries) o n ≡ noEntry) × (placeOf 0 (sch .entries) o n ≡ none)

@@ -1,5 +1,5 @@
 -- Sizes are the lengths of what is written: of a value, a tag, a field and a list, level by level. No bound on them is asked for, so that a
--- list's size tells what is above the size limit as well. Then what the calls that write and that tell sizes answer. Assumes nothing.
+-- list's size is defined above the size limit as well. Then what the calls that write and that give sizes answer. Assumes nothing.
 use Prim.Native.Nat.{ℕ, zero, suc, _+_, _-_, _^_, _≤_, _<_}
 use native.Mathlib.Omega.{arith}
 use mathlib.Core.Path.{_≡_, refl, sym, ap, ap₂, _∙_}
@@ -19,11 +19,11 @@ use Rattle.spec.specs.Kind.{Scalar, int32, uint32, uint64, bool, sint32,
 use Rattle.spec.specs.Schema.{Schema, badSchema}
 use Rattle.spec.specs.Record.{Record, row, deeper}
 use Rattle.spec.specs.Sizes.{scalarSize, prefixedSize, valueSize, fieldSize, valuesSize, packedSize, bodySize, unknownsSize, unknownFieldsSize, sizeUpTo, sizeOf}
-use Rattle.spec.specs.Writing.{prefixed, body, tagOf, bytesOf, written, Place, Fields, expected, lies, fitting, nextDeeper, around, inside, recordFault, Verdict, Fine, Faulty, orElse, listFault, schemaFirst, listCheck, Writing, Wrote, Failed, number, size, output, judged, sized, writing, sizing}
+use Rattle.spec.specs.Writing.{prefixed, body, tagOf, bytesOf, written, Place, Fields, expected, lies, fitting, nextDeeper, around, inside, recordFault, Verdict, Fine, Faulty, orElse, listFault, schemaFirst, listCheck, Writing, Wrote, Failed, number, size, output, judged, bySize, sized, writing, sizing}
 use Rattle.spec.proofs.Laws.{both, either-way, chosen}
 use Rattle.spec.proofs.VarintLaws.{length-encode, size-one, size-ten, length-tag, length-little}
 use Rattle.spec.proofs.RoundTrip.{hasContent, shape-packed}
-use Rattle.spec.proofs.ListLaws.{first-fine, sound-record}
+use Rattle.spec.proofs.ListLaws.{accepted, first-fine, sound-record}
 
 -- ---- a value, a content, a tag
 
@@ -233,7 +233,7 @@ writing-answered sch room payload rs =
     judged-answered (first-numbered (badSchema sch) (list-numbered sch payload 0 (Fields 0 ∷ []) rs)) (sized-answered room (written payload rs))
 
 module _ {room : ℕ} {b : List ℕ} where
-  -- on a refusal the size is 0, but for 12, which tells the size that is needed
+  -- on a refusal the size is 0, but for 12, where it is the size that is needed
   pub size-refused : {w : Writing} → Answered room b w → number w ≢ 0 → number w ≢ outputShort → size w ≡ 0
   unfolding number size
   size-refused (wrote h j) p q = absurd (p refl)
@@ -248,20 +248,15 @@ module _ {room : ℕ} {b : List ℕ} where
   size-short (above h) e = absurd (omega arith)
   size-short (faulty h j) e = absurd (omega arith)
 
--- so the answer for a list without fault can be told from its size, before a byte is written
-after-schema : (bad : Option ℕ) (v : Verdict) → schemaFirst bad v ≡ Fine → v ≡ Fine
-unfolding schemaFirst
-after-schema none v e = e
-after-schema (some i) v e = let z : _≡_ {A = ℕ} 0 1 = cc in absurd (omega arith)
-
+-- so the answer for a list without fault is known from its size, before a byte is written
 pub writing-by-size : (sch : Schema) (room : ℕ) (payload : List ℕ) (rs : List Record) → listCheck sch payload rs ≡ Fine
     → writing sch room payload rs
-    ≡ (if ltb limit (sizeOf rs) then Failed tooLarge 0 0 else if ltb room (sizeOf rs) then Failed outputShort (sizeOf rs) 0 else Wrote (written payload rs))
+    ≡ bySize room (sizeOf rs) (Wrote (written payload rs))
 unfolding writing listCheck judged sized
 writing-by-size sch room payload rs e =
     ap (λ (v : Verdict). judged v (sized room (written payload rs))) e
-    ∙ ap (λ (n : ℕ). if ltb limit n then Failed tooLarge 0 0 else if ltb room n then Failed outputShort n 0 else Wrote (written payload rs))
-    (sym (size-written sch payload rs (after-schema (badSchema sch) (listFault sch payload 0 (Fields 0 ∷ []) rs) e)))
+    ∙ ap (λ (n : ℕ). bySize room n (Wrote (written payload rs)))
+    (sym (size-written sch payload rs (accepted (badSchema sch) (listFault sch payload 0 (Fields 0 ∷ []) rs) e .1)))
 
 -- the size call never lacks room
 pub sizing-roomy : (sch : Schema) (payload : List ℕ) (rs : List Record) → number (sizing sch payload rs) ≢ outputShort

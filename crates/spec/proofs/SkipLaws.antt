@@ -134,7 +134,7 @@ pub group-bad-tag : (atEnd : Read) (level b k : ℕ) (s : List ℕ) → tag (b �
 group-bad-tag atEnd level b k s e = group-step atEnd level b s ∙ next-no _ e
 
 module _ (atEnd : Read) (level : ℕ) where
-  -- the field behind the tag, and the rest of the group
+  -- the field after the tag, and the rest of the group
   abbrev fieldAndRest : List ℕ → ℕ → ℕ → Read
   fieldAndRest s t n =
       skipField innerGroup level (t % 8) (drop n s) >>= λ v m. skipGroup (length (drop (n + m) s)) atEnd level (drop (n + m) s)
@@ -200,13 +200,13 @@ tag-read s t n e = go (varint32 s) e
 -- ---- the two calls: 11, then 3, then what the field says
 
 module _ (t : ℕ) (s : List ℕ) where
-  checked-long : (r : Read) → limit < length s → checked t s r ≡ No tooLarge
+  pub checked-long : (r : Read) → limit < length s → checked t s r ≡ No tooLarge
   checked-long r h = if-so (ltb _ (length s)) _ (λ e. omega (arith, ltb-false _ (length s) e))
 
-  checked-bad : (r : Read) → length s ≤ limit → goodTag t ≡ false → checked t s r ≡ No badTag
+  pub checked-bad : (r : Read) → length s ≤ limit → goodTag t ≡ false → checked t s r ≡ No badTag
   checked-bad r h g = if-not (ltb _ (length s)) _ (λ e. omega (arith, ltb-true _ (length s) e)) ∙ simp g
 
-  checked-good : (r : Read) → length s ≤ limit → goodTag t ≡ true → checked t s r ≡ r
+  pub checked-good : (r : Read) → length s ≤ limit → goodTag t ≡ true → checked t s r ≡ r
   checked-good r h g = if-not (ltb _ (length s)) _ (λ e. omega (arith, ltb-true _ (length s) e)) ∙ simp g
 
 module _ (t level : ℕ) (s : List ℕ) where

@@ -1,8 +1,9 @@
--- A `Tree` is a valid list, and its bytes are those written: the converse of `valid-tree`. Assumes nothing.
+-- The valid lists are those with a tree, and a tree's bytes are those written (specs/Tree). That a valid list has one is ListLaws' `valid-tree`. Assumes nothing.
 use Prim.Native.Nat.{ℕ, suc, _+_, _≤_}
 use native.Mathlib.Omega.{arith}
 use mathlib.Core.Path.{_≡_, refl, sym, ap, ap₂, _∙_, subst}
 use mathlib.Core.Bool.{Bool, true, false, not, _&&_, false≢true}
+use mathlib.Core.Option.{Option}
 use mathlib.Core.List.{List, [], _∷_, _++_, append-assoc, append-nil}
 use lib.ListN.{length}
 use lib.Dec.{leb, eqb}
@@ -11,14 +12,16 @@ use Rattle.spec.specs.Names.{invalidList, largestNumber, messageKind, mo
 use Rattle.spec.specs.Base.{if_then_else_, part}
 use Rattle.spec.specs.Utf8.{utf8}
 use Rattle.spec.specs.Kind.{Scalar, int32, uint32, uint64, bool, sint32, sint64, fixed32, sfixed32, fixed64, Shape, one, other, string, bytes, message, packed, startGroup, endGroup, nothing, shape, wire, isScalar, encoded}
-use Rattle.spec.specs.Schema.{Schema, lookup}
-use Rattle.spec.specs.Writing.{prefixed, body, tagOf, bytesOf, written, Place, Fields, Elements, recorded, expected, fitting, nextDeeper, inside, recordFault, Verdict, Fine, orElse, listFault}
+use Rattle.spec.specs.Schema.{Schema, badSchema, lookup}
+use Rattle.spec.specs.Writing.{prefixed, body, tagOf, bytesOf, written, Place, Fields, Elements, recorded, expected, fitting, nextDeeper, inside, recordFault, Verdict, Fine, orElse, listFault, schemaFirst, listCheck}
+use Rattle.spec.specs.Tree.{ListHasTree, TreeIsList}
 use Rattle.spec.specs.Record.{Record}
 use Rattle.spec.proofs.KindLaws.{wireOne, wireOf, wire-shape}
 use Rattle.spec.proofs.Laws.{both-true}
+use Rattle.spec.proofs.SchemaLaws.{schema-kinds}
 use Rattle.spec.proofs.WritingLaws.{bytesIn}
 use Rattle.spec.proofs.RoundTrip.{Expected, Values, no-value, value, Tree, no-field, number, text, blob, inner, row-of, shape-message, shape-packed}
-use Rattle.spec.proofs.ListLaws.{Over, over-nil, over-cons, over-append, over-weaker, Low, bytes-run, around-here, left, values-low, tree-low, is-string-kind}
+use Rattle.spec.proofs.ListLaws.{Over, over-nil, over-cons, over-append, over-weaker, Low, bytes-run, around-here, left, values-low, tree-low, is-string-kind, accepted, valid-tree}
 use Rattle.spec.specs.declared.Entry.{Entry}
 
 -- ---- kinds that differ, and wire types that give records
@@ -137,7 +140,7 @@ module _ (sch : Schema) (payload : List ℕ) where
       (ap (λ (k : ℕ). body (shape k) payload r (bytesIn (not (eqb k packedHead)) payload qs)) kin
       ∙ ap (λ (x : Shape). body x payload r (bytesIn false payload qs)) shape-packed ∙ ap prefixed (values-bytes sh in-it)) (tree-bytes rest)
 
-  -- ---- its validity: each record is without fault, if the records behind it are
+  -- ---- its validity: each record is without fault, if the records after it are
 
   no-fault : (here : Place) (out : List Place) (r : Record) (rs : List Record) → expected sch here r ≡ true → fitting (shape (r .kind)) payload r ≡ true
       → (eqb (r .kind) packedHead && not (nextDeeper r rs)) ≡ false → (eqb (r .kind) messageKind && leb mostLevels (r .depth)) ≡ false
@@ -259,3 +262,16 @@ module _ (sch : Schema) (payload : List ℕ) where
   pub tree-written : {rs : List Record} {b : List ℕ} → Tree sch payload 0 0 rs b → written payload rs ≡ b
   unfolding written
   tree-written tr = tree-bytes tr
+
+-- ---- the check and the grammar
+
+pub list-has-tree : ListHasTree
+unfolding listCheck
+list-has-tree sch payload rs e =
+    let (valid, fine) = accepted (badSchema sch) (listFault sch payload 0 (Fields 0 ∷ []) rs) e in
+    valid-tree sch payload (schema-kinds sch valid) rs fine
+
+pub tree-is-list : TreeIsList
+unfolding listCheck schemaFirst
+tree-is-list sch payload rs b valid tr =
+    (ap (λ (o : Option ℕ). schemaFirst o (listFault sch payload 0 (Fields 0 ∷ []) rs)) valid ∙ tree-valid sch payload tr, tree-written sch payload tr)

@@ -1,5 +1,5 @@
 -- The two readings of RFC 3629 agree: bytes are valid by the table of section 4 (specs/Utf8) exactly when they are the octets that
--- section 3 builds of scalar values, one behind the other (specs/Unicode).
+-- section 3 builds of scalar values, one after the other (specs/Unicode).
 -- Assumes nothing.
 use Prim.Native.Nat.{ℕ, zero, suc, _+_, _-_, _*_, _/_, _≤_, _<_}
 use native.Mathlib.Omega.{arith}
@@ -67,7 +67,7 @@ follows zero lo hi s f = refl
 follows (suc n) lo hi [] f = absurd f
 follows (suc n) lo hi (b ∷ s) f = both-true (both-true (le-leb lo b (f .0)) (le-leb b hi (f .1))) (follows n 0x80 0xbf s (f .2))
 
--- the number u with the six bits of the octet x behind it
+-- the number u with the six bits of the octet x after it
 unfoldable joined : ℕ → ℕ → ℕ
 joined u x = 64 * u + (x - 0x80)
 
@@ -75,7 +75,7 @@ joined-parts : (u x : ℕ) → 0x80 ≤ x → x ≤ 0xbf → (joined u x / 64 �
 unfolding joined
 joined-parts u x l h = omega arith
 
--- The bounds of a first follower x are those that keep the value, here without the followers behind x, in its range:
+-- The bounds of a first follower x are those that keep the value, here without the followers after x, in its range:
 -- from 800 and no surrogate, in 64s, and from 10000 to 10ffff, in 4096s.
 abbrev Third : ℕ → ℕ → Type 0
 Third b x = (0x80 ≤ x) × (x ≤ 0xbf) × (0x20 ≤ joined (b - 0xe0) x) × (joined (b - 0xe0) x / 0x20 ≢ 0x1b)

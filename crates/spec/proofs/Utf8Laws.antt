@@ -77,7 +77,7 @@ unfolding validPrefix chars
 prefix-stop [] e = refl
 prefix-stop (b ∷ s) e = simp e
 
--- a turn of the loop: a character is passed
+-- an iteration of the loop: a character is passed
 pub prefix-step : (s : List ℕ) → 0 < char s → validPrefix s ≡ char s + validPrefix (drop (char s) s)
 unfolding validPrefix chars
 prefix-step [] h = absurd (omega (arith, char-le []))
@@ -86,12 +86,12 @@ prefix-step (b ∷ s) h =
     (ap (λ (n : ℕ). char (b ∷ s) + n)
     (chars-enough (length s) (length (drop (char (b ∷ s)) (b ∷ s))) (drop (char (b ∷ s)) (b ∷ s)) (omega (arith, length-drop (char (b ∷ s)) (b ∷ s))) (omega arith)))
 
--- a byte of ASCII is a character, so that a loop may take it without a look at what follows
+-- a byte of ASCII is a character, so that a loop may take it without testing what follows
 pub char-ascii : (b : ℕ) (s : List ℕ) → b < 128 → char (b ∷ s) ≡ 1
 unfolding char lead behind followers
 char-ascii b s h = simp (le-leb b 0x7f (omega arith))
 
--- a run of ASCII is passed at once, for a loop that tests several bytes in a turn
+-- a run of ASCII is passed at once, for a loop that tests several bytes in an iteration
 pub prefix-ascii : (n : ℕ) (s : List ℕ) → n ≤ length s → ((k : ℕ) → k < n → getD s k 0 < 128) → validPrefix s ≡ n + validPrefix (drop n s)
 prefix-ascii zero s h low = omega arith
 prefix-ascii (suc n) [] h low = absurd (omega arith)
@@ -102,7 +102,7 @@ prefix-ascii (suc n) (b ∷ s) h low =
 
 -- ---- the name is right: the longest valid prefix is valid, and it is the longest
 
--- what holds where no character stands, and before a character where it holds behind it, holds of all bytes
+-- what holds where no character stands, and before a character where it holds after it, holds of all bytes
 by-chars {ℓ} : (P : List ℕ → Type ℓ) → ((s : List ℕ) → char s ≡ 0 → P s)
     → ((n : ℕ) (s : List ℕ) → char s ≡ suc n → P (drop (suc n) s) → P s) → (s : List ℕ) → P s
 unfolding char
@@ -135,7 +135,7 @@ behind-front (Follow m lo hi) n s t e = go (followers m lo hi s) refl e
         let g : followers m lo hi (take n s ++ t) ≡ true = rw k (followers-front m lo hi s t (followers-le m lo hi s f) ∙ f) in
         rw g e
 
--- a character is told by its own bytes, whatever stands behind them
+-- a character is known from its own bytes, whatever comes after them
 char-front : (n : ℕ) (s t : List ℕ) → char s ≡ suc n → char (take (suc n) s ++ t) ≡ suc n
 unfolding char
 char-front n [] t e = absurd (omega arith)
@@ -146,7 +146,7 @@ prefix-front n s t e =
     let c : char (take (suc n) s ++ t) ≡ suc n = char-front n s t e in
     rw (c, drop-at (take (suc n) s) t (suc n) (length-take-le (suc n) s (omega (arith, char-le s)))) at (prefix-step (take (suc n) s ++ t) (omega arith))
 
--- what holds of no bytes, and before a character where it holds behind it, holds of valid bytes
+-- what holds of no bytes, and before a character where it holds after it, holds of valid bytes
 pub by-valid {ℓ} : (P : List ℕ → Type ℓ) → P [] → ((n : ℕ) (s : List ℕ) → char s ≡ suc n → P (drop (suc n) s) → P s)
     → (s : List ℕ) → utf8 s ≡ true → P s
 by-valid P empty step =

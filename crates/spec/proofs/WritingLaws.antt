@@ -10,13 +10,13 @@ use lib.Seq.{drop-append-seam, take-append-seam}
 use lib.Dec.{leb, ltb, eqb}
 use borrow.Author.Tests.{le-leb}
 use Rattle.spec.specs.Names.{badTag, endsEarly, fixed32Wire, largestNumber, mostLevels, notUtf8, packedHead}
-use Rattle.spec.specs.Base.{if_then_else_, part, Read, Took, No, require, longer, _>>=_, limit}
+use Rattle.spec.specs.Base.{if_then_else_, part, Took, No, require, limit}
 use Rattle.spec.specs.Varint.{varint, encode, tag, goodTag}
 use Rattle.spec.specs.Utf8.{utf8}
 use Rattle.spec.specs.Kind.{Scalar, one, other, string, bytes, message, packed, shape, encoded, fits}
 use Rattle.spec.specs.Schema.{Schema, lookup, Says, saysOf, says}
-use Rattle.spec.specs.Skip.{content}
-use Rattle.spec.specs.Reading.{Field, Value, Message, Packed, Fault, shaped, field}
+use Rattle.spec.specs.Skip.{content, spanned}
+use Rattle.spec.specs.Reading.{Mode, looking, Field, Value, Message, Packed, Fault, shaped, field}
 use Rattle.spec.specs.Record.{Record, deeper}
 use Rattle.spec.proofs.Laws.{either-way, both-true}
 use Rattle.spec.specs.Writing.{prefixed, body, tagOf, bytesOf}
@@ -36,15 +36,15 @@ tag-written m w u h i j =
 -- a prefixed content is found again, whichever width its length is read in
 pub content-written : (k last : ℕ) (c u : List ℕ) → k ≤ 9 → last < 128 → length c < top k last
     → content (varint k last) (prefixed c ++ u) ≡ Took (length (encode (length c))) (length (prefixed c))
-unfolding content _>>=_ longer
+unfolding content
 content-written k last c u h i j =
     let p : List ℕ = encode (length c) in
     let x : List ℕ = p ++ c ++ u in
     let reads : varint k last x ≡ Took (length c) (length p) = ap (varint k last) (append-assoc p c u) ∙ varint-shortest k 9 last (length c) (c ++ u) h i j in
     let fits : leb (length p + length c) (length x) ≡ true =
     le-leb (length p + length c) (length x) (omega (arith, length-append (p ++ c) u, length-append p c)) in
-    ap (λ (r : Read). r >>= λ m n. if leb (n + m) (length x) then Took n m else No endsEarly) reads
-    ∙ ap (λ (b : Bool). longer (length p) (if b then Took (length p) (length c) else No endsEarly)) fits
+    ap (spanned (length x)) reads
+    ∙ ap (λ (b : Bool). if b then Took (length p) (length p + length c) else No endsEarly) fits
     ∙ ap (Took (length p)) (sym (length-append p c))
 
 pub part-written : (c u : List ℕ) → part (length (encode (length c))) (length (prefixed c)) (prefixed c ++ u) ≡ c
@@ -53,26 +53,26 @@ part-written c u =
     let long : length (p ++ c) - length p ≡ length c = omega (arith, length-append p c) in
     ap₂ take long (ap (drop (length p)) (append-assoc p c u) ∙ drop-append-seam p (c ++ u)) ∙ take-append-seam c u
 
--- the field behind a written tag, as its entry and its wire type say
-pub field-written : (sch : Schema) (depth type m w : ℕ) (u : List ℕ) → 1 ≤ m → m ≤ largestNumber → w ≤ fixed32Wire
-    → field (says sch) depth type (encode (m * 8 + w) ++ u)
-    ≡ shaped (shape (saysOf (lookup (sch .entries) type m) w .kind)) depth (saysOf (lookup (sch .entries) type m) w .inner) m (saysOf (lookup (sch .entries) type m) w .kind)
+-- the field after a written tag, as its entry and its wire type say
+pub field-written : (mode : Mode) (sch : Schema) (depth type m w : ℕ) (u : List ℕ) → 1 ≤ m → m ≤ largestNumber → w ≤ fixed32Wire
+    → field (looking mode sch) depth type (encode (m * 8 + w) ++ u)
+    ≡ shaped mode (shape (saysOf (lookup (sch .entries) type m) w .kind)) depth (saysOf (lookup (sch .entries) type m) w .inner) m (saysOf (lookup (sch .entries) type m) w .kind)
     (length (encode (m * 8 + w))) u
 unfolding field says
-field-written sch depth type m w u h i j =
+field-written mode sch depth type m w u h i j =
     let t : ℕ = m * 8 + w in
     let s : List ℕ = encode t ++ u in
     let said : ℕ → ℕ → Says = λ x y. saysOf (lookup (sch .entries) type x) y in
-    let at : ℕ → ℕ → List ℕ → Field = λ x y v. shaped (shape (said x y .kind)) depth (said x y .inner) x (said x y .kind) (length (encode t)) v in
+    let at : ℕ → ℕ → List ℕ → Field = λ x y v. shaped mode (shape (said x y .kind)) depth (said x y .inner) x (said x y .kind) (length (encode t)) v in
     given-took _ (tag-written m w u h i j)
     ∙ ap (λ (x : ℕ). at x (t % 8) (drop (length (encode t)) s)) (omega arith)
     ∙ ap (λ (y : ℕ). at m y (drop (length (encode t)) s)) (omega arith)
     ∙ ap (at m w) (drop-append-seam (encode t) u)
 
-pub scalar-written : (c : Scalar) (depth inner m kind n v : ℕ) (u : List ℕ) → fits c v ≡ true
-    → shaped (one c) depth inner m kind n (encoded c v ++ u) ≡ Value m kind v n (n + length (encoded c v))
+pub scalar-written : (mode : Mode) (c : Scalar) (depth inner m kind n v : ℕ) (u : List ℕ) → fits c v ≡ true
+    → shaped mode (one c) depth inner m kind n (encoded c v ++ u) ≡ Value m kind v n (n + length (encoded c v))
 unfolding shaped
-scalar-written c depth inner m kind n v u h = given-took _ (scalar-encoded c v u h)
+scalar-written mode c depth inner m kind n v u h = given-took _ (scalar-encoded c v u h)
 
 -- the same for a content c of at most the size limit, whose start and end are then
 abbrev pub from : List ℕ → ℕ
@@ -81,20 +81,20 @@ from c = length (encode (length c))
 abbrev pub to : List ℕ → ℕ
 to c = length (prefixed c)
 
-module _ (depth inner m kind n : ℕ) (c u : List ℕ) (small : length c ≤ limit) where
-  pub bytes-written : shaped (other bytes) depth inner m kind n (prefixed c ++ u) ≡ Value m kind 0 (n + from c) (n + to c)
-  bytes-written = bytes-value depth inner m kind n (prefixed c ++ u) ∙ given-took _ (content-written 4 15 c u (omega arith) (omega arith) (omega arith))
+module _ (mode : Mode) (depth inner m kind n : ℕ) (c u : List ℕ) (small : length c ≤ limit) where
+  pub bytes-written : shaped mode (other bytes) depth inner m kind n (prefixed c ++ u) ≡ Value m kind 0 (n + from c) (n + to c)
+  bytes-written = bytes-value mode depth inner m kind n (prefixed c ++ u) ∙ given-took _ (content-written 4 15 c u (omega arith) (omega arith) (omega arith))
 
-  pub string-written : utf8 c ≡ true → shaped (other string) depth inner m kind n (prefixed c ++ u) ≡ Value m kind 0 (n + from c) (n + to c)
+  pub string-written : utf8 c ≡ true → shaped mode (other string) depth inner m kind n (prefixed c ++ u) ≡ Value m kind 0 (n + from c) (n + to c)
   string-written h =
-      string-value depth inner m kind n (prefixed c ++ u) ∙ given-took _ (content-written 4 15 c u (omega arith) (omega arith) (omega arith))
+      string-value mode depth inner m kind n (prefixed c ++ u) ∙ given-took _ (content-written 4 15 c u (omega arith) (omega arith) (omega arith))
       ∙ ap (λ (b : Bool). if b then Value m kind 0 (n + from c) (n + to c) else Fault notUtf8 0) (ap utf8 (part-written c u) ∙ h)
 
-  pub message-written : depth < mostLevels → shaped (other message) depth inner m kind n (prefixed c ++ u) ≡ Message m inner (n + from c) (n + to c)
-  message-written h = message-head depth inner m kind n (prefixed c ++ u) h ∙ given-took _ (content-written 9 1 c u (omega arith) (omega arith) (omega arith))
+  pub message-written : depth < mostLevels → shaped mode (other message) depth inner m kind n (prefixed c ++ u) ≡ Message m inner (n + from c) (n + to c)
+  message-written h = message-head mode depth inner m kind n (prefixed c ++ u) h ∙ given-took _ (content-written 9 1 c u (omega arith) (omega arith) (omega arith))
 
-  pub packed-written : shaped (other packed) depth inner m kind n (prefixed c ++ u) ≡ Packed m inner (n + from c) (n + to c)
-  packed-written = packed-head depth inner m kind n (prefixed c ++ u) ∙ given-took _ (content-written 9 1 c u (omega arith) (omega arith) (omega arith))
+  pub packed-written : shaped mode (other packed) depth inner m kind n (prefixed c ++ u) ≡ Packed m inner (n + from c) (n + to c)
+  packed-written = packed-head mode depth inner m kind n (prefixed c ++ u) ∙ given-took _ (content-written 9 1 c u (omega arith) (omega arith) (omega arith))
 
 -- ---- the bytes of a list: enough steps are enough, and the equation with no count
 
@@ -120,7 +120,7 @@ bytesOf-enough (suc f) (suc g) tags payload (r ∷ rs) hf hg =
     (bytesOf-enough f g (not (eqb (r .kind) packedHead)) payload (take n rs) (omega arith) (omega arith))
     (bytesOf-enough f g tags payload (drop n rs) (omega arith) (omega arith))
 
--- a record's tag and body, in which the records that stand deeper are written, and then those behind them
+-- a record's tag and body, in which the records that stand deeper are written, and then those after them
 abbrev pub bytesIn : Bool → List ℕ → List Record → List ℕ
 bytesIn tags payload rs = bytesOf (length rs) tags payload rs
 

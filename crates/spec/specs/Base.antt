@@ -2,7 +2,7 @@
 -- A byte is a number below 256, and a run of bytes is a List ℕ. Refusals have the numbers of specs/Names.
 -- Some definitions count down a first number k, as they recur on bytes that are no part of the pattern. Their callers give the length;
 -- that any k which is no less gives the same, and the equations with no k, are laws (proofs/).
--- Assumes nothing: these are definitions.
+-- Assumes nothing: these are definitions. Public promises cite it.
 use Prim.Native.Nat.{ℕ, suc, _+_, _-_, _*_}
 use mathlib.Core.Bool.{Bool, true, false, _&&_}
 use mathlib.Core.List.{List, _++_}

@@ -1,11 +1,11 @@
 -- The kinds of descriptor.proto and our own, what stands on the wire for each, and how its value is read and written.
--- Assumes nothing: these are definitions.
+-- Assumes nothing: these are definitions. Public promises cite it.
 use Prim.Native.Nat.{ℕ, _+_, _-_, _^_, min}
 use mathlib.Core.Bool.{Bool, true, false, _||_}
 use mathlib.Core.List.{List, [], _∷_, _++_}
 use lib.ListN.{getD}
-use lib.Dec.{ltb}
-use Rattle.spec.specs.Names.{outOfRange, varintWire, fixed64Wire, delimitedWire, startGroupWire, endGroupWire, fixed32Wire, noWire}
+use lib.Dec.{ltb, eqb}
+use Rattle.spec.specs.Names.{outOfRange, messageKind, packedHead, varintWire, fixed64Wire, delimitedWire, startGroupWire, endGroupWire, fixed32Wire, noWire}
 use Rattle.spec.specs.Base.{if_then_else_, between, Read, meaning, require}
 use Rattle.spec.specs.Varint.{varint32, varint64, encode, zigzag, unzigzag, fixed, little}
 
@@ -53,6 +53,10 @@ wire kind = getD wires kind noWire
 unfoldable pub shape : ℕ → Shape
 unfolding shapes
 shape kind = getD shapes kind (other nothing)
+
+-- the kinds of a head: a message, and a packed field
+abbrev pub headKind : ℕ → Bool
+headKind kind = eqb kind messageKind || eqb kind packedHead
 
 unfoldable pub isScalar : Shape → Bool
 isScalar (one c) = true

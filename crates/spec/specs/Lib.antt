@@ -11,4 +11,6 @@ pub mod Document
 pub mod Reading
 pub mod Sizes
 pub mod Writing
+pub mod Tree
+pub mod Valid
 pub mod Pull

@@ -1,6 +1,6 @@
 -- Names for the numbers of the user's rules: refusals, kinds, wire types, columns, limits. The code has the same names in capitals (src/).
 -- Each is an `abbrev`: to the checker a name and its number are one and the same.
--- Assumes nothing: these are definitions.
+-- Assumes nothing: these are definitions. Public promises cite it.
 use Prim.Native.Nat.{ℕ}
 
 -- ---- refusals

@@ -1,4 +1,4 @@
--- The pull reader: a state, what it may be asked, and what a step says and where it leaves the reader. Assumes nothing: these are definitions.
+-- The pull reader: a state, what it may be asked, and what a step says and where it leaves the reader. Assumes nothing: these are definitions. Public promises cite it.
 use Prim.Native.Nat.{ℕ, _+_}
 use mathlib.Core.List.{List, []}
 use lib.ListN.{length, drop}
@@ -16,7 +16,7 @@ pub record Reader : Type 0 where
   pub at : ℕ
   pub level : ℕ
 
--- the tag as it stands, or the end; a scalar; a content; the field behind a tag that was read
+-- the tag as it stands, or the end; a scalar; a content; the field after a tag that was read
 pub data Ask : Type 0 where
   rawTag : Ask
   value : Scalar → Ask
@@ -40,7 +40,7 @@ pub record Moved : Type 0 where
 abbrev pub says : Said → ℕ → Moved
 says x at = record { said = x; at = at }
 
--- A step at a position moves behind what it took; a refused one stays, and its place is the position.
+-- A step at a position moves past what it took; a refused one stays, and its place is the position.
 unfoldable pub moved : ℕ → (ℕ → ℕ → Said) → Read → Moved
 moved at f (Took v n) = says (f v n) (at + n)
 moved at f (No k) = says (Refused k at) at
@@ -56,7 +56,7 @@ unfoldable pub spelled : ℕ → List ℕ → Read → Moved
 spelled at s (Took a z) = if utf8 (part a z s) then bounded at (Took a z) else says (Refused notUtf8 at) at
 spelled at s (No k) = bounded at (No k)
 
--- What is asked of the bytes s at a position and a level. The raw tag is any varint32; a skip tells how many bytes it used.
+-- What is asked of the bytes s at a position and a level. The raw tag is any varint32; a skip answers how many bytes it used.
 unfoldable pub stepAt : List ℕ → (at level : ℕ) → Ask → Moved
 stepAt s at level rawTag = if leb (length s) at then says End at else numbered at (varint32 (drop at s))
 stepAt s at level (value c) = numbered at (scalar c (drop at s))
@@ -93,7 +93,7 @@ stepped r ask =
     let m = stepAt (r .bytes) (r .at) (r .level) ask in
     record { said = m .said; reader = reader (r .bytes) (m .at) (r .level) }
 
--- Entering gives a reader over the content, one level up, and moves the outer one behind it. Where it is refused the inner one has no bytes.
+-- Entering gives a reader over the content, one level up, and moves the outer one past it. Where it is refused the inner one has no bytes.
 pub record Entered : Type 0 where
   pub said : Said
   pub inner : Reader

@@ -1,4 +1,4 @@
--- What bytes read as under a schema. Assumes nothing: these are definitions.
+-- What bytes read as under a schema. Assumes nothing: these are definitions. Public promises cite it.
 use Prim.Native.Nat.{ℕ, zero, suc, _+_, _/_}
 use mathlib.Core.List.{List, [], _∷_}
 use mathlib.Core.Option.{Option, none, some}
@@ -12,6 +12,24 @@ use Rattle.spec.specs.Kind.{Scalar, Shape, one, other, string, bytes, me
 use Rattle.spec.specs.Schema.{Schema, badSchema, Says, says}
 use Rattle.spec.specs.Skip.{content, outerGroup}
 use Rattle.spec.specs.Record.{Record, row, stored}
+
+-- ---- how a message is read
+
+-- What a caller may choose; there is no choice yet.
+pub record Mode : Type 0 where
+
+-- the mode that is meant where none is named
+abbrev pub plainly : Mode
+plainly = record {}
+
+-- what is known of a tag in a message of a type, and the mode
+pub record Look : Type 0 where
+  pub says : (type tag : ℕ) → Says
+  pub mode : Mode
+
+-- under a schema
+abbrev pub looking : Mode → Schema → Look
+looking mode sch = record { says = says sch; mode = mode }
 
 -- ---- one field
 
@@ -27,29 +45,26 @@ unfoldable pub given : Read → (ℕ → ℕ → Field) → Field
 given (Took v n) f = f v n
 given (No k) f = Fault k 0
 
--- The field m of this kind, whose tag took n bytes, with s behind them; `inner` is what is in it.
-unfoldable pub shaped : Shape → (depth inner m kind n : ℕ) → List ℕ → Field
-shaped (one c) depth inner m kind n s = given (scalar c s) λ v l. Value m kind v n (n + l)
-shaped (other string) depth inner m kind n s =
+-- The field m of this kind, whose tag took n bytes, with s after them; `inner` is what is in it.
+unfoldable pub shaped : Mode → Shape → (depth inner m kind n : ℕ) → List ℕ → Field
+shaped mode (one c) depth inner m kind n s = given (scalar c s) λ v l. Value m kind v n (n + l)
+shaped mode (other string) depth inner m kind n s =
     given (content varint32 s) λ a z. if utf8 (part a z s) then Value m kind 0 (n + a) (n + z) else Fault notUtf8 0
-shaped (other bytes) depth inner m kind n s = given (content varint32 s) λ a z. Value m kind 0 (n + a) (n + z)
-shaped (other message) depth inner m kind n s =
+shaped mode (other bytes) depth inner m kind n s = given (content varint32 s) λ a z. Value m kind 0 (n + a) (n + z)
+shaped mode (other message) depth inner m kind n s =
     if leb mostLevels depth then Fault tooDeep 0 else
     given (content varint64 s) λ a z. Message m inner (n + a) (n + z)
-shaped (other packed) depth inner m kind n s = given (content varint64 s) λ a z. Packed m inner (n + a) (n + z)
-shaped (other startGroup) depth inner m kind n s = given (outerGroup depth s) λ v l. Dropped m (n + l)
-shaped (other endGroup) depth inner m kind n s = Fault noGroupOpen 0
-shaped (other nothing) depth inner m kind n s = Fault badTag 0  -- no kind of a valid schema
-
--- what is known of a tag in a message of a type: for a schema sch that is `says sch`
-abbrev pub Look : Type 0
-Look = (type tag : ℕ) → Says
+shaped mode (other packed) depth inner m kind n s = given (content varint64 s) λ a z. Packed m inner (n + a) (n + z)
+shaped mode (other startGroup) depth inner m kind n s = given (outerGroup depth s) λ v l. Dropped m (n + l)
+shaped mode (other endGroup) depth inner m kind n s = Fault noGroupOpen 0
+shaped mode (other nothing) depth inner m kind n s = Fault badTag 0  -- no kind of a valid schema
 
 -- the field at the front of s, in a message of this type and depth
 unfoldable pub field : Look → (depth type : ℕ) → List ℕ → Field
 field look depth type s =
     given (tag s) λ t n.
-    shaped (shape (look type t .kind)) depth (look type t .inner) (t / 8) (look type t .kind) n (drop n s)
+    let x = look .says type t in
+    shaped (look .mode) (shape (x .kind)) depth (x .inner) (t / 8) (x .kind) n (drop n s)
 
 -- how many bytes it took
 unfoldable pub used : Field → ℕ
@@ -100,15 +115,15 @@ contents (other x) d m kind t at s = Done
 
 -- The records of one field of a message at this depth, whose tag stands at `at`; `inner` reads the content of a message.
 -- Skipped groups and empty packed fields give no record.
-unfoldable pub records : (ℕ → ℕ → List ℕ → Reading) → ℕ → ℕ → List ℕ → Field → Reading
-records inner depth at s (Value m kind v a e) = row depth m kind v (at + a) (at + e) at then Done
-records inner depth at s (Message m child a e) =
+unfoldable pub records : Mode → (ℕ → ℕ → List ℕ → Reading) → ℕ → ℕ → List ℕ → Field → Reading
+records mode inner depth at s (Value m kind v a e) = row depth m kind v (at + a) (at + e) at then Done
+records mode inner depth at s (Message m child a e) =
     row depth m messageKind 0 (at + a) (at + e) at then inner child (at + a) (part a e s)
-records inner depth at s (Packed m kind a e) =
+records mode inner depth at s (Packed m kind a e) =
     let all = row depth m packedHead 0 (at + a) (at + e) at then contents (shape kind) (depth + 1) m kind at (at + a) (part a e s) in
     if eqb a e then Done else all
-records inner depth at s (Dropped m e) = Done
-records inner depth at s (Fault m p) = Refused m (at + p)
+records mode inner depth at s (Dropped m e) = Done
+records mode inner depth at s (Fault m p) = Refused m (at + p)
 
 -- The fields s of a message of this depth and type, which stand at `at`. k is no less than the number of bytes.
 unfoldable pub fields : ℕ → Look → (depth type at : ℕ) → List ℕ → Reading
@@ -117,7 +132,7 @@ fields (suc k) look depth type at [] = Done
 fields (suc k) look depth type at (b ∷ s) =
     let x = field look depth type (b ∷ s) in
     let rest = fields k look depth type (at + used x) (drop (used x) (b ∷ s)) in
-    records (λ child a u. fields k look (depth + 1) child a u) depth at (b ∷ s) x followed-by rest
+    records (look .mode) (λ child a u. fields k look (depth + 1) child a u) depth at (b ∷ s) x followed-by rest
 
 unfoldable pub read : Look → (depth type at : ℕ) → List ℕ → Reading
 read look depth type at s = fields (length s) look depth type at s
@@ -135,10 +150,19 @@ unfoldable pub refusedOr : Option ℕ → Reading → Reading
 refusedOr none q = q
 refusedOr (some i) q = Refused invalidSchema i
 
+-- what is judged before the bytes: their length, then the schema, of which `bad` is the place of a bad entry, where there is one
+unfoldable pub called : Option ℕ → List ℕ → Reading → Reading
+called bad s q = if ltb limit (length s) then Refused tooLarge 0 else refusedOr bad q
+
+-- Over what is known of tags. A table that was prepared from a schema has no bad entry.
+unfoldable pub readingBy : Option ℕ → Look → ℕ → List ℕ → Reading
+readingBy bad look room s = called bad s (within room (read look 0 0 0 s))
+
+unfoldable pub readingAs : Mode → Schema → ℕ → List ℕ → Reading
+readingAs mode sch room s = readingBy (badSchema sch) (looking mode sch) room s
+
 unfoldable pub reading : Schema → ℕ → List ℕ → Reading
-reading sch room s =
-    if ltb limit (length s) then Refused tooLarge 0 else
-    refusedOr (badSchema sch) (within room (read (says sch) 0 0 0 s))
+reading sch room s = readingAs plainly sch room s
 
 -- ---- its parts: number, place and records, whose count is their length
 
@@ -157,6 +181,6 @@ listed Done = []
 listed (Refused k p) = []
 listed (r then q) = r ∷ listed q
 
--- what the lent room, of `stride` numbers a record, then holds: the records, and behind them what it held
+-- what the lent room, of `stride` numbers a record, then holds: the records, and after them what it held
 abbrev pub roomAfter : Reading → List ℕ → List ℕ
 roomAfter q room = filled (stored (listed q)) room

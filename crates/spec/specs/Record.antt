@@ -1,4 +1,4 @@
--- A record, and how lists of records stand in lent numbers. Assumes nothing: these are definitions.
+-- A record, and how lists of records are laid out in lent numbers. Assumes nothing: these are definitions. Public promises cite it.
 use Prim.Native.Nat.{ℕ, zero, suc, _+_}
 use mathlib.Core.List.{List, [], _∷_, _++_}
 use lib.ListN.{length, drop, getD}
@@ -6,7 +6,7 @@ use lib.Dec.{ltb}
 use Rattle.spec.specs.Base.{if_then_else_}
 use Rattle.spec.specs.Names.{depthColumn, numberColumn, kindColumn, valueColumn, startColumn, stopColumn}
 
--- the numbers of a record, and the place of its field's tag, which refusal 8 tells
+-- the numbers of a record, and the place of its field's tag, which is the place of refusal 8
 pub record Record : Type 0 where
   pub depth : ℕ
   pub number : ℕ
@@ -26,7 +26,7 @@ deeper d (r ∷ rs) =
     let more = deeper d rs + 1 in
     if ltb d (r .depth) then more else 0
 
--- ---- as numbers, one record behind the other
+-- ---- as numbers, one record after the other
 
 -- how many numbers a record has; those that are stored; the record that stands at the front of some numbers
 abbrev pub stride : ℕ
@@ -42,7 +42,7 @@ unfoldable pub stored : List Record → List ℕ
 stored [] = []
 stored (r ∷ rs) = numbers r ++ stored rs
 
--- A rest of fewer numbers than a record has is a broken record: of depth 0, so that a packed head before it has no record one deeper behind it,
+-- A remainder of fewer numbers than a record has is an incomplete record: of depth 0, so that a packed head before it has no record one deeper after it,
 -- and of kind 0, which no list may have.
 abbrev pub broken : Record
 broken = row 0 0 0 0 0 0 0

@@ -1,4 +1,4 @@
--- A schema, when it is valid, and what it says of a field. Assumes nothing: these are definitions.
+-- A schema, when it is valid, and what it says of a field. Assumes nothing: these are definitions. Public promises cite it.
 use Prim.Native.Nat.{ℕ, zero, suc, _+_, _/_, _%_}
 use mathlib.Core.Bool.{Bool, true, false, not, _&&_, _||_}
 use mathlib.Core.List.{List, [], _∷_}
@@ -17,7 +17,7 @@ pub record Schema : Type 0 where
 
 -- ---- which are valid
 
--- the entry stands behind the one of this owner and number
+-- the entry comes after the one of this owner and number
 abbrev pub rises : ℕ → ℕ → Entry → Bool
 rises owner number e = ltb owner (e .owner) || eqb owner (e .owner) && ltb number (e .number)
 
@@ -103,7 +103,7 @@ entriesOf (suc k) ns =
     entryOf (getD ns ownerColumn 0) (getD ns entryNumberColumn 0) (getD ns entryKindColumn 0) (getD ns repeatedColumn 0) (getD ns childColumn 0)
     ∷ entriesOf k (drop entryStride ns)
 
--- A rest behind the whole entries is a wrong count of entries: it is a schema of no types, which is bad at 0.
+-- A remainder after the whole entries is a wrong count of entries: it is a schema of no types, which is bad at 0.
 unfoldable pub schemaOf : ℕ → List ℕ → Schema
 schemaOf types ns =
     if eqb (length ns % entryStride) 0

@@ -1,5 +1,5 @@
 -- How many bytes values, fields and records take: the size calls of rust-protobuf's rt, and the size of a list, level by level.
--- Assumes nothing: these are definitions. That each is the length of what is written is a law (proofs/SizeLaws).
+-- Assumes nothing: these are definitions. That each is the length of what is written is a law (proofs/SizeLaws). Public promises cite it.
 use Prim.Native.Nat.{ℕ, zero, suc, _+_, _-_}
 use mathlib.Core.Bool.{Bool, true, not}
 use mathlib.Core.List.{List, [], _∷_}
@@ -28,7 +28,7 @@ scalarSize fixed64 v = 8
 unfoldable pub prefixedSize : ℕ → ℕ
 prefixedSize n = size n + n
 
--- what stands behind the tag: v is the value of a number, and the length of a content
+-- what comes after the tag: v is the value of a number, and the length of a content
 unfoldable pub valueSize : Shape → ℕ → ℕ
 valueSize (one c) v = scalarSize c v
 valueSize (other string) v = prefixedSize v
@@ -43,7 +43,7 @@ valueSize (other nothing) v = 0
 unfoldable pub fieldSize : (kind number v : ℕ) → Read
 fieldSize kind number v = limited (tagSize number + valueSize (shape kind) v)
 
--- `vec_packed_int32_size` and its like: the values behind one tag and one length; nothing where there are none
+-- `vec_packed_int32_size` and its like: the values after one tag and one length; nothing where there are none
 unfoldable pub valuesSize : Shape → List ℕ → ℕ
 valuesSize x [] = 0
 valuesSize x (v ∷ vs) = valueSize x v + valuesSize x vs
@@ -54,7 +54,7 @@ packedSize kind number (v ∷ vs) = limited (tagSize number + prefixedSize (valu
 
 -- ---- records
 
--- what stands behind a record's tag; `inner` is the size of the records in it
+-- what comes after a record's tag; `inner` is the size of the records in it
 unfoldable pub bodySize : Shape → Record → ℕ → ℕ
 bodySize (one c) r inner = scalarSize c (r .value)
 bodySize (other string) r inner = prefixedSize (r .stop - r .start)
@@ -74,7 +74,7 @@ unknownsSize (r ∷ rs) =
 unfoldable pub unknownFieldsSize : List Record → Read
 unknownFieldsSize rs = limited (unknownsSize rs)
 
--- Level by level: a record is its tag, where the run has tags, and what stands behind it, which for a head is the size of the records under it and
+-- Level by level: a record is its tag, where the run has tags, and what comes after it, which for a head is the size of the records under it and
 -- their length before them. k is no less than the number of records.
 unfoldable pub sizeUpTo : ℕ → Bool → List Record → ℕ
 sizeUpTo zero tags rs = 0

@@ -1,6 +1,6 @@
 -- UTF-8 from the other side, as RFC 3629, section 3, builds it: the scalar values of Unicode, the octets of each, and the strings of such octets.
 -- Nothing here cites the table of section 4 (specs/Utf8); that both say the same is proved (proofs/UnicodeLaws).
--- Assumes nothing: these are definitions.
+-- Assumes nothing: these are definitions. Only laws cite it.
 use Prim.Native.Nat.{ℕ, _+_, _/_, _%_, _≤_}
 use mathlib.Core.List.{List, [], _∷_, _++_}
 use lib.Dec.{leb}
@@ -23,7 +23,7 @@ spell v =
     if leb v 0xffff then (0xe0 + v / 64 / 64) ∷ six (v / 64) ∷ six v ∷ [] else
     (0xf0 + v / 64 / 64 / 64) ∷ six (v / 64 / 64) ∷ six (v / 64) ∷ six v ∷ []
 
--- Bytes that are the spellings of scalar values, one behind the other.
+-- Bytes that are the spellings of scalar values, one after the other.
 pub data Text : List ℕ → Type 0 where
   nothing : Text []
   scalar : {v : ℕ} {s : List ℕ} → ScalarValue v → Text s → Text (spell v ++ s)

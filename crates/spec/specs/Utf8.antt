@@ -1,4 +1,4 @@
--- UTF-8, from the table of RFC 3629, section 4. Assumes nothing: these are definitions.
+-- UTF-8, from the table of RFC 3629, section 4. Assumes nothing: these are definitions. Public promises cite it.
 use Prim.Native.Nat.{ℕ, zero, suc, _+_}
 use mathlib.Core.Bool.{Bool, true, false, _&&_}
 use mathlib.Core.List.{List, [], _∷_}

@@ -1,4 +1,4 @@
--- Varints, zigzag, little-endian numbers and tags, from the Encoding page. Assumes nothing: these are definitions.
+-- Varints, zigzag, little-endian numbers and tags, from the Encoding page. Assumes nothing: these are definitions. Public promises cite it.
 use Prim.Native.Nat.{ℕ, zero, suc, _+_, _-_, _*_, _/_, _%_, _^_, max}
 use mathlib.Core.Bool.{Bool, _&&_}
 use mathlib.Core.List.{List, [], _∷_}
@@ -7,7 +7,7 @@ use lib.Count.{leadingZeros}
 use Rattle.spec.specs.Names.{badTag, badVarint, endsEarly, fixed32Wire, largestNumber}
 use Rattle.spec.specs.Base.{if_then_else_, between, Read, Took, No, digit, require}
 
--- A varint of at most k bytes and one more, which is at most `last`: seven bits a byte, the lowest first; behind a byte of 128 or more stands another.
+-- A varint of at most k bytes and one more, which is at most `last`: seven bits a byte, the lowest first; after a byte of 128 or more comes another.
 unfoldable pub varint : ℕ → ℕ → List ℕ → Read
 varint k last [] = No endsEarly
 varint zero last (b ∷ s) = if leb b last then Took b 1 else No badVarint

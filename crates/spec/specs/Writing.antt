@@ -1,4 +1,4 @@
--- What a list of records is written as under a schema, and which lists are. Assumes nothing: these are definitions.
+-- What a list of records is written as under a schema, and which lists are valid. Assumes nothing: these are definitions. Public promises cite it.
 use Prim.Native.Nat.{ℕ, zero, suc, _+_, _-_, _*_}
 use mathlib.Core.Bool.{Bool, true, false, not, _&&_, _||_}
 use mathlib.Core.List.{List, [], _∷_, _++_}
@@ -19,7 +19,7 @@ use Rattle.spec.specs.Record.{Record, deeper}
 abbrev pub prefixed : List ℕ → List ℕ
 prefixed s = encode (length s) ++ s
 
--- what stands behind a record's tag; `inner` are the bytes of the records in it
+-- what stands after a record's tag; `inner` are the bytes of the records in it
 unfoldable pub body : Shape → List ℕ → Record → List ℕ → List ℕ
 body (one c) payload r inner = encoded c (r .value)
 body (other string) payload r inner = prefixed (part (r .start) (r .stop) payload)
@@ -89,7 +89,7 @@ nextDeeper r (q ∷ qs) = eqb (q .depth) (r .depth + 1)
 abbrev pub around : ℕ → List Place → List Place
 around d opened = if ltb d (length opened) then drop (length opened - (d + 1)) opened else []
 
--- the places that are open behind a record which stands in these
+-- the places that are open after a record which stands in these
 unfoldable pub inside : Schema → List Place → Record → List Place
 inside sch [] r = []
 inside sch (Elements number kind ∷ out) r = Elements number kind ∷ out
@@ -99,15 +99,18 @@ inside sch (Fields type ∷ out) r =
     if eqb (r .kind) packedHead then Elements (r .number) (e .kind) ∷ Fields type ∷ out else
     Fields type ∷ out
 
--- the fault of a record that stands in these places, with the records rs behind it: 10, then 7, then 6; 0 where there is none
-unfoldable pub recordFault : Schema → List ℕ → List Place → Record → List Record → ℕ
-recordFault sch payload [] r rs = invalidList
-recordFault sch payload (here ∷ out) r rs =
-    if not (expected sch here r) then invalidList else
+-- The fault of a record whose number and kind are as expected, with the records rs after it: 10, then 7, then 6; 0 where there is none.
+abbrev pub otherFault : List ℕ → Record → List Record → ℕ
+otherFault payload r rs =
     if not (fitting (shape (r .kind)) payload r) then invalidList else
     if eqb (r .kind) packedHead && not (nextDeeper r rs) then invalidList else
     if eqb (r .kind) messageKind && leb mostLevels (r .depth) then tooDeep else
     if eqb (r .kind) stringKind && not (utf8 (part (r .start) (r .stop) payload)) then notUtf8 else 0
+
+-- the fault of a record that stands in these places
+unfoldable pub recordFault : Schema → List ℕ → List Place → Record → List Record → ℕ
+recordFault sch payload [] r rs = invalidList
+recordFault sch payload (here ∷ out) r rs = if not (expected sch here r) then invalidList else otherFault payload r rs
 
 -- fine, or a refusal's number and the index of its record
 pub data Verdict : Type 0 where
@@ -126,7 +129,7 @@ listFault sch payload i opened (r ∷ rs) =
     let later = listFault sch payload (i + 1) (inside sch here r) rs in
     orElse (recordFault sch payload here r rs) i later
 
--- ---- the list check: the schema, then the records in turn
+-- ---- the list check: the schema, then the records in order
 
 unfoldable pub schemaFirst : Option ℕ → Verdict → Verdict
 schemaFirst none v = v
@@ -163,11 +166,15 @@ unfoldable pub judged : Verdict → Writing → Writing
 judged Fine w = w
 judged (Faulty k i) w = Failed k 0 i
 
+-- A writing of n bytes, in this room: refused above the limit, and where the room is too short.
+abbrev pub bySize : (room n : ℕ) → Writing → Writing
+bySize room n w =
+    if ltb limit n then Failed tooLarge 0 0 else
+    if ltb room n then Failed outputShort n 0 else
+    w
+
 unfoldable pub sized : ℕ → List ℕ → Writing
-sized room s =
-    if ltb limit (length s) then Failed tooLarge 0 0 else
-    if ltb room (length s) then Failed outputShort (length s) 0 else
-    Wrote s
+sized room s = bySize room (length s) (Wrote s)
 
 unfoldable pub writing : Schema → ℕ → List ℕ → List Record → Writing
 writing sch room payload rs = judged (listCheck sch payload rs) (sized room (written payload rs))

@@ -1,6 +1,6 @@
 // The numbers of a record, and of an entry, one after the other in lent numbers. specs/Names, specs/Record and specs/Schema have them for the definitions.
 
-// A record; its depth stands where the record begins.
+// A record; its depth is where the record begins.
 pub const DEPTH: usize = 0;
 
 pub const NUMBER: usize = 1;
@@ -16,7 +16,7 @@ pub const END: usize = 5;
 // How many numbers a record has.
 pub const STRIDE: usize = 6;
 
-// An entry of a schema; its owner stands where the entry begins.
+// An entry of a schema; its owner is where the entry begins.
 pub const ENTRY_OWNER: usize = 0;
 
 pub const ENTRY_NUMBER: usize = 1;

@@ -37,7 +37,7 @@ pub const SINT32: u64 = 17;
 
 pub const SINT64: u64 = 18;
 
-// The head of a packed field; fields that the schema does not say, by wire type.
+// The head of a packed field; fields that the schema does not have, by wire type.
 pub const PACKED_HEAD: u64 = 20;
 
 pub const UNKNOWN_VARINT: u64 = 21;

@@ -10,9 +10,9 @@ use lib.Seq.{take-append-seam, take-at}
 use lib.Dec.{ltb}
 use borrow.Author.Tests.{ne-eqb}
 use Rattle.spec.specs.Base.{if_then_else_, part, filled, limit}
-use Rattle.spec.specs.Schema.{Schema, badSchema, says}
+use Rattle.spec.specs.Schema.{Schema, badSchema}
 use Rattle.spec.specs.Record.{Record, stride, stored, recordsOf}
-use Rattle.spec.specs.Reading.{Reading, read, within, refusedOr, reading, listed, roomAfter}
+use Rattle.spec.specs.Reading.{Reading, plainly, looking, read, within, refusedOr, called, readingBy, readingAs, reading, listed, roomAfter}
 use Rattle.spec.specs.Writing.{Writing, number, size, index, output, writing, written}
 use Rattle.spec.proofs.Laws.{either-way}
 use Rattle.spec.proofs.RecordLaws.{within-fits, stored-length, room-kept}
@@ -53,11 +53,11 @@ writing-leaves sch payload rs out = go (writing-answered sch (length out) payloa
 -- ---- a room
 
 reading-fits : (sch : Schema) (n : ℕ) (s : List ℕ) → length (listed (reading sch n s)) ≤ n
-unfolding reading refusedOr listed
+unfolding reading readingAs readingBy called refusedOr listed
 reading-fits sch n s = either-way (λ (q : Reading). length (listed q) ≤ n) (ltb limit (length s)) (omega arith) (go (badSchema sch))
   where
-    go : (bad : Option ℕ) → length (listed (refusedOr bad (within n (read (says sch) 0 0 0 s)))) ≤ n
-    go none = within-fits n (read (says sch) 0 0 0 s)
+    go : (bad : Option ℕ) → length (listed (refusedOr bad (within n (read (looking plainly sch) 0 0 0 s)))) ≤ n
+    go none = within-fits n (read (looking plainly sch) 0 0 0 s)
     go (some i) = omega arith
 
 -- what a reading answers, and the room that it leaves

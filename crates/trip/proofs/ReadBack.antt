@@ -8,7 +8,7 @@ use lib.ListN.{length, take}
 use Rattle.spec.specs.Base.{limit}
 use Rattle.spec.specs.Schema.{Schema}
 use Rattle.spec.specs.Record.{Record, stride, stored, recordsOf}
-use Rattle.spec.specs.Reading.{number}
+use Rattle.spec.specs.Reading.{plainly, reading, number}
 use Rattle.spec.specs.Writing as spec
 use Rattle.spec.proofs.SizeLaws.{Answered, wrote, short, above, faulty, writing-answered}
 use Rattle.onward.specs.Onward.{seen}
@@ -44,12 +44,12 @@ module _ (sch : Schema) (list payload out room : List ℕ) where
       → write-laws.Answers (writes sch list payload out) a out out′ → a .number ≡ 0
       → read-laws.Answers (reads sch (take (a .size) out′) room) b room room′ → length (recordsOf list) ≤ length room / stride
       → (b .number ≡ 0) × (map (seen (take (a .size) out′)) (recordsOf (take (stride * b .count) room′)) ≡ map (seen payload) (recordsOf list))
-  unfolding answerOfWriting spec.writing
+  unfolding answerOfWriting spec.writing reading
   reads-back {a} {out′} {b} {room′} w zero r enough =
       let s : List ℕ = spec.written payload rs in
       let is = was-written (writing-answered sch (length out) payload rs) (sym (ap (λ (x : Answer). x .number) (w .0)) ∙ zero) in
       let f = write-laws.check-fine sch payload rs (was-fine (spec.listCheck sch payload rs) (spec.sized (length out) s) (is .0)) in
-      let g = there-and-back sch payload rs (length room / stride) (length out) (f .0) (f .1) (is .1) enough (is .2) in
+      let g = there-and-back plainly sch payload rs (length room / stride) (length out) (f .0) (f .1) (is .1) enough (is .2) in
       let sends : take (a .size) out′ ≡ s = told-front (is .0) (w .0) out (w .1) in
       let there = subst (λ (x : List ℕ). read-laws.Answers (reads sch x room) b room room′) sends r in
       let answer = onward-answer (g .0) in

@@ -7,7 +7,7 @@ use lib.Seq.{take-at}
 use Rattle.spec.specs.Base.{part}
 use Rattle.spec.specs.Schema.{Schema}
 use Rattle.spec.specs.Record.{Record, stride, stored, recordsOf}
-use Rattle.spec.specs.Reading.{Reading, number, listed}
+use Rattle.spec.specs.Reading.{Reading, plainly, reading, number, listed}
 use Rattle.spec.specs.Writing as spec
 use Rattle.spec.proofs.FlatLaws.{writing-stored}
 use Rattle.onward.specs.Onward.{seen, GoesOnward}
@@ -81,15 +81,15 @@ module _ (new old : Schema) (list payload bytes room again : List ℕ) (d : Dema
   abbrev s : List ℕ
   s = spec.written payload rs
 
-  goes : (space : ℕ) → length s ≤ space → GoesOnward old new payload rs (length room / stride) space s
+  goes : (space : ℕ) → length s ≤ space → GoesOnward plainly old new payload rs (length room / stride) space s
   goes space h =
       let g = d .given in
-      demand-three old new payload rs (length room / stride) space
+      demand-three plainly old new payload rs (length room / stride) space
       (record { older = g .older; old-valid = g .old-valid; new-valid = g .new-valid; list-valid = g .list-valid; small = g .small; room-lent = g .room-lent; space-lent = h })
 
   pub demand-3 : {t : Trip} {bytes′ room′ again′ : List ℕ} → Copied new old list payload bytes room again t bytes′ room′ again′
       → Unharmed old list payload t bytes′ room′ again′
-  unfolding sent
+  unfolding sent reading
   demand-3 {t} {bytes′} {room′} {again′} c =
       let p = c .passed in
       let g = goes (length again) (d .room-again) in

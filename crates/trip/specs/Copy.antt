@@ -1,5 +1,5 @@
 -- A list that is copied by way of an older schema: what each of the three steps answers and leaves, and demand 3 about it.
--- Assumes nothing: these are definitions.
+-- Assumes nothing: these are definitions. Public promises cite it.
 use Prim.Native.Nat.{ℕ, _*_, _/_, _≤_}
 use mathlib.Core.Path.{_≡_}
 use mathlib.Core.List.{List, [], map}

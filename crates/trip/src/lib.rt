@@ -60,11 +60,12 @@ fn pass_on(
     }
 }
 
-// Writes the list under the newer schema, reads its bytes under the older one, and writes what was read under the older one again. Both schemas
-// have five numbers an entry, and as many types. Each step takes what the one before it left, also where that one was refused.
+// Writes the list under the newer schema, reads its bytes under the older one, and writes what was read under the older one again. Each schema
+// has its own count of types, and five numbers an entry. Each step takes what the one before it left, also where that one was refused.
 pub fn copy_onward(
-    types: u32,
+    newer_types: u32,
     newer: &[u32],
+    older_types: u32,
     older: &[u32],
     list: &[u64],
     payload: &[u8],
@@ -72,16 +73,16 @@ pub fn copy_onward(
     room: &mut [u64],
     again: &mut [u8],
 ) -> Trip
-    ensures { λ r. ⌜ Copied (schemaOf types (now (newer .entry))) (schemaOf types (now (older .entry))) (now (list .entry)) (now (payload .entry))
+    ensures { λ r. ⌜ Copied (schemaOf «newer_types» (now (newer .entry))) (schemaOf «older_types» (now (older .entry))) (now (list .entry)) (now (payload .entry))
         (now (bytes .entry)) (now (room .entry)) (now (again .entry)) r (now (bytes .exit)) (now (room .exit)) (now (again .exit))
-        × (Demanded (schemaOf types (now (newer .entry))) (schemaOf types (now (older .entry))) (now (list .entry)) (now (payload .entry))
+        × (Demanded (schemaOf «newer_types» (now (newer .entry))) (schemaOf «older_types» (now (older .entry))) (now (list .entry)) (now (payload .entry))
         (now (bytes .entry)) (now (room .entry)) (now (again .entry))
-        → Unharmed (schemaOf types (now (older .entry))) (now (list .entry)) (now (payload .entry)) r (now (bytes .exit)) (now (room .exit)) (now (again .exit))) ⌝ }
+        → Unharmed (schemaOf «older_types» (now (older .entry))) (now (list .entry)) (now (payload .entry)) r (now (bytes .exit)) (now (room .exit)) (now (again .exit))) ⌝ }
 {
-    let wrote = write(types, newer, list, payload, bytes);
+    let wrote = write(newer_types, newer, list, payload, bytes);
     let size = sent_size(wrote);
     let message = &bytes[0..size];
-    let passed = pass_on(types, older, message, room, again);
+    let passed = pass_on(older_types, older, message, room, again);
     let got = passed.read;
     let rewrote = passed.again;
     Trip {

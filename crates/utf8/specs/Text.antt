@@ -1,6 +1,6 @@
 -- What the promises of `utf8` are stated with: the enum of a lead byte in the definition's terms, bytes taken at once as a number,
 -- and what a run over valid bytes has passed.
--- Assumes nothing: these are definitions.
+-- Assumes nothing: these are definitions. Only inner functions and loops cite it.
 use Prim.Native.Nat.{ℕ, zero, suc, _+_, _*_, _<_, _≤_}
 use mathlib.Core.Path.{_≡_}
 use mathlib.Core.List.{List}

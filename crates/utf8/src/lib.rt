@@ -46,7 +46,7 @@ fn ascii8(s: &[u8], i: usize) -> bool
     w & HIGH_BITS == 0
 }
 
-// Past the last bytes, at most eight, if they are ASCII. Fewer than eight are looked at together with those before them.
+// Past the last bytes, at most eight, if they are ASCII. Fewer than eight are tested together with those before them.
 fn ascii_end(s: &[u8], i: usize) -> usize
     requires { ⌜ (i ≤ length (now s)) × (length (now s) ≤ i + 8) ⌝ }
     ensures { λ r. ⌜ Passed (now (s .entry)) i r ⌝ }
@@ -60,7 +60,7 @@ fn ascii_end(s: &[u8], i: usize) -> usize
     i
 }
 
-// Past ASCII, as far as words go: sixteen bytes in a turn.
+// Past ASCII, as far as words go: sixteen bytes an iteration.
 fn ascii_words(s: &[u8], i: usize) -> usize
     requires { ⌜ i ≤ length (now s) ⌝ }
     ensures { λ r. ⌜ Passed (now (s .entry)) i r ⌝ }
@@ -198,7 +198,7 @@ fn three(s: &[u8], at: usize, low: u8, high: u8) -> bool
     within(s[at + 2], 0x80, 0xbf)
 }
 
-// Whether the bytes that a lead byte asks for stand from `at` on, a branch for each count.
+// Whether the bytes that a lead byte needs are there from `at` on, a branch for each count.
 fn follows(s: &[u8], at: usize, count: usize, low: u8, high: u8) -> bool
     requires { ⌜ (at ≤ length (now s)) × (count ≤ 3) ⌝ }
     ensures { λ r. ⌜ r ≡ followers count low high (drop at (now (s .entry))) ⌝ }

@@ -39,7 +39,7 @@ four-bytes s at h =
     )
     (ap₂ Took (omega arith) refl)
 
--- the four behind them
+-- the four after them
 pub eight-bytes : (s : List ℕ) (at low high : ℕ) → at + 8 ≤ length s → fixed 4 (drop at s) ≡ Took low 4 → fixed 4 (drop (at + 4) s) ≡ Took high 4
     → fixed 8 (drop at s) ≡ Took (low + high * 0x1_0000_0000) 8
 unfolding digit found
@@ -59,7 +59,7 @@ sets-append : (xs ys l : List ℕ) (i : ℕ) → sets l i (xs ++ ys) ≡ sets (s
 sets-append [] ys l i = ap (λ (j : ℕ). sets l j ys) (omega arith)
 sets-append (x ∷ xs) ys l i = sets-append xs ys (set l i x) (suc i) ∙ ap (λ (j : ℕ). sets (sets (set l i x) (suc i) xs) j ys) (omega arith)
 
--- the lower four bytes, and behind them the upper four
+-- the lower four bytes, and after them the upper four
 pub put-eight : (v at : ℕ) (before : List ℕ) {half after : List ℕ} → half ≡ sets before at (little 4 v) → after ≡ sets half (at + 4) (little 4 (v / 0x1_0000_0000))
     → after ≡ sets before at (little 8 v)
 unfolding little

@@ -26,7 +26,7 @@ use Rattle.wire.specs.declared.found.Found.the-variants.{Value, Refused}
 some-taken : {least most v n : ℕ} → Takes least most (Took v n) → (least ≤ n) × (n ≤ most)
 some-taken (took h j) = (h, j)
 
--- what takes at least a byte is told by one answer
+-- what takes at least a byte has one answer
 one-finding : (at : ℕ) {most : ℕ} {r : Read} (p q : Found) → Takes 1 most r → asRead at p ≡ r → asRead at q ≡ r → p ≡ q
 unfolding refusal found taken
 one-finding at (Value v n) (Value u m) t e f =
@@ -90,7 +90,7 @@ fixed-below zero s h = below (omega arith)
 fixed-below (suc n) [] h = no-value
 fixed-below (suc n) (b ∷ s) h = rw (pow-suc 256 n) (below-digit (h 0 .fits) (fixed-below n s (λ i. h (suc i))))
 
--- The value arm of an answer: the value ends behind its start and in the slice, and is below `most`.
+-- The value arm of an answer: the value ends after its start and in the slice, and is below `most`.
 pub record Placed (most : ℕ) (s : List ℕ) (at v next : ℕ) : Type 0 where
   pub past : at < next
   pub inside : next ≤ length s

@@ -1,4 +1,4 @@
--- Any two answers that a promise of this crate allows are equal: each promise says what the answer tells, and two that tell the same are one.
+-- Any two answers that a promise of this crate allows are equal: each promise says the answer in numbers, and two answers with the same numbers are equal.
 -- Where a promise gives the answer itself there is nothing to prove. Assumes nothing.
 use Prim.Native.Nat.{ℕ}
 use mathlib.Core.Path.{_≡_, refl, sym, ap, ap₂, _∙_}

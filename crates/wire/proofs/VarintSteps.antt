@@ -18,7 +18,7 @@ use Rattle.wire.specs.Reached.{Reached, varintOf}
 use Rattle.wire.specs.Answers.{asRead}
 use Rattle.wire.specs.declared.found.Found.the-variants.{Value, Refused}
 
--- a digit behind n bytes, and what is read behind it
+-- a digit after n bytes, and what is read after it
 passed : (n value d : ℕ) (r : Read)
     → longer n (meaning (λ v. value + v * 128 ^ n) (digit 128 d r)) ≡ longer (n + 1) (meaning (λ v. value + d * 128 ^ n + v * 128 ^ (n + 1)) r)
 unfolding longer meaning digit
@@ -58,7 +58,7 @@ module _ {more last : ℕ} {s : List ℕ} {at n value : ℕ} where
         let low : b % 128 ≡ b = omega arith in
         sym (h .same ∙ simp (drop-cons s (at + n) 0 inside, varint-ends left last b (drop (suc (at + n)) s) small) (ap₂ Took (ap (λ (x : ℕ). value + x * 128 ^ n) (sym low)) (omega arith)))
 
-    -- a byte behind which another stands
+    -- a byte after which another comes
     pub turned : {left : ℕ} → Reached more last s at n (suc left) value → 128 ≤ getD s (at + n) 0
         → Reached more last s at (n + 1) left (value + getD s (at + n) 0 % 128 * 128 ^ n)
     turned {left} h big =
@@ -73,7 +73,7 @@ module _ {more last : ℕ} {s : List ℕ} {at n value : ℕ} where
           low = omega (arith, mul-le-mul-right (128 ^ n) group, h .low, pow-suc 128 n, ap (λ (x : ℕ). 128 ^ x) (add-one n));
         }
 
-    -- the byte behind which none may stand
+    -- the byte after which none may come
     pub took-last : Reached more last s at n 0 value → getD s (at + n) 0 ≤ last
         → asRead at (Value (value + getD s (at + n) 0 * 128 ^ n) (at + (n + 1))) ≡ varint more last (drop at s)
     unfolding varint longer meaning

@@ -52,11 +52,11 @@ pub storing-left : {value at v i : ℕ} {before out : List ℕ} → i + length (
 storing-left place same long h below = record { same = same; place = place; long = long; room = omega arith; below = below }
 
 module _ {value : ℕ} {before : List ℕ} {at : ℕ} {out : List ℕ} {v i : ℕ} (h : Storing value before at out v i) where
-  -- one run of stores behind another
+  -- one run of stores after another
   pub storing-on : {out′ : List ℕ} {v′ i′ : ℕ} → Storing v out i out′ v′ i′ → Storing value before at out′ v′ i′
   storing-on g = record { same = g .same ∙ h .same; place = g .place ∙ h .place; long = g .long ∙ h .long; room = g .room; below = g .below }
 
-  -- a byte behind which another stands; j is the next position
+  -- a byte after which another comes; j is the next position
   pub stored-byte : 128 ≤ v → {j : ℕ} → j ≡ i + 1 → Storing value before at (set out i (128 + v % 128)) (v / 128) j
   stored-byte big e =
       let more = encode-goes-on v big (h .below) in

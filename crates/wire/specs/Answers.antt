@@ -1,5 +1,5 @@
 -- The answers of the codec's functions, in the terms of the definitions.
--- Assumes nothing: these are definitions.
+-- Assumes nothing: these are definitions. Public promises cite it.
 use Prim.Native.Nat.{ℕ, _+_, _-_}
 use mathlib.Core.Path.{_≡_}
 use mathlib.Core.List.{List, _++_}
@@ -20,7 +20,7 @@ asRead at (Refused k) = No k
 abbrev pub stored : ℕ → List ℕ → List ℕ → List ℕ
 stored at bytes before = take at before ++ bytes ++ drop (at + length bytes) before
 
--- Where there is room for the bytes they are stored, and the answer is the position behind them; else the slice is as it was.
+-- Where there is room for the bytes they are stored, and the answer is the position after them; else the slice is as it was.
 pub record Stored (before : List ℕ) (at : ℕ) (bytes after : List ℕ) (answer : Put) : Type 0 where
   pub says : answer ≡ (if leb (at + length bytes) (length before) then Next (at + length bytes) else NoRoom)
   pub leaves : after ≡ (if leb (at + length bytes) (length before) then stored at bytes before else before)

@@ -1,4 +1,4 @@
--- What the answers of `wire_format` say, in the numbers of docs/DEFINITIONS.md. Assumes nothing: these are definitions.
+-- What the answers of `wire_format` say, in the numbers of docs/DEFINITIONS.md. Assumes nothing: these are definitions. Public promises cite it.
 use Prim.Native.Nat.{ℕ, _+_, _*_}
 use Rattle.spec.specs.Names.{tooLarge, badTag, delimitedWire, endGroupWire, fixed32Wire, fixed64Wire, noWire, startGroupWire, varintWire}
 use Rattle.spec.specs.Base.{Read, Took, No}

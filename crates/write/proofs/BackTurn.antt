@@ -1,4 +1,4 @@
--- The loop over a run of records, from the last to the first: what is known at the place b, and that a turn keeps it. A turn goes back over the run in
+-- The loop over a run of records, from the last to the first: what is known at the place b, and that an iteration keeps it. An iteration goes back over the run in
 -- the record before b, if there is one, which ends at b and begins where its head stands; the head then goes in front.
 -- Assumes nothing.
 use Prim.Native.Nat.{ℕ, _+_, _-_, _*_, _/_, _≤_, _<_}
@@ -10,11 +10,11 @@ use lib.Dec.{eqb}
 use lib.ListN.{length, getD, length-append}
 use Rattle.spec.specs.Record.{stride}
 use Rattle.spec.specs.Names.{packedHead}
-use Rattle.spec.specs.Kind.{shape}
+use Rattle.spec.specs.Kind.{shape, headKind}
 use Rattle.spec.specs.Writing.{body, tagOf}
 use Rattle.spec.proofs.VarintLaws.{lower-or-not}
 use Rattle.spec.proofs.WritingLaws.{bytesIn}
-use Rattle.write.specs.Backward.{Stored, Room, depthAt, kindAt, at, span, start, lead, isHead, Here, leadOf, runBytes, Run, Inner, isPacked, Ran}
+use Rattle.write.specs.Backward.{Stored, Room, depthAt, kindAt, at, span, start, lead, Here, leadOf, runBytes, Run, Inner, isPacked, Ran}
 use Rattle.write.proofs.StoreLaws.{stored-then, stored-as, stored-none, room-as}
 use Rattle.write.proofs.SpanLaws.{bytes-none, bytes-at, bytes-from, start-le, start-over, start-low, start-same, start-here}
 use Rattle.write.proofs.CheckedLaws.{next-depth, leaf-next, deep-at}
@@ -123,7 +123,7 @@ module _ {table list payload out now : List ℕ} {d upto pos b p : ℕ} (w : Tur
   abbrev own : List ℕ
   own = tagOf true (at list (m - 1)) ++ lead (shape (kindAt list (m - 1))) payload (at list (m - 1)) (length inner)
 
-  leaf : isHead (kindAt list (m - 1)) ≡ false → inner ≡ []
+  leaf : headKind (kindAt list (m - 1)) ≡ false → inner ≡ []
   leaf e =
       lower-or-not m (b / stride)
       (λ l.
@@ -171,10 +171,10 @@ module _ {table list payload out now : List ℕ} {d upto pos b p : ℕ} (w : Tur
         (λ l. let same : m - 1 ≡ b / stride - 1 = omega (arith, m-le) in absurd (omega (arith, head-depth, depth-here, ap (depthAt list) same)))
 
     -- so that is a head
-    head-kind : isHead (kindAt list (m - 1)) ≡ true
-    head-kind = go (isHead (kindAt list (m - 1))) refl
+    head-kind : headKind (kindAt list (m - 1)) ≡ true
+    head-kind = go (headKind (kindAt list (m - 1))) refl
       where
-        go : (x : Bool) → isHead (kindAt list (m - 1)) ≡ x → isHead (kindAt list (m - 1)) ≡ true
+        go : (x : Bool) → headKind (kindAt list (m - 1)) ≡ x → headKind (kindAt list (m - 1)) ≡ true
         go true e = e
         go false e =
             let next : depthAt list m ≤ depthAt list (m - 1) =
@@ -213,8 +213,8 @@ module _ {table list payload out now : List ℕ} {d upto pos b p : ℕ} (w : Tur
     place : (c - stride) / stride ≡ m - 1
     place = omega (arith, x .begins, some)
 
-    pub head-here : d < getD list (b - stride) 0 → isHead (kindAt list ((c - stride) / stride)) ≡ true
-    head-here l = ap (λ (j : ℕ). isHead (kindAt list j)) place ∙ head-kind l
+    pub head-here : d < getD list (b - stride) 0 → headKind (kindAt list ((c - stride) / stride)) ≡ true
+    head-here l = ap (λ (j : ℕ). headKind (kindAt list j)) place ∙ head-kind l
 
     pub below : stride ≤ c
     below = omega (arith, x .begins, some)

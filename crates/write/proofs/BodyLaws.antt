@@ -9,14 +9,14 @@ use lib.Dec.{ltb}
 use Rattle.spec.specs.Names.{fixed32Wire, fixed64Wire, messageKind, packedHead}
 use Rattle.spec.specs.Base.{if_then_else_}
 use Rattle.spec.specs.Varint.{encode, zigzag, little}
-use Rattle.spec.specs.Kind.{int32, uint32, uint64, bool, sint32, sint64, fixed32, sfixed32, fixed64, Shape, one, other, string, bytes, message, packed, startGroup, endGroup, nothing, shape, wire, isScalar, encoded}
+use Rattle.spec.specs.Kind.{int32, uint32, uint64, bool, sint32, sint64, fixed32, sfixed32, fixed64, Shape, one, other, string, bytes, message, packed, startGroup, endGroup, nothing, shape, wire, isScalar, encoded, headKind}
 use Rattle.spec.specs.Record.{Record}
 use Rattle.spec.specs.Writing.{body}
 use Rattle.spec.proofs.RoundTrip.{shape-message, shape-packed}
 use Rattle.spec.proofs.KindLaws.{wireOne, wireOf, wire-shape}
 use Rattle.sizes.specs.SizeParts.{coded}
 use Rattle.sizes.proofs.ValueSizes.{zigzags, zigzag-kind}
-use Rattle.write.specs.Backward.{plain, lead, isHead}
+use Rattle.write.specs.Backward.{plain, lead}
 
 unfoldable byWire : ℕ → Bool → ℕ → List ℕ
 byWire w z v = if ltb w fixed64Wire then encode (if z then zigzag v else v) else if ltb w fixed32Wire then little 8 v else little 4 v
@@ -51,13 +51,13 @@ heads (other startGroup) = false
 heads (other endGroup) = false
 heads (other nothing) = false
 
-headless : (k : ℕ) → heads (shape k) ≡ false → isHead k ≡ false
+headless : (k : ℕ) → heads (shape k) ≡ false → headKind k ≡ false
 unfolding heads
 headless k h =
     ap₂ _||_ (ne-eqb k messageKind (λ e. false≢true (sym h ∙ ap heads (ap shape e ∙ shape-message)))) (ne-eqb k packedHead (λ e. false≢true (sym h ∙ ap heads (ap shape e ∙ shape-packed))))
 
 -- where a record is no head, there is none in it
-pub body-lead : (k : ℕ) (payload : List ℕ) (r : Record) (inner : List ℕ) → (isHead k ≡ false → inner ≡ [])
+pub body-lead : (k : ℕ) (payload : List ℕ) (r : Record) (inner : List ℕ) → (headKind k ≡ false → inner ≡ [])
     → body (shape k) payload r inner ≡ lead (shape k) payload r (length inner) ++ inner
 unfolding body lead heads
 body-lead k payload r inner none = go (shape k) refl

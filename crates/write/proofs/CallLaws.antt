@@ -4,7 +4,7 @@ use Prim.Native.Nat.{ℕ, _≤_, _<_}
 use native.Mathlib.Omega.{arith}
 use mathlib.Core.Path.{_≡_, refl, sym, ap, _∙_}
 use mathlib.Core.Logic.{_≢_}
-use mathlib.Core.Option.{Option, none, some}
+use mathlib.Core.Option.{none}
 use mathlib.Core.Bool.{true}
 use mathlib.Core.List.{List, [], _∷_}
 use lib.ListN.{length}
@@ -14,12 +14,13 @@ use Rattle.spec.specs.Base.{filled, limit}
 use Rattle.spec.specs.Schema.{Schema, badSchema}
 use Rattle.spec.specs.Record.{Record, recordsOf}
 use Rattle.spec.specs.Sizes.{sizeOf}
-use Rattle.spec.specs.Writing.{Fields, written, Verdict, Fine, Faulty, listFault, schemaFirst, listCheck, Writing, Wrote, Failed, number, size, index, output, judged, sized, writing, sizing}
+use Rattle.spec.specs.Writing.{Fields, written, Verdict, Fine, Faulty, listFault, listCheck, Writing, Wrote, Failed, number, size, index, output, judged, sized, writing, sizing}
 use Rattle.spec.proofs.VarintLaws.{lower-or-not}
 use Rattle.spec.proofs.SizeLaws.{Held, size-bytes, fine-held, Answered, wrote, short, above, faulty, writing-answered, output-refused}
+use Rattle.spec.proofs.ListLaws.{accepted}
 use Rattle.spec.proofs.RunLaws.{fine-passed}
 use Rattle.sizes.specs.SizeParts.{capped}
-use Rattle.write.specs.Answers.{answerOfWriting, bySize}
+use Rattle.write.specs.Answers.{answerOfWriting}
 use Rattle.write.specs.Backward.{Given}
 use Rattle.write.specs.declared.Answer.{Answer}
 
@@ -33,7 +34,7 @@ Answers w a out out′ = (a ≡ answerOfWriting w) × (out′ ≡ output w out)
 pub one-answer : (w : Writing) (a b : Answer) (out x y : List ℕ) → Answers w a out x → Answers w b out y → (a ≡ b) × (x ≡ y)
 one-answer w a b out x y h g = (h .0 ∙ sym (g .0), h .1 ∙ sym (g .1))
 
--- where no refusal is told, the bytes of the list stand at the front of the output, the size is how many they are, and what is behind them stays
+-- where nothing is refused, the bytes of the list are at the front of the output, the size is how many they are, and what is after them stays
 pub told-written : (sch : Schema) (room : ℕ) (payload : List ℕ) (rs : List Record) (out : List ℕ) → answerOfWriting (writing sch room payload rs) .number ≡ 0
     → (answerOfWriting (writing sch room payload rs) .size ≡ length (written payload rs)) × (output (writing sch room payload rs) out ≡ filled (written payload rs) out)
 unfolding answerOfWriting number size output
@@ -50,12 +51,8 @@ told-written sch room payload rs out e = go (writing-answered sch room payload r
 -- the schema is valid, and so is every record
 pub check-fine : (sch : Schema) (payload : List ℕ) (rs : List Record) → listCheck sch payload rs ≡ Fine
     → (badSchema sch ≡ none) × (listFault sch payload 0 (Fields 0 ∷ []) rs ≡ Fine)
-unfolding listCheck schemaFirst
-check-fine sch payload rs e = go (badSchema sch) (listFault sch payload 0 (Fields 0 ∷ []) rs) e
-  where
-    go : (bad : Option ℕ) (v : Verdict) → schemaFirst bad v ≡ Fine → (bad ≡ none) × (v ≡ Fine)
-    go none v e = (refl, e)
-    go (some i) v e = let z : _≡_ {A = ℕ} 0 1 = cc in absurd (omega arith)
+unfolding listCheck
+check-fine sch payload rs e = accepted (badSchema sch) (listFault sch payload 0 (Fields 0 ∷ []) rs) e
 
 pub check-given : (sch : Schema) (payload list : List ℕ) → listCheck sch payload (recordsOf list) ≡ Fine → Given list payload
 check-given sch payload list e =
@@ -81,26 +78,6 @@ module _ (sch : Schema) (room : ℕ) (payload : List ℕ) (rs : List Record) whe
 
 -- ---- by its size
 
-module _ (room n : ℕ) where
-  pub by-above : limit < n → bySize room n ≡ record { number = tooLarge; size = 0; index = 0 }
-  unfolding bySize
-  by-above h = rw (lt-ltb limit n h)
-
-  pub by-short : n ≤ limit → room < n → bySize room n ≡ record { number = outputShort; size = n; index = 0 }
-  unfolding bySize
-  by-short h m = rw (le-ltb limit n h, lt-ltb room n m)
-
-  pub by-fits : n ≤ limit → n ≤ room → bySize room n ≡ record { number = 0; size = n; index = 0 }
-  unfolding bySize
-  by-fits h m = rw (le-ltb limit n h, le-ltb room n m)
-
--- a size that is cut off above the limit gives the same answer
-by-cut : (room n : ℕ) → bySize room (capped n) ≡ bySize room n
-by-cut room n =
-    lower-or-not limit n
-    (λ l. by-above room (capped n) (omega arith) ∙ sym (by-above room n l))
-    (λ l. let same : capped n ≡ n = omega arith in ap (bySize room) same)
-
 module _ (room : ℕ) (b : List ℕ) where
   sized-above : limit < length b → sized room b ≡ Failed tooLarge 0 0
   unfolding sized
@@ -114,14 +91,19 @@ module _ (room : ℕ) (b : List ℕ) where
   unfolding sized
   sized-fits h m = rw (le-ltb limit (length b) h, le-ltb room (length b) m)
 
-  told-sized : bySize room (length b) ≡ answerOfWriting (sized room b)
-  unfolding answerOfWriting number size index
-  told-sized =
-      lower-or-not limit (length b)
-      (λ l. by-above room (length b) l ∙ sym (ap answerOfWriting (sized-above l)))
-      (λ l. lower-or-not room (length b)
-      (λ m. by-short room (length b) l m ∙ sym (ap answerOfWriting (sized-short l m)))
-      (λ m. by-fits room (length b) l m ∙ sym (ap answerOfWriting (sized-fits l m))))
+  -- the answer, from their size n, which is cut off above the limit
+  module _ (n : ℕ) (is : n ≡ capped (length b)) where
+    pub told-above : limit < n → record { number = tooLarge; size = 0; index = 0 } ≡ answerOfWriting (sized room b)
+    unfolding answerOfWriting number size index
+    told-above h = sym (ap answerOfWriting (sized-above (omega arith)))
+
+    pub told-short : n ≤ limit → room < n → record { number = outputShort; size = n; index = 0 } ≡ answerOfWriting (sized room b)
+    unfolding answerOfWriting number size index
+    told-short h m = let same : n ≡ length b = omega arith in sym (rw same (ap answerOfWriting (sized-short (omega arith) (omega arith))))
+
+    pub told-fits : n ≤ limit → n ≤ room → record { number = 0; size = n; index = 0 } ≡ answerOfWriting (sized room b)
+    unfolding answerOfWriting number size index
+    told-fits h m = let same : n ≡ length b = omega arith in sym (rw same (ap answerOfWriting (sized-fits (omega arith) (omega arith))))
 
   -- what the answer says of the output then
   pub sized-zero : {r : Answer} (out : List ℕ) → r ≡ answerOfWriting (sized room b) → r .number ≡ 0
@@ -140,11 +122,10 @@ module _ (room : ℕ) (b : List ℕ) where
   sized-refused out e n = output-refused (sized room b) out (λ z. n (ap (λ (a : Answer). a .number) e ∙ z))
 
 -- the answer from the size of a list whose contents lie in the payload, which is how many bytes it is written as
-pub by-written : (room : ℕ) (payload : List ℕ) (rs : List Record) {r : Answer} {n : ℕ} → Held payload rs → r ≡ bySize room n → n ≡ capped (sizeOf rs)
-    → r ≡ answerOfWriting (sized room (written payload rs))
+pub by-written : (room : ℕ) (payload : List ℕ) (rs : List Record) {r : Answer} {n : ℕ} → Held payload rs
+    → ((s : List ℕ) → n ≡ capped (length s) → r ≡ answerOfWriting (sized room s)) → n ≡ capped (sizeOf rs) → r ≡ answerOfWriting (sized room (written payload rs))
 unfolding sizeOf written
-by-written room payload rs h e is =
-    e ∙ ap (bySize room) is ∙ by-cut room (sizeOf rs) ∙ ap (bySize room) (size-bytes (length rs) true payload rs h) ∙ told-sized room (written payload rs)
+by-written room payload rs h told is = told (written payload rs) (is ∙ ap capped (size-bytes (length rs) true payload rs h))
 
 -- ---- the size call
 
@@ -153,7 +134,7 @@ module _ (sch : Schema) (payload : List ℕ) (rs : List Record) where
   unfolding sizing
   size-faulty e = sym (told-faulty sch limit payload rs e)
 
-  pub size-fine : {r : Answer} {n : ℕ} → listCheck sch payload rs ≡ Fine → r ≡ bySize limit n → n ≡ capped (sizeOf rs) → r ≡ answerOfWriting (sizing sch payload rs)
+  pub size-fine : {r : Answer} {n : ℕ} → listCheck sch payload rs ≡ Fine → ((s : List ℕ) → n ≡ capped (length s) → r ≡ answerOfWriting (sized limit s)) → n ≡ capped (sizeOf rs) → r ≡ answerOfWriting (sizing sch payload rs)
   unfolding sizing
   size-fine e is cut =
       by-written limit payload rs (fine-held sch payload 0 (Fields 0 ∷ []) rs (check-fine sch payload rs e .1)) is cut

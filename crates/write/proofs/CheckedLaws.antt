@@ -7,7 +7,7 @@ use mathlib.Core.Bool.{true, false, false≢true}
 use mathlib.Core.List.{List, _∷_}
 use lib.ListN.{length, drop, length-drop}
 use Rattle.spec.specs.Names.{packedHead}
-use Rattle.spec.specs.Kind.{Shape, other, packed, shape, isScalar}
+use Rattle.spec.specs.Kind.{Shape, other, packed, shape, isScalar, headKind}
 use Rattle.spec.specs.Record.{Record, recordsOf, stride}
 use Rattle.spec.specs.Writing.{lies}
 use Rattle.spec.proofs.VarintLaws.{lower-or-not}
@@ -15,7 +15,7 @@ use Rattle.spec.proofs.RoundTrip.{hasContent}
 use Rattle.spec.proofs.ListLaws.{is-message-kind, is-packed-head, Low}
 use Rattle.spec.proofs.SizeLaws.{Held, held-cons, held-drop}
 use Rattle.spec.proofs.RunLaws.{Row, row-end, row-more, Nested, a-scalar, a-string, a-bytes, a-message, a-row, Fit, is-row, Sane, sane-first, sane-drop, Passed, records-drop, sane-whole}
-use Rattle.write.specs.Backward.{depthAt, numberAt, kindAt, at, isHead}
+use Rattle.write.specs.Backward.{depthAt, numberAt, kindAt, at}
 use Rattle.write.proofs.SpanLaws.{from, from-cons}
 
 -- ---- two records that follow one another
@@ -27,12 +27,12 @@ nested-next (a-bytes o l) = omega arith
 nested-next (a-message l) = omega arith
 nested-next (a-row sh dep num w) = omega arith
 
-nested-leaf : {r q : Record} {rs : List Record} {x : Shape} → Nested r (q ∷ rs) x → shape (r .kind) ≡ x → isHead (r .kind) ≡ false → q .depth ≤ r .depth
+nested-leaf : {r q : Record} {rs : List Record} {x : Shape} → Nested r (q ∷ rs) x → shape (r .kind) ≡ x → headKind (r .kind) ≡ false → q .depth ≤ r .depth
 nested-leaf (a-scalar f l) e h = omega arith
 nested-leaf (a-string o l) e h = omega arith
 nested-leaf (a-bytes o l) e h = omega arith
-nested-leaf {r} (a-message l) e h = absurd (false≢true (sym h ∙ ap isHead (is-message-kind (r .kind) e)))
-nested-leaf {r} (a-row sh dep num w) e h = absurd (false≢true (sym h ∙ ap isHead (is-packed-head (r .kind) e)))
+nested-leaf {r} (a-message l) e h = absurd (false≢true (sym h ∙ ap headKind (is-message-kind (r .kind) e)))
+nested-leaf {r} (a-row sh dep num w) e h = absurd (false≢true (sym h ∙ ap headKind (is-packed-head (r .kind) e)))
 
 row-first : {d m k : ℕ} {r : Record} {rs : List Record} → Row d m k (r ∷ rs) → d ≤ r .depth → (r .depth ≡ d) × (r .number ≡ m) × (r .kind ≡ k) × Row d m k rs
 row-first (row-end l) h = absurd (omega arith)
@@ -80,7 +80,7 @@ module _ (list : List ℕ) (passed : Passed (recordsOf list)) where
   pub next-depth : (i : ℕ) → stride * (i + 1) + stride ≤ length list → depthAt list (i + 1) ≤ depthAt list i + 1
   next-depth i h = nested-next (nested-at i h)
 
-  pub leaf-next : (i : ℕ) → stride * (i + 1) + stride ≤ length list → isHead (kindAt list i) ≡ false → depthAt list (i + 1) ≤ depthAt list i
+  pub leaf-next : (i : ℕ) → stride * (i + 1) + stride ≤ length list → headKind (kindAt list i) ≡ false → depthAt list (i + 1) ≤ depthAt list i
   leaf-next i h l = nested-leaf (nested-at i h) refl l
 
   pub deep-at : (i : ℕ) → stride * i + stride ≤ length list → depthAt list i ≤ i

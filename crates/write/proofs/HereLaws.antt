@@ -12,13 +12,13 @@ use borrow.Author.Tests.{leb-true, lt-ltb}
 use Rattle.spec.specs.Names.{fixed64Wire, delimitedWire, kindColumn, messageKind, noWire, numberColumn, packedHead, recordKinds, startColumn, stopColumn, valueColumn}
 use Rattle.spec.specs.Base.{part}
 use Rattle.spec.specs.Varint.{encode}
-use Rattle.spec.specs.Kind.{Shape, one, other, string, bytes, message, packed, startGroup, endGroup, nothing, wires, shape, wire, isScalar}
+use Rattle.spec.specs.Kind.{Shape, one, other, string, bytes, message, packed, startGroup, endGroup, nothing, wires, shape, wire, isScalar, headKind}
 use Rattle.spec.specs.Record.{Record, stride}
 use Rattle.spec.specs.Writing.{prefixed, tagOf}
 use Rattle.spec.proofs.RoundTrip.{hasContent, shape-message, shape-packed}
 use Rattle.spec.proofs.Laws.{both}
 use Rattle.spec.proofs.RunLaws.{Fit, kind-small as kind-below, is-number, is-content}
-use Rattle.write.specs.Backward.{at, kindAt, plain, lead, isHead, Here, leadOf, numberOf, headOf, Leads}
+use Rattle.write.specs.Backward.{at, kindAt, plain, lead, Here, leadOf, numberOf, headOf, Leads}
 use Rattle.list.proofs.FitLaws.{type-of, type-small}
 use Rattle.write.proofs.KindLaws.{Head, of-message, of-packed, head}
 use Rattle.sizes.specs.SizeParts.{coded}
@@ -55,13 +55,13 @@ module _ {list payload : List ℕ} {b : ℕ} (h : Here list payload b) where
             ∙ ap (λ (s : Shape). plain s (at list (b / stride) .value)) (x .is) ∙ sym (ap (λ (s : Shape). lead s payload (at list (b / stride)) n) (x .is)),
       )
 
-  pub content-at : wire (kindAt list (b / stride)) ≡ delimitedWire → isHead (kindAt list (b / stride)) ≡ false
+  pub content-at : wire (kindAt list (b / stride)) ≡ delimitedWire → headKind (kindAt list (b / stride)) ≡ false
       → (getD list (b + startColumn) 0 ≤ getD list (b + stopColumn) 0) × (getD list (b + stopColumn) 0 ≤ length payload)
       × ((n : ℕ) → leadOf list payload b n ≡ prefixed (part (getD list (b + startColumn) 0) (getD list (b + stopColumn) 0) payload))
   content-at w no-head =
       let i : ℕ = b / stride in
-      let no-message : kindAt list i ≢ messageKind = λ e. false≢true (sym no-head ∙ ap isHead e) in
-      let no-packed : kindAt list i ≢ packedHead = λ e. false≢true (sym no-head ∙ ap isHead e) in
+      let no-message : kindAt list i ≢ messageKind = λ e. false≢true (sym no-head ∙ ap headKind e) in
+      let no-packed : kindAt list i ≢ packedHead = λ e. false≢true (sym no-head ∙ ap headKind e) in
       let x = is-content fit w no-message no-packed in
       let l = both (leb (at list i .start) (at list i .stop)) (leb (at list i .stop) (length payload))
       (lies-at list payload (h .given .held) i (omega (arith, h .aligned, h .inside)) (x .is)) in
@@ -72,7 +72,7 @@ module _ {list payload : List ℕ} {b : ℕ} (h : Here list payload b) where
         λ n. content-lead (shape (kindAt list i)) payload (at list i) n (x .is) ∙ sym (ap₂ (λ (a e : ℕ). prefixed (part a e payload)) (read startColumn) (read stopColumn)),
       )
 
-  pub head-lead : (n : ℕ) → isHead (kindAt list (b / stride)) ≡ true → leadOf list payload b n ≡ encode n
+  pub head-lead : (n : ℕ) → headKind (kindAt list (b / stride)) ≡ true → leadOf list payload b n ≡ encode n
   unfolding lead
   head-lead n is = go (head (kindAt list (b / stride)) is)
     where
@@ -100,7 +100,7 @@ module _ {list payload : List ℕ} {b : ℕ} (h : Here list payload b) where
   pub leads : {table : List ℕ} → table ≡ take recordKinds wires → Leads table list b
   leads types = record { inside = h .inside; number = omega (arith, read numberColumn, fit .small); kind = kind-small; type = byte-at types }
 
-  pub head-is : {table : List ℕ} (n : ℕ) → table ≡ take recordKinds wires → isHead (kindAt list (b / stride)) ≡ true
+  pub head-is : {table : List ℕ} (n : ℕ) → table ≡ take recordKinds wires → headKind (kindAt list (b / stride)) ≡ true
       → headOf table list b n ≡ tagOf true (at list (b / stride)) ++ leadOf list payload b n
   head-is n types is = ap₂ (λ (x y : List ℕ). x ++ y) (tag-at types) (sym (head-lead n is))
 

@@ -4,6 +4,7 @@ use mathlib.Core.Path.{_≡_, refl, sym, subst}
 use mathlib.Core.Bool.{Bool, true, false, _||_, false≢true}
 use lib.Dec.{eqb}
 use borrow.Author.Tests.{eqb-true}
+use Rattle.spec.specs.Kind.{headKind}
 use Rattle.spec.specs.Names.{messageKind, packedHead}
 
 -- the kinds that are heads
@@ -11,7 +12,7 @@ pub data Head : ℕ → Type 0 where
   of-message : Head messageKind
   of-packed : Head packedHead
 
-pub head : (k : ℕ) → (eqb k messageKind || eqb k packedHead) ≡ true → Head k
+pub head : (k : ℕ) → headKind k ≡ true → Head k
 head k e = go (eqb k messageKind) (eqb k packedHead) refl refl e
   where
     go : (a b : Bool) → eqb k messageKind ≡ a → eqb k packedHead ≡ b → (a || b) ≡ true → Head k

@@ -21,14 +21,14 @@ use Rattle.spec.proofs.TreeLaws.{low-append, low-weaker}
 use Rattle.spec.proofs.RunLaws.{front, behind, front-over, low-behind, front-behind, behind-drop, records-at, records-drop}
 use Rattle.write.specs.Backward.{depthAt, kindAt, at, span, start}
 
--- ---- bytes of what stands behind
+-- ---- bytes of what comes after
 
 over-behind : {d : ℕ} (e : ℕ) {rs : List Record} → Over d rs → Over d (behind e rs)
 unfolding behind
 over-behind e over-nil = over-nil
 over-behind {d} e (over-cons {r} {rs} h o) = chosen (Over d) (leb e (r .depth)) (λ p. over-behind e o) (λ p. over-cons h o)
 
--- those of the records behind a run are no more than those of the whole
+-- those of the records after a run are no more than those of the whole
 shorter : (k : ℕ) (tags : Bool) (payload : List ℕ) (d : ℕ) {xs : List Record} (ys : List Record) → length xs ≤ k → Over d xs → Low (d + 1) ys
     → length (bytesIn tags payload ys) ≤ length (bytesIn tags payload (xs ++ ys))
 shorter zero tags payload d ys h over-nil l = omega arith
@@ -92,7 +92,7 @@ module _ (list : List ℕ) where
       (λ b. subst (Low d) (sym (span-cons a e b l)) (f b))
       (λ b. subst (Low d) (sym (span-none a e b)) tt)
 
-  -- record a, those in it, which end before index m, and those behind them
+  -- record a, those in it, which end before index m, and those after them
   module _ (a m e : ℕ) (some : a < m) (in-order : m ≤ e) (inside : stride * e ≤ length list) (low : m < e → depthAt list m ≤ depthAt list a) where
     pub bytes-at : (tags : Bool) (payload : List ℕ) → ((j : ℕ) → a < j → j < m → depthAt list a < depthAt list j)
         → bytesIn tags payload (span list a e)

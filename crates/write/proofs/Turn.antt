@@ -1,9 +1,9 @@
--- One turn of a loop of the size pass, in plain values: where the loop is, and what a record adds. Assumes nothing.
+-- One iteration of a loop of the size pass, in plain values: where the loop is, and what a record adds. Assumes nothing.
 use Prim.Native.Nat.{ℕ, _+_, _-_, _*_, _≤_, _<_}
 use native.Mathlib.Omega.{arith}
 use mathlib.Core.Path.{_≡_, refl, sym, ap, _∙_, subst}
 use mathlib.Core.Logic.{_≢_}
-use mathlib.Core.Bool.{Bool, true, false, not, _||_, false≢true}
+use mathlib.Core.Bool.{Bool, true, false, not, false≢true}
 use mathlib.Core.List.{List, [], _∷_}
 use lib.ListN.{length, drop, getD, length-drop, drop-of-length-le}
 use lib.Seq.{drop-drop}
@@ -11,7 +11,7 @@ use lib.Dec.{eqb}
 use Rattle.spec.specs.Names.{delimitedWire, messageKind, packedHead, kindColumn, numberColumn, startColumn, stopColumn, valueColumn}
 use Rattle.spec.specs.Base.{if_then_else_, limit}
 use Rattle.spec.specs.Varint.{size, tagSize, zigzag}
-use Rattle.spec.specs.Kind.{int32, uint32, uint64, bool, sint32, sint64, fixed32, sfixed32, fixed64, Shape, one, other, string, bytes, message, packed, startGroup, endGroup, nothing, shape, wire, isScalar}
+use Rattle.spec.specs.Kind.{int32, uint32, uint64, bool, sint32, sint64, fixed32, sfixed32, fixed64, Shape, one, other, string, bytes, message, packed, startGroup, endGroup, nothing, shape, wire, isScalar, headKind}
 use Rattle.spec.specs.Record.{Record, row, recordsOf, stride}
 use Rattle.spec.specs.Sizes.{scalarSize, prefixedSize, valueSize, bodySize, sizeUpTo}
 use Rattle.spec.proofs.VarintLaws.{lower-or-not}
@@ -90,7 +90,7 @@ module _ {tags : Bool} {list : List ℕ} {from d at size : ℕ} (h : Here tags l
     stopped n =
         finish (ap (front d) split ∙ front-low d (this ∷ recordsFrom list (at + stride)) (lower-or-not (getD list at 0) d (λ l. l) (λ l. absurd (n (omega (arith, up-to))))))
 
-    -- ---- a record of the run, with e the place behind what lies below it
+    -- ---- a record of the run, with e the place after what lies below it
 
     module _ (same : getD list at 0 ≡ d) where
       -- what the record takes
@@ -138,7 +138,7 @@ module _ {tags : Bool} {list : List ℕ} {from d at size : ℕ} (h : Here tags l
           let empty : runFrom (d + 1) list (at + stride) ≡ [] = front-low (d + 1) (recordsFrom list (at + stride)) (subst (λ (k : ℕ). Low (k + 1) (recordsFrom list (at + stride))) same l) in
           turn (at + stride) n (omega (arith, ap length empty)) whole (c _) (omega arith)
 
--- ---- what stands behind the tag
+-- ---- what comes after the tag
 
 scalar-body : (x : Shape) (r : Record) (i : ℕ) → isScalar x ≡ true → bodySize x r i ≡ valueSize x (r .value)
 unfolding isScalar bodySize valueSize
@@ -179,7 +179,7 @@ value-most (one sfixed32) v e = omega arith
 value-most (one fixed64) v e = omega arith
 value-most (other x) v e = absurd (false≢true e)
 
--- ---- the turns of the loop over a run of records
+-- ---- the iterations of the loop over a run of records
 
 module _ {list : List ℕ} {from d at sum : ℕ} (h : Here true list from d at sum) (lt : at < length list) (same : getD list at 0 ≡ d) where
   abbrev number : ℕ
@@ -203,11 +203,11 @@ module _ {list : List ℕ} {from d at sum : ℕ} (h : Here true list from d at s
       (omega (arith, size-most (number * 8), value-most (shape kind) (getD list (at + valueColumn) 0) sc)))
 
   -- a content whose length n is cut off above the limit
-  pub content : wire kind ≡ delimitedWire → (eqb kind messageKind || eqb kind packedHead) ≡ false → Content (this h lt) (recordsFrom list (at + stride)) (shape kind)
+  pub content : wire kind ≡ delimitedWire → headKind kind ≡ false → Content (this h lt) (recordsFrom list (at + stride)) (shape kind)
   content w e =
-      is-content (fit h lt) w (λ p. false≢true (sym e ∙ ap (λ (k : ℕ). eqb k messageKind || eqb k packedHead) p)) (λ p. false≢true (sym e ∙ ap (λ (k : ℕ). eqb k messageKind || eqb k packedHead) p))
+      is-content (fit h lt) w (λ p. false≢true (sym e ∙ ap headKind p)) (λ p. false≢true (sym e ∙ ap headKind p))
 
-  pub content-turn : (n : ℕ) → wire kind ≡ delimitedWire → (eqb kind messageKind || eqb kind packedHead) ≡ false → n ≡ capped (getD list (at + stopColumn) 0 - getD list (at + startColumn) 0)
+  pub content-turn : (n : ℕ) → wire kind ≡ delimitedWire → headKind kind ≡ false → n ≡ capped (getD list (at + stopColumn) 0 - getD list (at + startColumn) 0)
       → Here true list from d (at + stride) (sum + tagSize number + (size n + n))
   unfolding prefixedSize
   content-turn n w plain e =
@@ -275,7 +275,7 @@ module _ {list : List ℕ} {from d at sum : ℕ} (h : Here true list from d at s
       other-head of-message n = absurd (n refl)
       other-head of-packed n = refl
 
--- ---- the turn of the loop over packed values
+-- ---- the iteration of the loop over packed values
 
 module _ {list : List ℕ} {from d at sum m k : ℕ} (h : Here false list from d at sum) (lt : at < length list) (same : getD list at 0 ≡ d)
     (values : Row d m k (recordsFrom list at)) where

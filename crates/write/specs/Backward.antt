@@ -1,12 +1,12 @@
 -- What the backward writer asks, and what it answers: bytes that end before a place of the output, and the records of a list by their index.
--- Record i has the numbers of the list from stride * i on. Assumes nothing: these are definitions.
+-- Record i has the numbers of the list from stride * i on. Assumes nothing: these are definitions. Only inner functions and loops cite it.
 use Prim.Native.Nat.{ℕ, zero, suc, _+_, _-_, _*_, _/_, _%_, _^_, _≤_, _<_}
 use mathlib.Core.Path.{_≡_}
-use mathlib.Core.Bool.{Bool, true, false, _||_}
+use mathlib.Core.Bool.{Bool, true, false}
 use mathlib.Core.List.{List, [], _∷_, _++_}
 use lib.ListN.{length, take, drop, getD}
 use lib.Dec.{ltb, eqb}
-use Rattle.spec.specs.Names.{largestNumber, messageKind, packedHead, kindColumn, noWire, numberColumn, recordKinds, startColumn, stopColumn, valueColumn}
+use Rattle.spec.specs.Names.{largestNumber, packedHead, kindColumn, noWire, numberColumn, recordKinds, startColumn, stopColumn, valueColumn}
 use Rattle.spec.specs.Base.{if_then_else_, part}
 use Rattle.spec.specs.Varint.{encode}
 use Rattle.spec.specs.Kind.{Shape, one, other, string, bytes, message, packed, startGroup, endGroup, nothing, wires, shape, isScalar, encoded}
@@ -19,7 +19,7 @@ use Rattle.sizes.specs.SizeParts.{coded}
 
 -- ---- bytes in the output
 
--- `new` was stored so that it ends before p, and begins at q: what stands from p on stays. What stands before q is still to be written, and may be anything.
+-- `new` was stored so that it ends before p, and begins at q: what is from p on stays. What is before q is still to be written, and may be anything.
 pub record Stored (new : List ℕ) (p : ℕ) (out : List ℕ) (q : ℕ) (now : List ℕ) : Type 0 where
   pub starts : q + length new ≡ p
   pub behind : drop q now ≡ new ++ drop p out
@@ -60,13 +60,13 @@ half = 2 * pair
 abbrev pub block : ℕ
 block = 2 * half
 
--- four bytes of the varint of v, after which others stand
+-- four bytes of the varint of v, after which others come
 abbrev pub four : ℕ → List ℕ
 four v = (128 + v % 128) ∷ (128 + v / 128 % 128) ∷ (128 + v / 128 / 128 % 128) ∷ (128 + v / 128 / 128 / 128 % 128) ∷ []
 
 -- ---- records by their index
 
--- how far before the end of a record its numbers stand
+-- how far before the end of a record its numbers are
 abbrev pub numberBack : ℕ
 numberBack = stride - numberColumn
 
@@ -107,7 +107,7 @@ unfoldable pub plain : Shape → ℕ → List ℕ
 plain (one c) v = encoded c v
 plain (other x) v = []
 
--- what stands between a record's tag and the records in it, of which there are n bytes
+-- what comes between a record's tag and the records in it, of which there are n bytes
 unfoldable pub lead : Shape → List ℕ → Record → ℕ → List ℕ
 lead (one c) payload r n = encoded c (r .value)
 lead (other string) payload r n = prefixed (part (r .start) (r .stop) payload)
@@ -117,10 +117,6 @@ lead (other packed) payload r n = encode n
 lead (other startGroup) payload r n = []
 lead (other endGroup) payload r n = []
 lead (other nothing) payload r n = []
-
--- a kind whose record may have others in it
-abbrev pub isHead : ℕ → Bool
-isHead kind = eqb kind messageKind || eqb kind packedHead
 
 -- ---- what is asked
 

@@ -1,5 +1,5 @@
 -- What the size pass asks of the numbers that it goes over, and what it answers of them. A place counts numbers, `stride` to a record.
--- Assumes nothing: these are definitions.
+-- Assumes nothing: these are definitions. Only inner functions and loops cite it.
 use Prim.Native.Nat.{ℕ, _+_, _-_, _*_, _/_, _≤_, _<_}
 use mathlib.Core.Path.{_≡_}
 use mathlib.Core.Logic.{_≢_}

@@ -28,7 +28,7 @@ use spec::kinds::RECORD_KINDS;
 use spec::wire_types;
 use wire::zigzag::zigzag;
 
-// How far before the end of a record its numbers stand.
+// How far before the end of a record its numbers are.
 const NUMBER_BACK: usize = STRIDE - NUMBER;
 
 const KIND_BACK: usize = STRIDE - KIND;
@@ -79,7 +79,7 @@ fn low_byte(v: u64) -> u8
     (v % 256) as u8
 }
 
-// A varint that ends before p; its start. It is written forward, from the place that its size tells.
+// A varint that ends before p; its start. It is written forward, from the place that its size gives.
 fn long_varint(out: &mut [u8], p: usize, v: u64) -> usize
     requires { ⌜ Room (encode v) p (now out) ⌝ }
     ensures { λ q. ⌜ Stored (encode v) p (now (out .entry)) q (now (out .exit)) ⌝ }
@@ -116,7 +116,7 @@ fn put_varint(out: &mut [u8], p: usize, v: u64) -> usize
     long_varint(out, p, v)
 }
 
-// Four bytes of the varint of v, after which others stand.
+// Four bytes of the varint of v, after which others come.
 fn put_four(out: &mut [u8], p: usize, v: u64) -> usize
     requires { ⌜ (4 ≤ p) × (p ≤ length (now out)) ⌝ }
     ensures { λ q. ⌜ Stored (four v) p (now (out .entry)) q (now (out .exit)) ⌝ }
@@ -143,8 +143,8 @@ fn put_far(out: &mut [u8], p: usize, v: u64) -> usize
     put_four(out, r, v)
 }
 
-// The same where sizes change from one varint to the next: those of up to three bytes without a branch on how many they have, which would be foretold wrongly.
-// Three bytes are stored, the last in its place; what that leaves before the first is overwritten by what stands before it.
+// The same where sizes change from one varint to the next: those of up to three bytes without a branch on how many they have, which would be mispredicted.
+// Three bytes are stored, the last in its place; what that leaves before the first is overwritten by what comes before it.
 fn put_mixed(out: &mut [u8], p: usize, v: u64) -> usize
     requires { ⌜ Room (encode v) p (now out) ⌝ }
     ensures { λ q. ⌜ Stored (encode v) p (now (out .entry)) q (now (out .exit)) ⌝ }
@@ -306,7 +306,7 @@ fn put_bytes(payload: &[u8], out: &mut [u8], p: usize, a: usize, e: usize) -> us
 }
 
 // A content, which lies in the payload: in blocks from its end, as far as there are blocks in both. What the last block leaves before the content is overwritten by what
-// stands before it.
+// comes before it.
 fn put_content(payload: &[u8], out: &mut [u8], p: usize, start: u64, stop: u64) -> usize
     requires { ⌜ (start ≤ stop) × (stop ≤ length (now payload)) × Room (part start stop (now payload)) p (now out) ⌝ }
     ensures { λ q. ⌜ Stored (part start stop (now (payload .entry))) p (now (out .entry)) q (now (out .exit)) ⌝ }
@@ -424,8 +424,8 @@ fn put_head(
     put_varint(out, q, tag)
 }
 
-// Where the values of a packed field begin that end before upto, or upto where the run there has tags. Its head says so, and stands right before
-// them: each record is looked at once, for its own run.
+// Where the values of a packed field begin that end before upto, or upto where the run there has tags. Its head says so, and is right before
+// them: each record is tested once, for its own run.
 fn packed_from(list: &[u64], depth: u64, upto: usize) -> usize
     requires { ⌜ Upto (now list) upto × Inner (now list) depth upto ⌝ }
     ensures { λ r. ⌜ r ≡ (if isPacked (now (list .entry)) depth upto then stride * start (now (list .entry)) depth (upto / stride) else upto) ⌝ }

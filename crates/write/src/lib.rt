@@ -1,10 +1,13 @@
 // The list writer: the size of a list, and its bytes in a lent output.
 ghost use mathlib.Core.Path.{_≡_};
+ghost use mathlib.Core.List.{List};
+ghost use Prim.Native.Nat.{ℕ};
 ghost use lib.ListN.{length};
 ghost use Rattle.spec.specs.Schema.{schemaOf};
 ghost use Rattle.spec.specs.Record.{recordsOf};
 ghost use Rattle.spec.specs.Writing.{written, sized, sizing, writing, output};
-ghost use Rattle.write.specs.Answers.{answerOfWriting, bySize};
+ghost use Rattle.sizes.specs.SizeParts.{capped};
+ghost use Rattle.write.specs.Answers.{answerOfWriting};
 ghost use Rattle.write.specs.Backward.{Given};
 
 mod bytes;
@@ -18,7 +21,7 @@ use spec::refusals;
 use wire::wire_format::MAX_MESSAGE_SIZE;
 use wire::wire_format::record_wires;
 
-// What a writing comes to: the refusal's number, 0 for none; the size, 0 on refusal, but where the output is too short the size that is needed; the index of the bad
+// The answer of a writing: the refusal's number, 0 for none; the size, 0 on refusal, but where the output is too short the size that is needed; the index of the bad
 // record, or of the bad entry of the schema.
 pub struct Answer {
     pub number: u32,
@@ -26,9 +29,9 @@ pub struct Answer {
     pub index: usize,
 }
 
-// The answer for a list without fault, from its size and the room for it.
+// The answer for bytes of this size, which is cut off above the limit, and the room for them.
 fn by_size(room: u64, size: u64) -> Answer
-    ensures { λ r. ⌜ r ≡ bySize room size ⌝ }
+    ensures { λ r. ⌜ ((s : List ℕ) → size ≡ capped (length s) → r ≡ answerOfWriting (sized room s)) ⌝ }
 {
     if MAX_MESSAGE_SIZE < size {
         return Answer {

@@ -4,9 +4,9 @@ ghost use mathlib.Core.Path.{_≡_};
 ghost use mathlib.Core.Bool.{true, false, not, _||_};
 ghost use Prim.Native.Nat.{_≤_};
 ghost use lib.Dec.{eqb};
-ghost use Rattle.spec.specs.Names.{largestNumber, messageKind, packedHead};
+ghost use Rattle.spec.specs.Names.{largestNumber, packedHead};
 ghost use Rattle.spec.specs.Varint.{tagSize};
-ghost use Rattle.spec.specs.Kind.{shape, wire, isScalar};
+ghost use Rattle.spec.specs.Kind.{shape, wire, isScalar, headKind};
 ghost use Rattle.spec.specs.Record.{recordsOf};
 ghost use Rattle.spec.specs.Sizes.{valueSize, sizeOf};
 ghost use Rattle.spec.proofs.RunLaws.{Passed};
@@ -81,7 +81,7 @@ fn cut(n: u64) -> u64
 }
 
 pub(crate) fn is_head(kind: u64) -> bool
-    ensures { λ r. ⌜ r ≡ (eqb kind messageKind || eqb kind packedHead) ⌝ }
+    ensures { λ r. ⌜ r ≡ headKind kind ⌝ }
 {
     kind == kinds::MESSAGE || kind == kinds::PACKED_HEAD
 }

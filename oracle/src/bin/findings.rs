@@ -92,7 +92,7 @@ fn packed_enums() {
     println!("read again: tag {}, elements {}, at {}", tag, read, is.pos());
 }
 
-/// So many messages in a google.protobuf.Value: ListValue (its field 6) and Value (field 1 of that) in turn.
+/// So many messages in a google.protobuf.Value: ListValue (its field 6) and Value (field 1 of that), alternating.
 fn nested_lists(levels: usize) -> Vec<u8> {
     let mut b = Vec::new();
     for i in (0..levels).rev() {
@@ -232,7 +232,7 @@ fn positions() {
     over("skip_field_for_tag 0b, bad tag inside", &[0x0e], true, |is| told(rt::skip_field_for_tag(11, is)));
 }
 
-/// U32Overflow is behind decode_varint32, which judges the fifth byte wherever five are in the slice; with fewer no number is above 32 bits.
+/// U32Overflow comes after decode_varint32, which judges the fifth byte wherever five are in the slice; with fewer no number is above 32 bits.
 fn no_overflow() {
     title("U32Overflow on a slice");
     let mut seen = [0u64; 3];

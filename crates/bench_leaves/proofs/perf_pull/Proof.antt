@@ -1,4 +1,4 @@
--- `bench_leaves::perf_pull` meets its contract. The loop's invariant: what there is in all is what the steps from here add.
+-- `bench_leaves::perf_pull` meets its contract. The loop's invariant: the whole answer is what the steps from here add.
 -- Assumes nothing.
 use Prim.Native.Nat.{_-_}
 use native.Mathlib.Omega.{arith}

@@ -1,4 +1,4 @@
--- `bench_leaves::perf_varints` meets its contract. The loop's invariant: what there is in all is what the rest adds from here.
+-- `bench_leaves::perf_varints` meets its contract. The loop's invariant: the whole answer is what the rest adds from here.
 -- Assumes nothing.
 use Prim.Native.Nat.{_-_}
 use native.Mathlib.Omega.{arith}

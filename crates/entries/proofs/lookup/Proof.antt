@@ -2,7 +2,7 @@
 -- Written by tools/fold.py; what is shown of lists stands in `Proof/Facts.antt`.
 --     Upto         the loop's variant: the index i, the state with its machine value, and the invariant, `SoFar`
 --     At           the loop's invariant as a whole context: the slice, its token, and the locals, the last first
---     turns        a turn from the invariant: one element is read and `seen` is called, or the loop is left and the rest of the body runs
+--     turns        an iteration from the invariant: one element is read and `seen` is called, or the loop is left and the rest of the body runs
 --     looped       the loop and the rest.        begins       the body from its start.        walk      the whole function
 -- The state is plain, so what it owns is never carried: `Is` is kept as a fact, and `owned` makes it anew at each call.
 -- Assumes nothing.
@@ -86,7 +86,7 @@ word = tyInt w64
 abbrev slice : Ty
 slice = sliceTy (tyRef (named 0) imm (pointee (T.the-row .written)))
 
--- the turn after its test, which the generated MIR has under no name
+-- the iteration after its test, which the generated MIR has under no name
 abbrev next : Body
 next = after (after (after body.turn-1))
 
@@ -185,7 +185,7 @@ module _ {M : Type 1} (𝓤 : URA M) (H : Heap 𝓤) (A : Atoms 𝓤) (W : Given
     abbrev At : Upto ys owner number → List (Item 𝓤)
     At s = ‵ Own ∷ ‵ (flft κ q) ∷ ‵ (froom T′.mir l₉ 0) ∷ ‵ (fdies T′.mir l₉) ∷ ‵ (froom tyPtr l₈ 0) ∷ ‵ (fdies tyPtr l₈) ∷ ‵ (froom tyBool l₇ 0) ∷ ‵ (fdies tyBool l₇) ∷ ‵ (froom word l₆ 0) ∷ ‵ (fdies word l₆) ∷ ‵ (fat fullShare word l₅ 0 (vint w64 (s .i))) ∷ ‵ (fdies word l₅) ∷ ‵ (fat fullShare F′.mir l₄ 0 (s .mach)) ∷ ‵ (fdies F′.mir l₄) ∷ ‵ (fat fullShare (tyInt w32) l₃ 0 (vint w32 number)) ∷ ‵ (fdies (tyInt w32) l₃) ∷ ‵ (fat fullShare (tyInt w32) l₂ 0 (vint w32 owner)) ∷ ‵ (fdies (tyInt w32) l₂) ∷ ‵ (fat fullShare slice l₁ 0 v) ∷ ‵ (fdies slice l₁) ∷ ‵ (froom F′.mir l₀ 0) ∷ ‵ (fdies F′.mir l₀) ∷ []
 
-    -- a turn's postcondition: it ends nearer to n, or the loop is left and the rest of the body runs
+    -- an iteration's postcondition: it ends nearer to n, or the loop is left and the rest of the body runs
     abbrev Turned : Upto ys owner number → Out → SProp 𝓤
     Turned s = afterTurn 𝓤 H (Below 𝓤 H A Nearer At s) (afterBlock 𝓤 H (afterSeq 𝓤 H (Wp 𝓤 H C Λ En body.t-4 (atReturn 𝓤 H En Post)) (atReturn 𝓤 H En Post)))
 

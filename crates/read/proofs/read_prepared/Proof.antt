@@ -1,13 +1,13 @@
 -- `read::read_prepared` meets its contract. Assumes nothing.
 use native.Mathlib.Omega.{arith}
 use borrow.Author.Needs.{needs}
-use Rattle.read.proofs.CallLaws.{answers-refused, too-long, answers-prepared}
+use Rattle.read.proofs.CallLaws.{answers-refused, reading-long, answers-prepared}
 use Rattle.read.proofs.read_prepared.Statement.{statement}
 use Rattle.read.proofs.read_prepared.Tie as tie
 use Rattle.spec.specs.Names.{tooLarge}
 
 returns : tie.Need-returns
-returns c = answers-refused _ tooLarge 0 _ (too-long _ _ _ (c .if1 .taken))
+returns c = answers-refused _ tooLarge 0 _ (reading-long _ _ _ _ (c .if1 .taken))
 
 message-requires : tie.Need-message-requires
 message-requires c κs = omega (arith, c .before .if1 .left)

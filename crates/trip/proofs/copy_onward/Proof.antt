@@ -16,7 +16,7 @@ part-message-end c =
     let z = c .before in
     let w = z .before .before .before in
     let a = w .before .before .before .before .before .before .before .before .before .args in
-    let l = writing-leaves (schemaOf (a .types) (a .newer .now)) (a .payload .now) (recordsOf (a .list .now)) (a .bytes .now) in
+    let l = writing-leaves (schemaOf (a .newer-types) (a .newer .now)) (a .payload .now) (recordsOf (a .list .now)) (a .bytes .now) in
     omega (arith, z .sent-size .ensures ∙ ap sentSize (w .write .ensures .0) ∙ l .size-is, ap length (w .write .ensures .1), l .fits, l .kept)
 
 returns : tie.Need-returns
@@ -25,8 +25,8 @@ returns c =
     let z = p .before .before .before .before .before in
     let w = z .before .before .before in
     let a = w .before .before .before .before .before .before .before .before .before .args in
-    let new = schemaOf (a .types) (a .newer .now) in
-    let old = schemaOf (a .types) (a .older .now) in
+    let new = schemaOf (a .newer-types) (a .newer .now) in
+    let old = schemaOf (a .older-types) (a .older .now) in
     let l = writing-leaves new (a .payload .now) (recordsOf (a .list .now)) (a .bytes .now) in
     let sent-is = part-front (z .sent-size .result) _ ∙ ap₂ take (z .sent-size .ensures ∙ ap sentSize (w .write .ensures .0) ∙ l .size-is) (w .write .ensures .1) ∙ l .front in
     let all = copied new old (a .list .now) (a .payload .now) (a .bytes .now) (a .room .now) (a .again .now) (w .write .ensures) sent-is (p .pass-on .ensures) in

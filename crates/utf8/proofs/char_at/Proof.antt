@@ -1,4 +1,4 @@
--- `utf8::char_at` meets its contract: what the lead byte says, and whether that stands behind it.
+-- `utf8::char_at` meets its contract: what the lead byte needs, and whether that comes after it.
 -- Assumes nothing.
 use native.Mathlib.Omega.{arith}
 use mathlib.Core.Path.{sym, ap, _∙_}

@@ -13,7 +13,7 @@ ghost use Rattle.spec.specs.Varint.{varint, varint32, varint64};
 ghost use Rattle.wire.specs.Answers.{asRead};
 ghost use Rattle.wire.specs.Reached.{Reached, varintOf};
 
-// At most `more` bytes after which another stands, and one of at most `last`: a byte a turn, up to the end of the slice.
+// At most `more` bytes after which another comes, and one of at most `last`: one byte an iteration, up to the end of the slice.
 fn by_bytes(s: &[u8], at: usize, more: usize, last: u64) -> Found
     requires { ⌜ (128 ^ more < 2 ^ 64) × ((last + 1) * 128 ^ more ≤ 2 ^ 64) × (at < length (now s)) ⌝ }
     ensures { λ r. ⌜ asRead at r ≡ varint more last (drop at (now (s .entry))) ⌝ }

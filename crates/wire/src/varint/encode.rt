@@ -51,8 +51,8 @@ fn store_eight(value: u64, out: &mut [u8], at: usize) -> u64
     v7 / 128
 }
 
-// Stores the varint from `at` on, where there is room for it, and returns the position after it: eight bytes at once, then four a turn, then
-// two, as most of the time goes into the turns.
+// Stores the varint from `at` on, where there is room for it, and returns the position after it: eight bytes at once, then four an iteration, then
+// two, as most of the time goes into the loops.
 fn store(value: u64, out: &mut [u8], at: usize) -> usize
     requires { ⌜ at + length (encode value) ≤ length (now out) ⌝ }
     ensures { λ r. ⌜ (r ≡ at + length (encode value)) × (now (out .exit) ≡ sets (now (out .entry)) at (encode value)) ⌝ }
@@ -104,7 +104,7 @@ pub fn encode_varint32(value: u32, buf: &mut [u8; LONGEST_OF_32]) -> usize
     store(value as u64, buf, 0)
 }
 
-// A varint of two or more bytes. Where ten bytes are left its size is not asked for.
+// A varint of two or more bytes. Where ten bytes are left its size is not computed.
 fn put_long(value: u64, out: &mut [u8], at: usize) -> Put
     ensures { λ r. ⌜ Stored (now (out .entry)) at (encode value) (now (out .exit)) r ⌝ }
 {

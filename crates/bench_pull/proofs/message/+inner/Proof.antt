@@ -1,5 +1,5 @@
--- `bench_pull::message::inner` meets its contract. It calls itself for a message within, one level up: the measure is how many levels are left. The loop's invariant: what
--- there is in all is what the fields from here come to. Assumes nothing.
+-- `bench_pull::message::inner` meets its contract. It calls itself for a message within, one level up: the measure is how many levels are left. The loop's invariant: the
+-- whole answer is the answer for the fields from here on. Assumes nothing.
 use Prim.Native.Nat.{ℕ, _+_, _-_, _≤_, _<_}
 use native.Mathlib.Omega.{arith}
 use mathlib.Core.Path.{_≡_}
@@ -85,7 +85,7 @@ part-inner-end t c = omega (arith, within t c)
 inner-requires : (t : ℕ) → inner-lts.Need-inner-requires (claims t) (inner-at t) inner.Post Inv-loop μ-loop
 inner-requires t c κs = (omega (arith, within t (c .before)), omega (arith, within t (c .before)))
 
--- what it comes to
+-- its answer
 comes : (t : ℕ) (c : inner-lts.After-inner (claims t) (inner-at t) inner.Post Inv-loop μ-loop) →
     let k = c .before .before .before .before .before .before .before .before .before .before in
     let a = k .before .before .before .before .args in

@@ -1,4 +1,4 @@
--- `bench_pull::message::elements` meets its contract. The loop's invariant: what there is in all is what the elements from here add.
+-- `bench_pull::message::elements` meets its contract. The loop's invariant: the whole answer is what the elements from here add.
 -- Assumes nothing.
 use Prim.Native.Nat.{_-_}
 use native.Mathlib.Omega.{arith}

@@ -1,4 +1,4 @@
--- `bench_pull::message::root` meets its contract. The loop's invariant: what there is in all is what the fields from here come to. Assumes nothing.
+-- `bench_pull::message::root` meets its contract. The loop's invariant: the whole answer is the answer for the fields from here on. Assumes nothing.
 use Prim.Native.Nat.{_-_, _≤_}
 use native.Mathlib.Omega.{arith}
 use mathlib.Core.Path.{refl, sym, _∙_}

@@ -1,4 +1,4 @@
--- `bench_pull::value::root_value` meets its contract: what is asked behind each tag. Assumes nothing.
+-- `bench_pull::value::root_value` meets its contract: what is asked after each tag. Assumes nothing.
 use mathlib.Core.Path.{ap, _∙_}
 use borrow.Author.Needs.{needs}
 use Rattle.spec.specs.Kind.{int32, fixed32, bool}

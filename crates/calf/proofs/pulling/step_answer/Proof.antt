@@ -8,7 +8,7 @@ use Rattle.calf.specs.Told.{saidAnswer}
 use Rattle.calf.proofs.pulling.step_answer.Statement.{statement}
 use Rattle.calf.proofs.pulling.step_answer.Tie as tie
 
--- what is known of what is said, told
+-- what is known of the answer, in numbers
 answer : (at : ℕ) {x y : Said} → x ≡ y → saidAnswer (saidTold y) at ≡ saidAnswer (saidTold x) at
 answer at e = sym (ap (λ (x : Said). saidAnswer (saidTold x) at) e)
 

@@ -1,4 +1,4 @@
--- What `read`'s walk is told by its callees, and what it ensures of that. Assumes nothing.
+-- What `read`'s walk knows from its callees, and what it ensures from that. Assumes nothing.
 use Prim.Native.Nat.{ℕ, _/_}
 use mathlib.Core.Path.{_≡_, ap, _∙_}
 use mathlib.Core.List.{List}

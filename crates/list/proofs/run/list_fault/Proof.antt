@@ -1,4 +1,4 @@
--- `list::run::list_fault` meets its contract. The loop's invariant: what the list comes to is what the records from here on come to. Assumes nothing.
+-- `list::run::list_fault` meets its contract. The loop's invariant: the answer for the list is the answer for the records from here on. Assumes nothing.
 use Prim.Native.Nat.{ℕ, _+_, _-_, _*_, _%_}
 use native.Mathlib.Omega.{arith}
 use mathlib.Core.Path.{refl, sym, ap, _∙_, subst}

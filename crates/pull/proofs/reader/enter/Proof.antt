@@ -1,4 +1,4 @@
--- `pull::reader::enter` meets its contract: a walk of its MIR, by hand. `gate_at` finds the content's bounds, `content` gives the content as a part of the same slice, and two readers are made: one over the content, one level up, and the outer one behind it. All that the proof knows of the two callees is that each meets its contract.
+-- `pull::reader::enter` meets its contract: a walk of its MIR, by hand. `gate_at` finds the content's bounds, `content` gives the content as a part of the same slice, and two readers are made: one over the content, one level up, and the outer one after it. All that the proof knows of the two callees is that each meets its contract.
 -- The reader is Copy: what it owns is had three times, for `content`, for the outer reader and for the exit. `gate_at` takes the reader's fields in their order, so what they own together is what it asks, by computation.
 -- Assumes nothing.
 use mathlib.Core.Path.{_≡_, refl, ap, subst, sym}

@@ -5,7 +5,7 @@ use Rattle.spec.specs.Varint.{varint32}
 use Rattle.spec.specs.Skip.{content}
 use Rattle.spec.specs.Pull.{stepAt}
 use Rattle.pull.specs.Told.{asMoved, contentOf}
-use Rattle.pull.specs.declared.value.Span.{Span}
+use Rattle.skip.specs.declared.content.Span.{Span}
 use Rattle.pull.proofs.StepLaws.{content-told}
 use borrow.Author.Needs.{needs}
 use Rattle.pull.proofs.step.bytes_at.Statement.{statement}

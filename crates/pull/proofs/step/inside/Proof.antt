@@ -1,4 +1,4 @@
--- `pull::step::inside` meets its contract: behind the end nothing is left. Assumes nothing.
+-- `pull::step::inside` meets its contract: after the end nothing is left. Assumes nothing.
 use native.Mathlib.Omega.{arith}
 use mathlib.Core.Path.{sym, _∙_}
 use lib.ListN.{length, drop-of-length-le}

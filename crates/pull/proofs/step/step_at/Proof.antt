@@ -1,4 +1,4 @@
--- `pull::step::step_at` meets its contract: what is asked for, by the step that does it. Assumes nothing.
+-- `pull::step::step_at` meets its contract: each case of what is asked calls the step that does it. Assumes nothing.
 use Rattle.spec.specs.Pull.{stepAt}
 use borrow.Author.Needs.{needs}
 use Rattle.pull.proofs.step.step_at.Statement.{statement}

@@ -10,9 +10,11 @@ use Rattle.spec.specs.Base.{if_then_else_}
 use Rattle.spec.specs.Varint.{varint32}
 use Rattle.spec.specs.Skip.{content}
 use Rattle.spec.specs.Pull.{Content, Refused, says, spelled, stepAt}
-use Rattle.pull.specs.Told.{spanAt, asMoved}
-use Rattle.pull.specs.declared.value.Span.the-variants as span
-use Rattle.pull.proofs.StepLaws.{span-in, text-told, text-refused}
+use Rattle.skip.specs.Spans.{spanAt}
+use Rattle.skip.proofs.SpanLaws.{span-in}
+use Rattle.pull.specs.Told.{asMoved}
+use Rattle.skip.specs.declared.content.Span.the-variants as span
+use Rattle.pull.proofs.StepLaws.{text-told, text-refused}
 use borrow.Author.Needs.{needs}
 use Rattle.pull.proofs.step.string_at.Statement.{statement}
 use Rattle.pull.proofs.step.string_at.Tie as tie

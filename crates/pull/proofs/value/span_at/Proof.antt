@@ -6,7 +6,7 @@ use lib.ListN.{drop}
 use Rattle.spec.specs.Base.{Took}
 use Rattle.wire.specs.Answers.{asRead}
 use Rattle.wire.specs.Reached.{varintOf}
-use Rattle.pull.proofs.StepLaws.{width-placed, span-refused, span-short, span-of}
+use Rattle.skip.proofs.SpanLaws.{width-placed, span-refused, span-short, span-of}
 use borrow.Author.Needs.{needs}
 use Rattle.pull.proofs.value.span_at.Statement.{statement}
 use Rattle.pull.proofs.value.span_at.Tie as tie

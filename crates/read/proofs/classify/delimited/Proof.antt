@@ -2,17 +2,20 @@
 use Prim.Native.Nat.{_≤_}
 use native.Mathlib.Omega.{arith}
 use mathlib.Core.Path.{_≡_, sym, _∙_}
+use mathlib.Core.Bool.{not}
 use borrow.Author.Tests.{not-true, not-false}
 use borrow.Author.Needs.{needs}
 use Rattle.spec.specs.Names.{notUtf8}
 use Rattle.spec.specs.Base.{if_then_else_}
-use Rattle.spec.specs.Kind.{shape}
+use Rattle.spec.specs.Kind.{shape, headKind}
 use Rattle.spec.specs.Skip.{content}
 use lib.ListN.{length, drop}
-use Rattle.read.specs.Answers.{lengthOf, spanAt, bodied}
-use Rattle.read.specs.declared.classify.Span.the-variants as span
+use Rattle.skip.specs.Spans.{spanAt}
+use Rattle.skip.proofs.SpanLaws.{span-in}
+use Rattle.read.specs.Answers.{lengthOf, bodied}
+use Rattle.skip.specs.declared.content.Span.the-variants as span
 use Rattle.read.specs.declared.classify.Body.the-variants as body
-use Rattle.read.proofs.ClassifyLaws.{span-in, content-answer, bad-answer, text-answer}
+use Rattle.read.proofs.ClassifyLaws.{content-answer, bad-answer, text-answer}
 use Rattle.read.proofs.classify.delimited.Statement.{statement}
 use Rattle.read.proofs.classify.delimited.Tie as tie
 
@@ -26,7 +29,7 @@ inside : (c : tie.After-known-told) →
     let a = c .before .before .before .before .before .args in
     let x = c .before .start .given .0 in
     (a .at ≤ x .0) × (x .0 ≤ x .1 .0) × (x .1 .0 ≤ length (a .s .now))
-inside c = let a = c .before .before .before .before .before .args in span-in (a .kind) (a .at) (a .s .now) (found c)
+inside c = let a = c .before .before .before .before .before .args in span-in (not (headKind (a .kind))) (a .at) (a .s .now) (found c)
 
 sub-is-utf8 : tie.Need-sub-is-utf8
 sub-is-utf8 c = inside (c .before) .1

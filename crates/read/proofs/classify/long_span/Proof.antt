@@ -8,8 +8,9 @@ use borrow.Author.Needs.{needs}
 use Rattle.spec.specs.Base.{Took}
 use Rattle.wire.specs.Answers.{asRead}
 use Rattle.wire.specs.Reached.{varintOf}
-use Rattle.read.specs.Answers.{isHead, lengthOf}
-use Rattle.read.proofs.ClassifyLaws.{width-placed, span-refused, span-short, span-of}
+use Rattle.spec.specs.Kind.{headKind}
+use Rattle.read.specs.Answers.{lengthOf}
+use Rattle.skip.proofs.SpanLaws.{width-placed, span-refused, span-short, span-of}
 use Rattle.read.proofs.classify.long_span.Statement.{statement}
 use Rattle.read.proofs.classify.long_span.Tie as tie
 
@@ -29,18 +30,18 @@ found c = ap (asRead _) (sym (c .before .value .given .1)) ∙ width (c .before 
 sub-if1 : tie.Need-sub-if1
 sub-if1 c =
     let a = c .before .before .before .before .before .before .args in
-    width-placed (not (isHead (a .kind))) (a .s .now) (a .at) (found c) .1
+    width-placed (not (headKind (a .kind))) (a .s .now) (a .at) (found c) .1
 
 returns : tie.Need-returns
 returns c =
     let a = c .before .before .before .before .before .before .before .args in
-    let w = width-placed (not (isHead (a .kind))) (a .s .now) (a .at) (found (c .before)) in
+    let w = width-placed (not (headKind (a .kind))) (a .s .now) (a .at) (found (c .before)) in
     span-short (lengthOf (a .kind)) (a .at) (a .s .now) (sym (found (c .before))) (omega arith) (omega arith)
 
 returns-2 : tie.Need-returns-2
 returns-2 c =
     let a = c .before .before .before .before .before .before .before .args in
-    let w = width-placed (not (isHead (a .kind))) (a .s .now) (a .at) (found (c .before)) in
+    let w = width-placed (not (headKind (a .kind))) (a .s .now) (a .at) (found (c .before)) in
     span-of (lengthOf (a .kind)) (a .at) (a .s .now) (sym (found (c .before))) (omega arith) (omega arith) (omega arith)
 
 returns-3 : tie.Need-returns-3

@@ -2,8 +2,10 @@
 use native.Mathlib.Omega.{arith}
 use mathlib.Core.Path.{refl}
 use mathlib.Core.Bool.{not}
-use Rattle.read.specs.Answers.{isHead, lengthOf}
-use Rattle.read.proofs.ClassifyLaws.{short-length, span-short, span-of}
+use Rattle.spec.specs.Kind.{headKind}
+use Rattle.read.specs.Answers.{lengthOf}
+use Rattle.skip.proofs.SpanLaws.{span-short, span-of}
+use Rattle.read.proofs.ClassifyLaws.{short-length}
 use borrow.Author.Needs.{needs}
 use Rattle.read.proofs.classify.span_at.Statement.{statement}
 use Rattle.read.proofs.classify.span_at.Tie as tie
@@ -14,13 +16,13 @@ cast-n c = omega (arith, c .shared-slice-known2 .given (c .before .before .befor
 returns : tie.Need-returns
 returns c =
     let a = c .before .before .before .before .before .args in
-    let e = short-length (not (isHead (a .kind))) (a .at) (a .s .now) (c .before .before .before .if1 .taken) (c .before .if2 .taken) in
+    let e = short-length (not (headKind (a .kind))) (a .at) (a .s .now) (c .before .before .before .if1 .taken) (c .before .if2 .taken) in
     span-short (lengthOf (a .kind)) (a .at) (a .s .now) e (omega arith) (omega arith)
 
 returns-2 : tie.Need-returns-2
 returns-2 c =
     let a = c .before .before .before .before .before .args in
-    let e = short-length (not (isHead (a .kind))) (a .at) (a .s .now) (c .before .before .before .if1 .taken) (c .before .if2 .taken) in
+    let e = short-length (not (headKind (a .kind))) (a .at) (a .s .now) (c .before .before .before .if1 .taken) (c .before .if2 .taken) in
     span-of (lengthOf (a .kind)) (a .at) (a .s .now) e (omega arith) refl refl
 
 pub span-at-spec : {M : Type 1} → statement M

@@ -7,8 +7,8 @@ use borrow.Author.Needs.{needs}
 use lib.ListN.{length}
 use Rattle.spec.specs.Names.{deepest}
 use Rattle.spec.specs.Record.{numbers}
-use Rattle.spec.specs.Reading.{read}
-use Rattle.schema.specs.Tables.{tableSays}
+use Rattle.spec.specs.Reading.{plainly, read}
+use Rattle.read.specs.Prepared.{prepared}
 use mathlib.Core.Logic.{inl, inr}
 use Rattle.read.specs.Answers.{Held}
 use Rattle.read.proofs.AskedLaws.{asked-held}
@@ -52,15 +52,15 @@ abbrev message-claims : ℕ → message-lts.Claims
 message-claims t = (short-ints-reads.Asked, short-ints-reads.Learnt, field-at-reads.Asked, field-at-reads.Learnt, store-below t, store.Post, skip-unknown-group-reads.Asked, skip-unknown-group-reads.Learnt)
 
 abbrev message-Inv-loop : message-lts.InvT-loop
-message-Inv-loop keys info s off ty depth room₀ from at₀ to₀ room at to = Here (read (tableSays keys info) depth ty) s off room₀ 0 from room at to
+message-Inv-loop keys info s off ty depth room₀ from at₀ to₀ room at to = Here (read (prepared plainly keys info) depth ty) s off room₀ 0 from room at to
 
 abbrev message-μ-loop : message-lts.MeasureT-loop
 message-μ-loop keys info s off ty depth room₀ from at₀ to₀ room at to = length s - at
 
--- where the field stands that is asked for next: behind the short ones, if those were looked for
+-- where the next field is: after the short ones, if those were read
 joined : (t : ℕ) (c : message-lts.Joined1 (message-claims t) (message-at t) message.Post message-Inv-loop message-μ-loop) →
     let a = c .before .before .before .before .before .args in
-    Here (read (tableSays (a .keys .now) (a .info .now)) (a .depth) (a .ty)) (a .s .now) (a .off) (a .room .now) 0 (a .from) (c .if1 .room) (c .if1 .at) (c .if1 .to)
+    Here (read (prepared plainly (a .keys .now) (a .info .now)) (a .depth) (a .ty)) (a .s .now) (a .off) (a .room .now) 0 (a .from) (c .if1 .room) (c .if1 .at) (c .if1 .to)
     × (c .before .before .loop .at ≤ c .if1 .at) × (c .if1 .at < length (a .s .now))
 joined t c =
     elim (c .if1 .came) [
@@ -205,7 +205,7 @@ abbrev store-claims : ℕ → store-lts.Claims
 store-claims t = (put-reads.Asked, put-reads.Learnt, message-below t, message.Post, packed-reads.Asked, packed-reads.Learnt)
 
 store-returns : (t : ℕ) → store-lts.Need-returns (store-claims t) (store-at t) store.Post
-store-returns t c = let b = c .before .before .before .before in row-none _ (b .pre .1 .3) _ _ (c .before .if1 .taken) (c .if2 .taken) _ _
+store-returns t c = let b = c .before .before .before .before in row-none plainly _ (b .pre .1 .3) _ _ (c .before .if1 .taken) (c .if2 .taken) _ _
 
 store-sub-if3 : (t : ℕ) → store-lts.Need-sub-if3 (store-claims t) (store-at t) store.Post
 store-sub-if3 t c = omega arith
@@ -215,7 +215,7 @@ store-add-t18 t c = omega (arith, c .before .before .before .before .pre .1 .3 .
 
 store-returns-2 : (t : ℕ) → store-lts.Need-returns-2 (store-claims t) (store-at t) store.Post
 store-returns-2 t c =
-    row-full _ (c .before .before .before .before .pre .1 .3) _ _ (λ k e. elim (c .before .if1 .came) [ inl x ↦ x .1 .left e | inr y ↦ y .left k ]) _ _ (omega arith) (c .if3 .taken)
+    row-full plainly _ (c .before .before .before .before .pre .1 .3) _ _ (λ k e. elim (c .before .if1 .came) [ inl x ↦ x .1 .left e | inr y ↦ y .left k ]) _ _ (omega arith) (c .if3 .taken)
 
 store-add-put : (t : ℕ) → store-lts.Need-add-put (store-claims t) (store-at t) store.Post
 store-add-put t c = omega (arith, c .before .before .before .before .before .pre .1 .3 .behind, c .before .before .before .before .before .pre .1 .3 .ordered, c .before .before .before .before .before .pre .1 .3 .inside)
@@ -253,7 +253,7 @@ store-returns-3 : (t : ℕ) → store-lts.Need-returns-3 (store-claims t) (store
 unfolding numbers
 store-returns-3 t c =
     let p = c .before .before .before .before .before .before .before .before in
-    put-then _ _ (row-message _ (c .before .before .before .before .before .before .before .before .before .before .before .before .before .before .pre .1 .3) _ _ (c .before .before .before .before .before .if4 .taken)) (omega (arith, p .before .before .if3 .left)) (p .put .ensures .0) (p .put .ensures .1) (c .before .before .message .ensures)
+    put-then _ _ (row-message plainly _ (c .before .before .before .before .before .before .before .before .before .before .before .before .before .before .pre .1 .3) _ _ (c .before .before .before .before .before .if4 .taken)) (omega (arith, p .before .before .if3 .left)) (p .put .ensures .0) (p .put .ensures .1) (c .before .before .message .ensures)
 
 store-sub-packed : (t : ℕ) → store-lts.Need-sub-packed (store-claims t) (store-at t) store.Post
 store-sub-packed t c = omega (arith, c .before .before .before .before .before .before .before .before .before .before .pre .1 .3 .behind, c .before .before .before .before .before .before .before .before .before .before .pre .1 .3 .ordered, c .before .before .before .before .before .before .before .before .before .before .pre .1 .3 .inside)
@@ -286,7 +286,7 @@ unfolding numbers
 store-returns-4 t c =
     let p = c .before .before .before .before .before .before .before .before .before .before in
     let j = p .before .before .before in
-    put-then _ _ (row-packed _ (c .before .before .before .before .before .before .before .before .before .before .before .before .before .before .before .before .pre .1 .3) _ _ (c .before .before .before .before .before .before .if5 .taken) (elim (j .if1 .came) [ inl x ↦ x .1 .left | inr y ↦ λ e. y .left (c .before .before .before .before .before .before .if5 .taken) ]))
+    put-then _ _ (row-packed plainly _ (c .before .before .before .before .before .before .before .before .before .before .before .before .before .before .before .before .pre .1 .3) _ _ (c .before .before .before .before .before .before .if5 .taken) (elim (j .if1 .came) [ inl x ↦ x .1 .left | inr y ↦ λ e. y .left (c .before .before .before .before .before .before .if5 .taken) ]))
     (omega (arith, p .before .before .if3 .left)) (p .put .ensures .0) (p .put .ensures .1) (c .before .before .packed .ensures)
 
 store-same-length-3 : (t : ℕ) → store-lts.Need-same-length-3 (store-claims t) (store-at t) store.Post
@@ -296,7 +296,7 @@ store-returns-5 : (t : ℕ) → store-lts.Need-returns-5 (store-claims t) (store
 unfolding numbers
 store-returns-5 t c =
     let p = c .before .before .before .before in
-    put-only _ _ (row-value _ (c .before .before .before .before .before .before .before .before .before .before .pre .1 .3) _ _ (c .before .if4 .left) (c .if5 .left)) (omega (arith, p .before .before .if3 .left)) (p .put .ensures .0) (p .put .ensures .1)
+    put-only _ _ (row-value plainly _ (c .before .before .before .before .before .before .before .before .before .before .pre .1 .3) _ _ (c .before .if4 .left) (c .if5 .left)) (omega (arith, p .before .before .if3 .left)) (p .put .ensures .0) (p .put .ensures .1)
 
 pub +message+store-spec : {M : Type 1} → statement M
 +message+store-spec = close μ-message μ-store (λ t. message-lts.spec (message-claims t)

@@ -3,15 +3,15 @@ use Prim.Native.Nat.{_-_}
 use native.Mathlib.Omega.{arith}
 use borrow.Author.Needs.{needs}
 use lib.ListN.{length}
-use Rattle.spec.specs.Reading.{read}
-use Rattle.schema.specs.Tables.{tableSays}
+use Rattle.spec.specs.Reading.{plainly, read}
+use Rattle.read.specs.Prepared.{prepared}
 use Rattle.read.proofs.Turn.{Here, here, start}
 use Rattle.read.proofs.FieldTurn.{int-within, int-stored}
 use Rattle.read.proofs.message.short_ints.Statement.{statement}
 use Rattle.read.proofs.message.short_ints.Tie as tie
 
 abbrev Inv-loop : tie.InvT-loop
-Inv-loop keys info s off ty depth room₀ at₀ to₀ last most room at to = Here (read (tableSays keys info) depth ty) s off room₀ at₀ to₀ room at to
+Inv-loop keys info s off ty depth room₀ at₀ to₀ last most room at to = Here (read (prepared plainly keys info) depth ty) s off room₀ at₀ to₀ room at to
 
 abbrev μ-loop : tie.MeasureT-loop
 μ-loop keys info s off ty depth room₀ at₀ to₀ last most room at to = length s - at

@@ -87,7 +87,7 @@ returns-4 c =
     let r = p .before .match2 .rest in
     lost (here k) _ _ (tagged k) _ (r .0 .1) (r .1) (sym (c .enum-told2 .given .1) ∙ p .past-plain .ensures)
 
--- behind a value
+-- after a value
 beyond : (c : tie.After-known-told2 Inv-loop μ-loop) →
     let k = c .before .before .before .before .before .before .before in
     let b = k .before .before .before .before .before in

@@ -1,4 +1,4 @@
--- `skip::field::past_varint` meets its contract. The loop passes a byte a turn. Assumes nothing.
+-- `skip::field::past_varint` meets its contract. The loop passes one byte an iteration. Assumes nothing.
 use Prim.Native.Nat.{_-_}
 use mathlib.Core.Path.{refl}
 use native.Mathlib.Omega.{arith}

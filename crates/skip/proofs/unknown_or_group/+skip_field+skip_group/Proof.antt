@@ -1,5 +1,5 @@
 -- The cycle of calls {skip_field, skip_group}: the loop over the fields of a group calls skip_field for a group within, which calls
--- skip_group for it, one level deeper. The measure is how many bytes are left: behind a tag they are fewer. Assumes nothing.
+-- skip_group for it, one level deeper. The measure is how many bytes are left: after a tag they are fewer. Assumes nothing.
 use Prim.Native.Nat.{ℕ, _+_, _-_, _*_, _≤_, _<_}
 use mathlib.Core.Path.{_≡_, refl, sym, ap, _∙_}
 use native.Mathlib.Omega.{arith}
@@ -128,7 +128,7 @@ skip-group-returns t c =
     let k = f .before .before .before .before in
     lost (here t k) _ _ (tagged t k) (λ w. omega (arith, f .before .match2 .keys1)) _ (f .skip-field .ensures) _ (c .enum-told .given .1)
 
--- behind a group within
+-- after a group within
 within : (t : ℕ) (c : skip-group-lts.After-known-told2 (skip-group-claims t) (skip-group-at t) skip-group.Post skip-group-Inv-loop skip-group-μ-loop) →
     let k = c .before .before .before .before .before .before .before in
     let b = k .before .before .before .before .before in
@@ -165,7 +165,7 @@ skip-group-returns-3 t c =
     let r = f .before .match2 .rest in
     lost-value (here t k) _ _ (tagged t k) _ (f .past-plain .ensures) (r .0 .1) (r .1) _ (c .enum-told2 .given .1)
 
--- behind any other value
+-- after any other value
 beyond : (t : ℕ) (c : skip-group-lts.After-known-told3 (skip-group-claims t) (skip-group-at t) skip-group.Post skip-group-Inv-loop skip-group-μ-loop) →
     let k = c .before .before .before .before .before .before .before in
     let b = k .before .before .before .before .before in

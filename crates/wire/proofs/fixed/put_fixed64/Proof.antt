@@ -1,4 +1,4 @@
--- `wire::fixed::put_fixed64` meets its contract: the lower four bytes and the upper four behind them, where there is room for both.
+-- `wire::fixed::put_fixed64` meets its contract: the lower four bytes and the upper four after them, where there is room for both.
 -- Assumes nothing.
 use native.Mathlib.Omega.{arith}
 use borrow.Author.Needs.{needs}

@@ -1,4 +1,4 @@
--- `wire::wire_format::record_wires` meets its contract: the table of descriptor.proto's kinds, and our own behind it. Assumes nothing.
+-- `wire::wire_format::record_wires` meets its contract: the table of descriptor.proto's kinds, and our own after it. Assumes nothing.
 use mathlib.Core.Path.{refl}
 use borrow.Author.Needs.{needs}
 use Rattle.spec.specs.Kind.{kindWires, ownWires, wires}

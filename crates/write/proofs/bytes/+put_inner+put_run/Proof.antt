@@ -91,7 +91,7 @@ put-run-Inv-loop table list payload out₀ depth upto pos b₀ p₀ hint₀ out 
 abbrev put-run-μ-loop : put-run-lts.MeasureT-loop
 put-run-μ-loop table list payload out₀ depth upto pos b₀ p₀ hint₀ out b p hint = b
 
--- in a turn of the loop
+-- in an iteration of the loop
 turned : (t : ℕ) (e : put-run-lts.Else1 (put-run-claims t) (put-run-at t) put-run.Post put-run-Inv-loop put-run-μ-loop) →
     let a = e .before .before .before .before .before .before .before .args in
     let l = e .before .before .before .loop in

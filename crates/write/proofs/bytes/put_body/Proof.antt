@@ -1,4 +1,4 @@
--- `write::bytes::put_body` meets its contract: a value, or a length, with the content behind it where there is one.
+-- `write::bytes::put_body` meets its contract: a value, or a length, with the content after it where there is one.
 -- Assumes nothing.
 use Prim.Native.Nat.{ℕ, _+_, _-_, _/_, _≤_}
 use mathlib.Core.Path.{_≡_, sym, ap, _∙_}
@@ -12,8 +12,8 @@ use Rattle.spec.specs.Record.{stride}
 use Rattle.spec.specs.Names.{delimitedWire, kindColumn, startColumn, stopColumn, valueColumn}
 use Rattle.spec.specs.Base.{part}
 use Rattle.spec.specs.Varint.{encode}
-use Rattle.spec.specs.Kind.{shape, wire, isScalar}
-use Rattle.write.specs.Backward.{Stored, kindAt, plain, isHead, leadOf}
+use Rattle.spec.specs.Kind.{shape, wire, isScalar, headKind}
+use Rattle.write.specs.Backward.{Stored, kindAt, plain, leadOf}
 use Rattle.write.proofs.StoreLaws.{stored-then, stored-as, room-as, stored-at, stored-none}
 use Rattle.write.proofs.HereLaws.{read, number-lead, content-at, head-lead}
 use Rattle.write.proofs.bytes.put_body.Statement.{statement}
@@ -39,10 +39,10 @@ returns c = stored-as (plain-is (c .before .before .before .before .before) .1) 
 
 -- the content of a record that is no head
 no-head : (c : tie.After-is-head) → not (c .is-head .result) ≡ true →
-    let a = c .before .before .before .before .before .before .args in isHead (kindAt (a .list .now) (a .b / stride)) ≡ false
+    let a = c .before .before .before .before .before .before .args in headKind (kindAt (a .list .now) (a .b / stride)) ≡ false
 no-head c e =
     let o = c .before .before .before .before .before .before in
-    sym (ap isHead (read (o .pre .0) kindColumn)) ∙ sym (c .is-head .ensures) ∙ sym (Bool·not-not (c .is-head .result)) ∙ ap not e
+    sym (ap headKind (read (o .pre .0) kindColumn)) ∙ sym (c .is-head .ensures) ∙ sym (Bool·not-not (c .is-head .result)) ∙ ap not e
 
 delimited : (c : tie.After-is-head) → let a = c .before .before .before .before .before .before .args in wire (kindAt (a .list .now) (a .b / stride)) ≡ delimitedWire
 delimited c =
@@ -86,7 +86,7 @@ content c =
     let count : a .p - c .if2 .q ≡ length new = omega (arith, s .starts) in
     record { new = new; stored = s; is = ap (λ (m : ℕ). encode m ++ new) count ∙ sym (x .2 0); before = omega (arith, s .starts) })
     (λ w.
-    let is = sym (ap isHead (read (o .pre .0) kindColumn)) ∙ sym (c .before .is-head .ensures) ∙ sym (Bool·not-not (c .before .is-head .result)) ∙ ap not (w .0 .left) in
+    let is = sym (ap headKind (read (o .pre .0) kindColumn)) ∙ sym (c .before .is-head .ensures) ∙ sym (Bool·not-not (c .before .is-head .result)) ∙ ap not (w .0 .left) in
     let count : a .p - c .if2 .q ≡ 0 = omega (arith, w .2) in
     record {
       new = [];

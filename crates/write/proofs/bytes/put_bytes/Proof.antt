@@ -1,4 +1,4 @@
--- `write::bytes::put_bytes` meets its contract: the loop stores the content's bytes in turn. Assumes nothing.
+-- `write::bytes::put_bytes` meets its contract: the loop stores the content's bytes in order. Assumes nothing.
 use Prim.Native.Nat.{_+_, _-_, _≤_}
 use mathlib.Core.Path.{_≡_, refl, ap}
 use mathlib.Core.List.{_∷_}

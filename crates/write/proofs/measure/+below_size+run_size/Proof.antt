@@ -171,7 +171,7 @@ plain-size-requires t c κs =
     let w = wire-here t e in
     (w, is-scalar (e .before .before .before .loop .inv) (e .before .before .loop-test .taken) (e .if1 .left) (λ p. c .before .if2 .taken (w ∙ p)))
 
--- behind a record that is one number
+-- after a record that is one number
 number-here : (t : ℕ) (c : run-size-lts.After-plain-size (claims t) (run-size-at t) run-size.Post Inv-loop μ-loop) →
     let i = c .before .before .before .before .before .before .before .before .before in
     let a = i .before .before .before .args in
@@ -239,7 +239,7 @@ sub-cut t c =
 add-at-2 : (t : ℕ) → run-size-lts.Need-add-at-2 (claims t) (run-size-at t) run-size.Post Inv-loop μ-loop
 add-at-2 t c = omega (arith, in-list t (c .before .before .before .before .before .before .before .before .before .before), few t (c .before .before .before .before .before .before .before .before .before .before))
 
--- behind a record with a content
+-- after a record with a content
 content-here : (t : ℕ) (j : run-size-lts.Joined3 (claims t) (run-size-at t) run-size.Post Inv-loop μ-loop) →
     let i = j .before .before .before .before .before .before .before .before .before in
     let a = i .before .before .before .args in

@@ -62,7 +62,7 @@ add-n c = omega arith
 add-next : tie.Need-add-next Inv-loop μ-loop
 add-next c = omega arith
 
--- with a byte still to come behind this one
+-- with a byte still to come after this one
 more-left : (c : tie.After-shared-slice-known Inv-loop μ-loop) → c .before .before .before .before .args .more - c .before .before .before .loop .n ≡ suc (c .before .before .before .before .args .more - (c .before .before .before .loop .n + 1))
 more-left c = omega arith
 

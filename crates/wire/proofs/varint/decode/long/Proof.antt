@@ -1,4 +1,4 @@
--- `wire::varint::decode::long` meets its contract: whichever function reads is told the width of the flag.
+-- `wire::varint::decode::long` meets its contract: whichever function reads has the width that the flag says.
 -- Assumes nothing.
 use borrow.Author.Needs.{needs}
 use Rattle.wire.proofs.varint.decode.long.Statement.{statement}

@@ -14,7 +14,7 @@ use Rattle.wire.proofs.VarintSteps.{either-width, first-byte, stopped, 
 use Rattle.wire.proofs.varint.decode.of_ten.Statement.{statement}
 use Rattle.wire.proofs.varint.decode.of_ten.Tie as tie
 
--- what is known behind each byte, of numbers alone
+-- what is known after each byte, of numbers alone
 module _ (s : List ℕ) (at : ℕ) (fits : at + 10 ≤ length s) (big0 : 128 ≤ getD s at 0) where
   one : (k last : ℕ) → Reached (suc k) last s at 1 k (getD s at 0 % 128)
   one k last = first-byte k last s at (omega arith) big0

@@ -43,7 +43,7 @@ joined c =
 loop-holds : tie.Need-loop-holds Inv-loop μ-loop Inv-loop2 μ-loop2
 loop-holds c = storing-begins (joined c .room) (joined c .below)
 
--- four bytes, with one more behind them
+-- four bytes, with one more after them
 four : (c : tie.In-loop Inv-loop μ-loop Inv-loop2 μ-loop2) → c .before .loop .i + 4 < length (c .before .loop .out)
 four c = omega (arith, bytes-beyond 4 (c .before .loop .v) (c .loop-test .taken) (c .before .loop .inv .below))
 
@@ -77,7 +77,7 @@ loop-again c = stored-byte (stored-byte (stored-byte (stored-byte (c .before .be
 loop2-holds : tie.Need-loop2-holds Inv-loop μ-loop Inv-loop2 μ-loop2
 loop2-holds c = storing-begins (c .before .loop .inv .room) (c .before .loop .inv .below)
 
--- two bytes, with one more behind them
+-- two bytes, with one more after them
 two : (c : tie.In-loop2 Inv-loop μ-loop Inv-loop2 μ-loop2) → c .before .loop2 .i + 2 < length (c .before .loop2 .out)
 two c = omega (arith, bytes-beyond 2 (c .before .loop2 .v) (c .loop2-test .taken) (c .before .loop2 .inv .below))
 
@@ -96,7 +96,7 @@ add-i-3 c = omega (arith, two (c .before .before), joined (c .before .before .be
 loop2-again : tie.Need-loop2-again Inv-loop μ-loop Inv-loop2 μ-loop2
 loop2-again c = stored-byte (stored-byte (c .before .before .before .loop2 .inv) (omega arith) refl) (omega arith) (omega arith)
 
--- behind both loops
+-- after both loops
 whole : (c : tie.After-loop2 Inv-loop μ-loop Inv-loop2 μ-loop2)
     → let a = c .before .before .before .before .before .before .args in
     Storing (a .value) (a .out .now) (a .at) (c .before .loop2 .out) (c .before .loop2 .v) (c .before .loop2 .i)
@@ -114,7 +114,7 @@ same-length c = simp length-set (whole (c .before .before .before) .long)
 returns : tie.Need-returns Inv-loop μ-loop Inv-loop2 μ-loop2
 returns c = stored-last (whole (c .before .before .before)) (omega arith) refl
 
--- one byte, with one more behind it
+-- one byte, with one more after it
 one : (c : tie.Else2 Inv-loop μ-loop Inv-loop2 μ-loop2) → c .before .before .loop2 .i + 1 < length (c .before .before .loop2 .out)
 one c = omega (arith, bytes-beyond 1 (c .before .before .loop2 .v) (omega arith) (c .before .before .loop2 .inv .below))
 

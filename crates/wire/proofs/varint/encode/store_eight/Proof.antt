@@ -1,4 +1,4 @@
--- `wire::varint::encode::store_eight` meets its contract: the law of a byte behind which another stands, eight times.
+-- `wire::varint::encode::store_eight` meets its contract: the law of a byte after which another comes, eight times.
 -- Assumes nothing.
 use Prim.Native.Nat.{ℕ, _+_, _<_}
 use mathlib.Core.List.{List}
@@ -10,7 +10,7 @@ use Rattle.wire.proofs.VarintStores.{Storing, bytes-beyond, storing-beg
 use Rattle.wire.proofs.varint.encode.store_eight.Statement.{statement}
 use Rattle.wire.proofs.varint.encode.store_eight.Tie as tie
 
--- eight bytes, with one more behind them
+-- eight bytes, with one more after them
 eight : (c : tie.Start) → c .args .at + 8 < length (c .args .out .now)
 eight c = omega (arith, c .pre .1, bytes-beyond 8 (c .args .value) (c .pre .0) (omega arith))
 

@@ -1,0 +1,7 @@
+// A content: the bytes after a length. The message reader and the pull reader answer it so.
+
+// Where it starts and ends in the slice, or the number of the refusal.
+pub enum Span {
+    Of { start: usize, end: usize },
+    Bad(u32),
+}
