@@ -10,10 +10,8 @@ use Rattle.spec.specs.Schema.{bit, entryOf, schemaOf, entryStride}
 use Rattle.spec.specs.declared.Entry.{Entry}
 use Rattle.schema.specs.declared.Place.{Place}
 use Rattle.schema.specs.declared.Place.the-variants.{At, Nothing}
-
 -- the numbers of as many entries as a schema may have
-abbrev pub mostNumbers : ℕ
-mostNumbers = mostEntries * entryStride
+pub use Rattle.schema.specs.Layout.{mostNumbers}
 
 -- one entry more than a schema may have
 abbrev pub oneMore : ℕ

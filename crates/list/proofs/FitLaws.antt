@@ -8,11 +8,12 @@ use mathlib.Core.Bool.{Bool, true, false, _&&_, _||_, false≢true}
 use mathlib.Core.List.{List}
 use lib.ListN.{take, getD, List·getD-eq-default}
 use lib.Dec.{leb, ltb, eqb}
-use borrow.Author.Tests.{lt-ltb, le-ltb, le-leb, lt-leb, ne-eqb, leb-true}
+use borrow.Author.Tests.{lt-ltb, le-ltb, le-leb, ne-eqb, leb-true}
 use Rattle.spec.specs.Names.{boolKind, delimitedWire, enumKind, fixed32Kind, fixed32Wire, floatKind, groupKind, int32Kind, sfixed32Kind, sint32Kind, uint32Kind, unknownFixed32, allKinds, doubleKind, noWire, ownKinds, recordKinds, sint64Kind}
 use Rattle.spec.specs.Base.{if_then_else_}
 use Rattle.spec.specs.Kind.{Scalar, int32, uint32, uint64, bool, sint32, sint64, fixed32, sfixed32, fixed64, Shape, one, other, string, bytes, message, packed, startGroup, endGroup, nothing, kindWires, ownWires, wires, wire, shapes, shape, signed32, fits}
 use Rattle.spec.specs.Writing.{recorded}
+use Rattle.spec.proofs.ListLaws.{recorded-small}
 use Rattle.spec.proofs.Laws.{either-way, by-test}
 use Rattle.spec.proofs.KindLaws.{wireOne, wireOf, wire-shape}
 use Rattle.wire.proofs.Below.{equal-below}
@@ -35,13 +36,6 @@ unfolding wire wires kindWires ownWires
 type-recorded k h l =
     let e = equal-below (λ n. if leb (wire n) fixed32Wire then 1 else 0) (λ n. if recorded (wire n) then 1 else 0) recordKinds k tt h in
     by-test (recorded (wire k)) (λ p. p) (λ p. let z : _≡_ {A = ℕ} 1 0 = rw (le-leb (wire k) fixed32Wire l, p) at e in absurd (omega arith))
-
-pub recorded-small : (w : ℕ) → recorded w ≡ true → w ≤ fixed32Wire
-recorded-small w e =
-    elim (decLt fixed32Wire w) [
-      | yes l ↦ absurd (false≢true (sym (rw (lt-leb w delimitedWire (omega arith), ne-eqb w fixed32Wire (λ z. omega arith)) refl) ∙ e))
-      | no l ↦ omega arith
-    ]
 
 -- the kinds of a schema have one
 pub type-known : (k : ℕ) → doubleKind ≤ k → k ≤ sint64Kind → k ≢ groupKind → wire k ≤ fixed32Wire

@@ -14,9 +14,10 @@ use Rattle.spec.specs.Base.{if_then_else_, between, part}
 use Rattle.spec.specs.Utf8.{utf8}
 use Rattle.spec.specs.Kind.{Scalar, Shape, one, other, nothing, shapes, shape, isScalar, wire, fits}
 use Rattle.spec.specs.Schema.{Schema, lookup, kindOf, Says, insideOf, saysOf, says}
-use Rattle.spec.specs.Record.{Record, recordsOf, stride}
+use Rattle.spec.specs.Record.{Record, recordsOf, stride, recordAt}
 use Rattle.spec.specs.Writing.{Place, Fields, recorded, expected, lies, fitting, nextDeeper, recordFault, otherFault}
 use Rattle.spec.specs.declared.Entry.{Entry}
+use Rattle.spec.proofs.ListLaws.{recorded-small}
 use Rattle.spec.proofs.Laws.{both, both-true, by-test}
 use Rattle.spec.proofs.VarintLaws.{lower-or-not}
 use Rattle.spec.proofs.FlatLaws.{records-nil, records-broken}
@@ -27,8 +28,8 @@ use Rattle.schema.specs.Layout.{guesses, innersAt, keyCount, kindsAt, ownerUnit
 use Rattle.schema.specs.Tables.{tableSays}
 use Rattle.schema.proofs.AskingLaws.{says-guessed}
 use Rattle.schema.proofs.TableLaws.{said-message, said-packed}
-use Rattle.list.specs.Checking.{Made, rowAt, rangeFault, named, Suits}
-use Rattle.list.proofs.FitLaws.{type-small, type-recorded, recorded-small, no-record, Delimited, a-string, a-content, a-message, a-packed, delimited}
+use Rattle.list.specs.Checking.{Made, rangeFault, named, Suits}
+use Rattle.list.proofs.FitLaws.{type-small, type-recorded, no-record, Delimited, a-string, a-content, a-message, a-packed, delimited}
 
 -- ---- number and kind
 
@@ -306,34 +307,34 @@ module _ (list : List ℕ) (at : ℕ) (r : Record) where
 -- ---- the same of the record at a place
 
 abbrev faultAt : (payload list : List ℕ) → ℕ → ℕ
-faultAt payload list at = otherFault payload (rowAt list at) (recordsOf (drop (at + stride) list))
+faultAt payload list at = otherFault payload (recordAt list at) (recordsOf (drop (at + stride) list))
 
 module _ (payload list : List ℕ) (at : ℕ) {kind depth : ℕ} (whole : at + stride ≤ length list) (kind-is : kind ≡ getD list (at + kindColumn) 0) (depth-is : depth ≡ getD list at 0) where
   pub value-at : wire kind ≡ delimitedWire → getD list (at + valueColumn) 0 ≢ 0 → invalidList ≡ faultAt payload list at
-  value-at w n = other-value payload (rowAt list at) (recordsOf (drop (at + stride) list)) (sym (ap wire kind-is) ∙ w) n
+  value-at w n = other-value payload (recordAt list at) (recordsOf (drop (at + stride) list)) (sym (ap wire kind-is) ∙ w) n
 
   module _ (none-there : getD list (at + valueColumn) 0 ≡ 0) where
     pub deep-at : kind ≡ messageKind → mostLevels ≤ depth → tooDeep ≡ faultAt payload list at
-    deep-at e l = other-deep payload (rowAt list at) (recordsOf (drop (at + stride) list)) none-there (sym kind-is ∙ e) (omega arith)
+    deep-at e l = other-deep payload (recordAt list at) (recordsOf (drop (at + stride) list)) none-there (sym kind-is ∙ e) (omega arith)
 
     pub shallow-at : kind ≡ messageKind → depth < mostLevels → 0 ≡ faultAt payload list at
-    shallow-at e l = other-shallow payload (rowAt list at) (recordsOf (drop (at + stride) list)) none-there (sym kind-is ∙ e) (omega arith)
+    shallow-at e l = other-shallow payload (recordAt list at) (recordsOf (drop (at + stride) list)) none-there (sym kind-is ∙ e) (omega arith)
 
-    packed-at : {b : Bool} → kind ≡ packedHead → nextDeeper (rowAt list at) (recordsOf (drop (at + stride) list)) ≡ b → (if b then 0 else invalidList) ≡ faultAt payload list at
+    packed-at : {b : Bool} → kind ≡ packedHead → nextDeeper (recordAt list at) (recordsOf (drop (at + stride) list)) ≡ b → (if b then 0 else invalidList) ≡ faultAt payload list at
     packed-at e n =
-        ap (λ (b : Bool). if b then 0 else invalidList) (sym n) ∙ other-packed payload (rowAt list at) (recordsOf (drop (at + stride) list)) none-there (sym kind-is ∙ e)
+        ap (λ (b : Bool). if b then 0 else invalidList) (sym n) ∙ other-packed payload (recordAt list at) (recordsOf (drop (at + stride) list)) none-there (sym kind-is ∙ e)
 
     pub last-at : kind ≡ packedHead → length list - at < 2 * stride → invalidList ≡ faultAt payload list at
-    last-at e l = packed-at e (next-none list at (rowAt list at) whole (omega arith))
+    last-at e l = packed-at e (next-none list at (recordAt list at) whole (omega arith))
 
     module _ (e : kind ≡ packedHead) (l : 2 * stride ≤ length list - at) where
       pub jump-at : getD list (at + stride) 0 ≢ depth + 1 → invalidList ≡ faultAt payload list at
-      jump-at n = packed-at e (next-at list at (rowAt list at) (omega arith) ∙ ne-eqb (getD list (at + stride) 0) (getD list at 0 + 1) (λ z. n (omega arith)))
+      jump-at n = packed-at e (next-at list at (recordAt list at) (omega arith) ∙ ne-eqb (getD list (at + stride) 0) (getD list at 0 + 1) (λ z. n (omega arith)))
 
       pub run-at : getD list (at + stride) 0 ≡ depth + 1 → 0 ≡ faultAt payload list at
-      run-at n = packed-at e (next-at list at (rowAt list at) (omega arith) ∙ eq-eqb (getD list (at + stride) 0) (getD list at 0 + 1) (omega arith))
+      run-at n = packed-at e (next-at list at (recordAt list at) (omega arith) ∙ eq-eqb (getD list (at + stride) 0) (getD list at 0 + 1) (omega arith))
 
     pub content-at : wire kind ≡ delimitedWire → kind ≢ messageKind → kind ≢ packedHead → rangeFault payload kind (getD list (at + startColumn) 0) (getD list (at + stopColumn) 0) ≡ faultAt payload list at
     content-at w m p =
         ap (λ (k : ℕ). rangeFault payload k (getD list (at + startColumn) 0) (getD list (at + stopColumn) 0)) kind-is
-        ∙ other-range payload (rowAt list at) (recordsOf (drop (at + stride) list)) none-there (sym (ap wire kind-is) ∙ w) (λ e. m (kind-is ∙ e)) (λ e. p (kind-is ∙ e))
+        ∙ other-range payload (recordAt list at) (recordsOf (drop (at + stride) list)) none-there (sym (ap wire kind-is) ∙ w) (λ e. m (kind-is ∙ e)) (λ e. p (kind-is ∙ e))

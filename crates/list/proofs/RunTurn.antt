@@ -12,17 +12,17 @@ use Rattle.spec.specs.Names.{invalidList, mostLevels, delimitedWire, kindColumn
 use Rattle.spec.specs.Base.{if_then_else_}
 use Rattle.spec.specs.Kind.{Scalar, one, shape, kindWires, ownWires, wires, wire, fits}
 use Rattle.spec.specs.Schema.{Schema}
-use Rattle.spec.specs.Record.{broken, recordsOf, stride}
+use Rattle.spec.specs.Record.{broken, recordsOf, stride, recordAt, recordsFrom}
 use Rattle.spec.specs.Writing.{Place, Fields, Elements, around, inside, expected, recordFault, Verdict, Fine, Faulty, listFault, otherFault}
 use Rattle.spec.proofs.VarintLaws.{lower-or-not}
-use Rattle.spec.proofs.RunLaws.{records-at}
-use Rattle.list.specs.Checking.{Made, rowAt, named, Suits, Answers, suits, differs, Elapsed, passed, faulty, fieldsTo}
+use Rattle.spec.proofs.RunLaws.{records-at, records-end}
+use Rattle.list.specs.Checking.{Made, named, Suits, Answers, suits, differs, Elapsed, passed, faulty, fieldsTo}
 use Rattle.list.specs.declared.record.Asked.the-variants.{Expected, Other}
 use Rattle.list.specs.declared.run.Behind.the-variants.{To, Bad}
 use Rattle.list.proofs.FitLaws.{one-number}
 use Rattle.list.proofs.RecordLaws.{expects, fault-unexpected, fault-expected, other-number, other-low}
 use Rattle.list.proofs.OpenLaws.{outer, fields-cons, length-fields, fields-more, around-fields, first-good, first-bad, first-deep, first-out, none-left}
-use Rattle.list.proofs.ElementTurn.{recordsFrom, records-end, records-rest}
+use Rattle.list.proofs.ElementTurn.{records-rest}
 
 -- The answer for the whole list is the answer for the records from `at` on, in the messages that are open down to `depth`; `type` is the last one's.
 pub record Here (sch : Schema) (payload list open-types : List ℕ) (at depth type : ℕ) : Type 0 where
@@ -51,18 +51,18 @@ module _ {sch : Schema} {payload list open-types : List ℕ} {at depth type : �
       ∙ first-bad sch payload (at / stride) (fieldsTo open-types depth) (fieldsTo open-types 0) broken [] (around-fields sch payload open-types 0 depth (omega arith)) (λ e. omega arith) refl)
 
   module _ (l : at ≤ length list) (t : stride ≤ length list - at) where
-    split : recordsFrom list at ≡ rowAt list at ∷ recordsFrom list (at + stride)
+    split : recordsFrom list at ≡ recordAt list at ∷ recordsFrom list (at + stride)
     split = records-at list at (omega arith)
 
     pub run-deep : depth < getD list at 0 → Faulty invalidList (at / stride) ≡ listFault sch payload 0 (Fields 0 ∷ []) (recordsOf list)
     run-deep d =
         sym (h .same ∙ ap (listFault sch payload (at / stride) (fieldsTo open-types depth)) split
-        ∙ first-deep sch payload (at / stride) (fieldsTo open-types depth) (rowAt list at) (recordsFrom list (at + stride)) (omega (arith, length-fields open-types depth)))
+        ∙ first-deep sch payload (at / stride) (fieldsTo open-types depth) (recordAt list at) (recordsFrom list (at + stride)) (omega (arith, length-fields open-types depth)))
 
     pub run-out : {d : ℕ} → getD list at 0 ≡ d → d ≤ depth → Here sch payload list open-types at d (getD open-types d 0)
     run-out {d} e m = record {
       same = h .same ∙ ap (listFault sch payload (at / stride) (fieldsTo open-types depth)) split
-          ∙ first-out sch payload (at / stride) open-types d depth (rowAt list at) (recordsFrom list (at + stride)) e m
+          ∙ first-out sch payload (at / stride) open-types d depth (recordAt list at) (recordsFrom list (at + stride)) e m
           ∙ sym (ap (listFault sch payload (at / stride) (fieldsTo open-types d)) split);
       is = refl;
       few = λ k n. h .few k (omega arith);
@@ -76,30 +76,30 @@ module _ {sch : Schema} {payload list open-types : List ℕ} {at depth type : �
           ∙ ap (λ (x : ℕ). Fields x ∷ outer open-types depth) (sym (h .is))
 
       abbrev fault : ℕ
-      fault = recordFault sch payload (Fields type ∷ outer open-types depth) (rowAt list at) (recordsFrom list (at + stride))
+      fault = recordFault sch payload (Fields type ∷ outer open-types depth) (recordAt list at) (recordsFrom list (at + stride))
 
       refused : {k : ℕ} → k ≢ 0 → fault ≡ k → Faulty k (at / stride) ≡ listFault sch payload 0 (Fields 0 ∷ []) (recordsOf list)
       refused n e =
           sym (h .same ∙ ap (listFault sch payload (at / stride) (fieldsTo open-types depth)) split
-          ∙ first-bad sch payload (at / stride) (fieldsTo open-types depth) (Fields type ∷ outer open-types depth) (rowAt list at) (recordsFrom list (at + stride)) (in-message sch payload) n e)
+          ∙ first-bad sch payload (at / stride) (fieldsTo open-types depth) (Fields type ∷ outer open-types depth) (recordAt list at) (recordsFrom list (at + stride)) (in-message sch payload) n e)
 
       went : fault ≡ 0 → listFault sch payload 0 (Fields 0 ∷ []) (recordsOf list)
-          ≡ listFault sch payload ((at + stride) / stride) (inside sch (Fields type ∷ outer open-types depth) (rowAt list at)) (recordsFrom list (at + stride))
+          ≡ listFault sch payload ((at + stride) / stride) (inside sch (Fields type ∷ outer open-types depth) (recordAt list at)) (recordsFrom list (at + stride))
       went e =
           let next : at / stride + 1 ≡ (at + stride) / stride = omega arith in
           h .same ∙ ap (listFault sch payload (at / stride) (fieldsTo open-types depth)) split
-          ∙ first-good sch payload (at / stride) (fieldsTo open-types depth) (Fields type ∷ outer open-types depth) (rowAt list at) (recordsFrom list (at + stride)) (in-message sch payload) e
-          ∙ ap (λ (i : ℕ). listFault sch payload i (inside sch (Fields type ∷ outer open-types depth) (rowAt list at)) (recordsFrom list (at + stride))) next
+          ∙ first-good sch payload (at / stride) (fieldsTo open-types depth) (Fields type ∷ outer open-types depth) (recordAt list at) (recordsFrom list (at + stride)) (in-message sch payload) e
+          ∙ ap (λ (i : ℕ). listFault sch payload i (inside sch (Fields type ∷ outer open-types depth) (recordAt list at)) (recordsFrom list (at + stride))) next
 
       pub run-other : expected sch (Fields type) (named (getD list (at + numberColumn) 0) (getD list (at + kindColumn) 0)) ≡ false
           → Faulty invalidList (at / stride) ≡ listFault sch payload 0 (Fields 0 ∷ []) (recordsOf list)
       unfolding expected
-      run-other e = refused (λ z. omega arith) (fault-unexpected sch payload (Fields type) (outer open-types depth) (rowAt list at) (recordsFrom list (at + stride)) e)
+      run-other e = refused (λ z. omega arith) (fault-unexpected sch payload (Fields type) (outer open-types depth) (recordAt list at) (recordsFrom list (at + stride)) e)
 
       module _ {inner : ℕ} (s : Suits sch type (getD list (at + numberColumn) 0) (getD list (at + kindColumn) 0) inner) where
-        other-is : fault ≡ otherFault payload (rowAt list at) (recordsFrom list (at + stride))
+        other-is : fault ≡ otherFault payload (recordAt list at) (recordsFrom list (at + stride))
         unfolding expected
-        other-is = fault-expected sch payload (Fields type) (outer open-types depth) (rowAt list at) (recordsFrom list (at + stride)) (s .is)
+        other-is = fault-expected sch payload (Fields type) (outer open-types depth) (recordAt list at) (recordsFrom list (at + stride)) (s .is)
 
         -- one that opens nothing
         stays : fault ≡ 0 → getD list (at + kindColumn) 0 ≢ messageKind → getD list (at + kindColumn) 0 ≢ packedHead → Here sch payload list open-types (at + stride) depth type
@@ -120,7 +120,7 @@ module _ {sch : Schema} {payload list open-types : List ℕ} {at depth type : �
 
           number-fault : fault ≡ (if b then 0 else invalidList)
           number-fault =
-              other-is ∙ other-number payload (rowAt list at) (recordsFrom list (at + stride)) (number .0) (number .1)
+              other-is ∙ other-number payload (recordAt list at) (recordsFrom list (at + stride)) (number .0) (number .1)
               ∙ sym (ap (λ (x : Bool). if x then 0 else invalidList) (value (number .0) (number .1)))
 
           pub run-value-bad : b ≡ false → Faulty invalidList (at / stride) ≡ listFault sch payload 0 (Fields 0 ∷ []) (recordsOf list)
@@ -131,7 +131,7 @@ module _ {sch : Schema} {payload list open-types : List ℕ} {at depth type : �
           run-value e = stays (number-fault ∙ ap (λ (x : Bool). if x then 0 else invalidList) e) (λ z. w (ap wire z)) (λ z. w (ap wire z))
 
         -- of wire type 2
-        module _ {k : ℕ} (is : k ≡ otherFault payload (rowAt list at) (recordsFrom list (at + stride))) where
+        module _ {k : ℕ} (is : k ≡ otherFault payload (recordAt list at) (recordsFrom list (at + stride))) where
           pub run-fault : k ≢ 0 → Faulty k (at / stride) ≡ listFault sch payload 0 (Fields 0 ∷ []) (recordsOf list)
           run-fault n = refused n (other-is ∙ sym is)
 
@@ -155,7 +155,7 @@ module _ {sch : Schema} {payload list open-types : List ℕ} {at depth type : �
             }
 
             module _ (e : getD list (at + kindColumn) 0 ≡ packedHead) where
-              opens : inside sch (Fields type ∷ outer open-types depth) (rowAt list at) ≡ Elements (getD list (at + numberColumn) 0) inner ∷ fieldsTo open-types depth
+              opens : inside sch (Fields type ∷ outer open-types depth) (recordAt list at) ≡ Elements (getD list (at + numberColumn) 0) inner ∷ fieldsTo open-types depth
               unfolding inside
               opens = rw e
                   (ap₂ (λ (x y : ℕ). Elements (getD list (at + numberColumn) 0) x ∷ Fields y ∷ outer open-types depth) (sym (s .elements e .0)) (h .is)
@@ -261,13 +261,13 @@ module _ {keys info list payload open-types : List ℕ} {type depth at : ℕ} (s
       stand-value e =
           onward (λ sch m. run-value (s .going .lies sch m) (s .going .inside) (s .more) (s .own) (so sch m) (λ z. n (wire-is ∙ z)) value e)
 
-    module _ {k : ℕ} (is : k ≡ otherFault payload (rowAt list at) (recordsFrom list (at + stride))) where
+    module _ {k : ℕ} (is : k ≡ otherFault payload (recordAt list at) (recordsFrom list (at + stride))) where
       pub stand-fault : k ≢ 0 → Verdicts keys info list payload (Faulty k (at / stride))
       stand-fault n sch m = run-fault (s .going .lies sch m) (s .going .inside) (s .more) (s .own) (so sch m) is n
 
       module _ (none : k ≡ 0) where
         pub stand-low : getD list (at + kindColumn) 0 ≡ messageKind → depth < mostLevels
-        stand-low e = omega (arith, other-low payload (rowAt list at) (recordsFrom list (at + stride)) e (sym is ∙ none), s .own)
+        stand-low e = omega (arith, other-low payload (recordAt list at) (recordsFrom list (at + stride)) e (sym is ∙ none), s .own)
 
         pub stand-content : getD list (at + kindColumn) 0 ≢ messageKind → getD list (at + kindColumn) 0 ≢ packedHead → Going keys info list payload open-types type depth (at + stride)
         stand-content x y = onward (λ sch m. run-content (s .going .lies sch m) (s .going .inside) (s .more) (s .own) (so sch m) is none x y)

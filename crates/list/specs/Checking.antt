@@ -7,7 +7,7 @@ use mathlib.Core.Option.{none}
 use mathlib.Core.List.{List, [], _∷_}
 use lib.ListN.{length, drop, getD}
 use lib.Dec.{leb, eqb}
-use Rattle.spec.specs.Names.{enumKind, fixed32Kind, fixed32Wire, floatKind, int32Kind, invalidList, messageKind, notUtf8, packedHead, sfixed32Kind, sint32Kind, stringKind, uint32Kind, unknownFixed32, kindColumn, mostTypes, numberColumn, startColumn, stopColumn, valueColumn}
+use Rattle.spec.specs.Names.{enumKind, fixed32Kind, fixed32Wire, floatKind, int32Kind, invalidList, messageKind, notUtf8, packedHead, sfixed32Kind, sint32Kind, stringKind, uint32Kind, unknownFixed32, mostTypes}
 use Rattle.spec.specs.Base.{if_then_else_, part}
 use Rattle.spec.specs.Utf8.{utf8}
 use Rattle.spec.specs.Kind.{Scalar, one, shape, wire}
@@ -30,10 +30,6 @@ pub record Made (sch : Schema) (keys info : List ℕ) : Type 0 where
   pub keyed : (i type t : ℕ) → i < keyCount → type < mostTypes → t < 2 ^ 32 → getD keys i 0 ≡ type * ownerUnit + t → (1 ≤ t / 8) × (t % 8 ≤ fixed32Wire)
 
 -- ---- one record
-
--- the record at a place
-abbrev pub rowAt : List ℕ → ℕ → Record
-rowAt list at = row (getD list at 0) (getD list (at + numberColumn) 0) (getD list (at + kindColumn) 0) (getD list (at + valueColumn) 0) (getD list (at + startColumn) 0) (getD list (at + stopColumn) 0) 0
 
 -- the fault of a content of this kind; 0 for none
 unfoldable pub rangeFault : List ℕ → (kind start stop : ℕ) → ℕ

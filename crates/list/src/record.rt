@@ -5,9 +5,9 @@ ghost use lib.ListN.{length, drop, take, getD};
 ghost use Rattle.spec.specs.Writing.{otherFault};
 ghost use Rattle.spec.specs.Names.{delimitedWire, kindColumn, mostLevels, mostTypes, recordKinds};
 ghost use Rattle.spec.specs.Kind.{Scalar, one, shape, fits, wires, wire};
-ghost use Rattle.spec.specs.Record.{recordsOf, stride};
+ghost use Rattle.spec.specs.Record.{recordsOf, stride, recordAt};
 ghost use Rattle.schema.specs.Layout.{guesses, ownerUnit};
-ghost use Rattle.list.specs.Checking.{rowAt, rangeFault, signed32Kind, unsigned32Kind, Typed, Answers};
+ghost use Rattle.list.specs.Checking.{rangeFault, signed32Kind, unsigned32Kind, Typed, Answers};
 use schema::layout::GUESSES;
 use schema::layout::INFO;
 use schema::layout::INNERS_AT;
@@ -212,7 +212,7 @@ fn range_fault(payload: &[u8], kind: u64, start: u64, end: u64) -> u32
 // The fault of the record at a place, of wire type 2, whose number and kind are as expected; 0 for none.
 pub(crate) fn delimited_fault(list: &[u64], payload: &[u8], at: usize, kind: u64, depth: u64) -> u32
     requires { ⌜ (at + stride ≤ length (now list)) × (kind ≡ getD (now list) (at + kindColumn) 0) × (depth ≡ getD (now list) at 0) × (depth ≤ mostLevels) × (wire kind ≡ delimitedWire) ⌝ }
-    ensures { λ r. ⌜ r ≡ otherFault (now (payload .entry)) (rowAt (now (list .entry)) at) (recordsOf (drop (at + stride) (now (list .entry)))) ⌝ }
+    ensures { λ r. ⌜ r ≡ otherFault (now (payload .entry)) (recordAt (now (list .entry)) at) (recordsOf (drop (at + stride) (now (list .entry)))) ⌝ }
 {
     if list[at + VALUE] != 0 {
         return INVALID_LIST;

@@ -6,19 +6,17 @@ use mathlib.Core.Path.{_≡_, refl, sym, ap, ap₂, _∙_}
 use mathlib.Core.Bool.{Bool, true, false}
 use mathlib.Core.List.{List}
 use lib.ListN.{length, take, drop, getD}
-use native.Mathlib.Numerals.{add-one}
-use lib.Seq.{drop-cons, drop-drop}
+use lib.Seq.{drop-drop}
 use Rattle.spec.specs.Names.{mostLevels, notUtf8, tooDeep}
-use Rattle.spec.specs.Base.{if_then_else_, part, Read, Took, No, digit}
+use Rattle.spec.specs.Base.{if_then_else_, part, Read, Took, No}
 use Rattle.spec.specs.Varint.{varint, varint64}
 use Rattle.spec.specs.Utf8.{utf8}
 use Rattle.spec.specs.Skip.{content}
 use Rattle.spec.specs.Pull as spec
 use Rattle.spec.specs.Pull.{says, moved, numbered, bounded, spelled, innerOf, enterAt}
 use Rattle.spec.proofs.Laws.{Takes, took}
-use Rattle.spec.proofs.VarintLaws.{varint-goes-on}
 use Rattle.spec.proofs.PullLaws.{enter-too-deep, enter-content}
-use Rattle.skip.proofs.PastLaws.{one-byte}
+use Rattle.skip.proofs.PastLaws.{one-byte, later-byte}
 use Rattle.wire.specs.Answers as wire
 use Rattle.wire.specs.Reached.{varintOf}
 use Rattle.wire.specs.declared.found.Found.{Found}
@@ -32,12 +30,6 @@ use Rattle.pull.specs.declared.step.Moved.{Moved}
 use Rattle.pull.specs.Told.{saidTold, asMoved, numberOf, contentOf, shutAt, Gated}
 
 -- ---- varints of few bytes, which are the same at both widths
-
--- a byte that says that another follows
-later-byte : (k last at : ℕ) (s : List ℕ) {v n : ℕ} → at < length s → 128 ≤ getD s at 0 → varint k last (drop (at + 1) s) ≡ Took v n
-    → varint (suc k) last (drop at s) ≡ Took (getD s at 0 % 128 + 128 * v) (suc n)
-unfolding digit
-later-byte k last at s h l e = rw (drop-cons s at 0, varint-goes-on k last (getD s at 0) (drop (suc at) s) l, ← add-one at, e)
 
 at-width : (narrow : Bool) (at v n : ℕ) (s : List ℕ) → ((k last : ℕ) → varint (suc (suc (suc k))) last (drop at s) ≡ Took v n) → wire.asRead at (found.Value v (at + n)) ≡ varintOf narrow (drop at s)
 at-width true at v n s h = ap (Took v) (omega arith) ∙ sym (h 1 15)

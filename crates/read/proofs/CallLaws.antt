@@ -2,18 +2,16 @@
 use Prim.Native.Nat.{ℕ, _/_, _≤_, _<_}
 use native.Mathlib.Omega.{arith}
 use mathlib.Core.Path.{_≡_, refl, sym, ap, ap₂, _∙_}
-use mathlib.Core.Bool.{_&&_}
 use mathlib.Core.Option.{Option, none, some}
 use mathlib.Core.List.{List}
 use lib.ListN.{length}
-use lib.Dec.{leb}
-use borrow.Author.Tests.{lt-ltb, le-ltb, leb-true}
-use Rattle.spec.specs.Names.{invalidSchema, tooLarge, mostEntries, mostTypes}
-use Rattle.spec.specs.Base.{between, limit}
+use borrow.Author.Tests.{lt-ltb, le-ltb}
+use Rattle.spec.specs.Names.{invalidSchema, tooLarge}
+use Rattle.spec.specs.Base.{limit}
 use Rattle.spec.specs.Record.{stride, stored}
 use Rattle.spec.specs.Reading.{Look, Reading, Refused, within, refusedOr, called, number, place, listed, roomAfter, read, readingBy, readingAs}
-use Rattle.spec.specs.Schema.{Schema, badSchema, says}
-use Rattle.spec.proofs.Laws.{by-test, both}
+use Rattle.spec.specs.Schema.{badSchema, says}
+use Rattle.spec.proofs.SchemaLaws.{valid-types}
 use Rattle.spec.proofs.ValidLaws.{goes}
 use Rattle.schema.specs.Tables.{keysOf, infoOf, tableSays}
 use Rattle.schema.proofs.TableLaws.{table-says, said-message}
@@ -76,16 +74,6 @@ module _ (bad : Option ℕ) (look : Look) (n : ℕ) (s : List ℕ) where
   reading-bad h e = rw (le-ltb limit (length s) h, e)
 
 -- ---- the tables of a schema
-
--- a valid schema has a type at least, and `mostTypes` at most
-valid-types : (sch : Schema) → badSchema sch ≡ none → (1 ≤ sch .types) × (sch .types ≤ mostTypes)
-unfolding badSchema
-valid-types sch e =
-    by-test (between 1 mostTypes (sch .types) && leb (length (sch .entries)) mostEntries)
-    (λ p.
-    let q = both (leb 1 (sch .types)) (leb (sch .types) mostTypes) (both (between 1 mostTypes (sch .types)) (leb (length (sch .entries)) mostEntries) p .0) in
-    (leb-true 1 (sch .types) (q .0), leb-true (sch .types) mostTypes (q .1)))
-    (λ p. let bad : _≡_ {A = Option ℕ} (some 0) none = rw p at e in let z : _≡_ {A = ℕ} 0 1 = cc in absurd (omega arith))
 
 -- two readings that are one where no entry is bad
 called-cong : (bad : Option ℕ) (s : List ℕ) (p q : Reading) → (bad ≡ none → p ≡ q) → called bad s p ≡ called bad s q

@@ -6,24 +6,22 @@ use mathlib.Core.Path.{_≡_, refl, sym, ap, ap₂, _∙_}
 use mathlib.Core.Bool.{Bool, true, false, not, false≢true}
 use mathlib.Core.List.{List}
 use lib.ListN.{length, drop, take, getD, length-drop}
-use native.Mathlib.Numerals.{add-one}
-use lib.Seq.{drop-cons, drop-drop}
+use lib.Seq.{drop-drop}
 use lib.Dec.{eqb}
 use borrow.Author.Tests.{le-leb, lt-leb, eqb-true, eqb-false}
 use Rattle.spec.specs.Names.{bytesKind, messageKind, mostLevels, packedHead, stringKind, unknownBytes, badTag, fixed32Wire, notUtf8, tooDeep}
-use Rattle.spec.specs.Base.{if_then_else_, part, Read, Took, No, digit}
-use Rattle.spec.specs.Varint.{varint, varint32, tag, goodTag}
+use Rattle.spec.specs.Base.{if_then_else_, part, Read, Took, No}
+use Rattle.spec.specs.Varint.{varint32, tag, goodTag}
 use Rattle.spec.specs.Utf8.{utf8}
 use Rattle.spec.specs.Kind.{headKind, Shape, one, other, string, bytes, message, packed, startGroup, endGroup, nothing, shape, shapes}
 use Rattle.spec.specs.Schema.{Says}
 use Rattle.spec.specs.Skip.{content}
-use Rattle.spec.proofs.Laws.{by-test, Takes, took, none, takes-scalar, takes-tag}
-use Rattle.spec.proofs.VarintLaws.{varint-goes-on}
+use Rattle.spec.proofs.Laws.{by-test, Takes, took, none, takes-tag}
 use Rattle.spec.proofs.SkipLaws.{good-tag}
 use Rattle.schema.specs.Layout.{keyCount}
 use Rattle.schema.specs.Tables.{tableSays}
 use Rattle.schema.proofs.AskingLaws.{Right, guessed, says-guessed}
-use Rattle.skip.proofs.PastLaws.{one-byte, tag-refused, tag-good, tag-bad}
+use Rattle.skip.proofs.PastLaws.{one-byte, tag-refused, tag-good, tag-bad, later-byte}
 use Rattle.wire.specs.Answers.{asRead}
 use Rattle.wire.specs.Reached.{varintOf}
 use Rattle.wire.proofs.FoundLaws.{Placed, varint-placed}
@@ -35,15 +33,10 @@ use Rattle.skip.specs.declared.content.Span.the-variants as span
 use Rattle.skip.specs.Spans.{spanAt}
 use Rattle.skip.proofs.SpanLaws.{span-in}
 use Rattle.read.specs.declared.classify.Body.the-variants as body
+use Rattle.read.proofs.Turn.{takes-of}
 use Rattle.read.proofs.KindTests.{headOf, headTest, head-kind, head-one, sortOf}
 
 -- ---- varints of few bytes
-
--- a byte that says that another follows
-later-byte : (k last at : ℕ) (s : List ℕ) {v n : ℕ} → at < length s → 128 ≤ getD s at 0 → varint k last (drop (at + 1) s) ≡ Took v n
-    → varint (suc k) last (drop at s) ≡ Took (getD s at 0 % 128 + 128 * v) (suc n)
-unfolding digit
-later-byte k last at s h l e = rw (drop-cons s at 0, varint-goes-on k last (getD s at 0) (drop (suc at) s) l, ← add-one at, e)
 
 module _ (at : ℕ) (s : List ℕ) (inside : at < length s) where
   pub one-short : getD s at 0 < 128 → Shortly (drop at s) (short.Of (getD s at 0) 1)
@@ -180,11 +173,6 @@ module _ (at : ℕ) (r : Read) where
       go (No k) q = let z : _≡_ {A = ℕ} 0 1 = cc in absurd (omega arith)
 
 -- a number, or nothing
-takes-scalarOf : (x : Shape) (s : List ℕ) → Takes 1 (length s) (scalarOf x s)
-unfolding scalarOf
-takes-scalarOf (one c) s = takes-scalar c s
-takes-scalarOf (other x) s = none
-
 unsized : (x : Shape) (at : ℕ) (s : List ℕ) → sortOf x ≡ 0 → bodied x 0 at s ≡ valued at (scalarOf x s)
 unfolding bodied valued scalarOf sortOf
 unsized (one c) at s h = refl
@@ -199,7 +187,7 @@ unsized (other nothing) at s h = refl
 module _ (x : Shape) (at : ℕ) (s : List ℕ) (h : sortOf x ≡ 0) where
   pub value-body : {v next : ℕ} → asRead at (found.Value v next) ≡ scalarOf x s → body.Is v at next ≡ bodied x 0 at s
   unfolding valued
-  value-body {v} {next} e = go (scalarOf x s) (takes-scalarOf x s) e ∙ sym (unsized x at s h)
+  value-body {v} {next} e = go (scalarOf x s) (takes-of x s) e ∙ sym (unsized x at s h)
     where
       go : (r : Read) → Takes 1 (length s) r → Took v (next - at) ≡ r → body.Is v at next ≡ valued at r
       go (Took w n) (took i j) q =

@@ -10,11 +10,12 @@ use lib.Dec.{eqb}
 use borrow.Author.Tests.{eq-eqb, ne-eqb, eqb-true, eqb-false}
 use Rattle.spec.specs.Names.{delimitedWire, fixed32Wire, groupKind, messageKind, packedHead, mostEntries, mostTypes, ownKinds, sint64Kind, unknownVarint}
 use Rattle.spec.specs.Base.{if_then_else_}
-use Rattle.spec.specs.Kind.{Scalar, Shape, one, other, kindWires, ownWires, wires, wire, shapes, shape, isScalar}
+use Rattle.spec.specs.Kind.{Scalar, one, kindWires, ownWires, wires, wire, shapes, shape, isScalar}
 use Rattle.spec.specs.Schema.{Schema, badSchema, noEntry, lookup, placeOf, unknownKind, kindOf, Says, saysOf, says, bit}
 use Rattle.spec.proofs.Laws.{either-way, chosen, both, both-true, by-test}
 use Rattle.spec.proofs.VarintLaws.{lower-or-not}
 use Rattle.spec.proofs.FieldLaws.{kind-typed, kind-packed, kind-unknown, kind-lacking}
+use Rattle.spec.proofs.ListLaws.{scalar-shape}
 use Rattle.spec.proofs.SchemaLaws.{schema-kinds, Is, Before, type-before, number-before, Good, good-entry, at, place-found, place-none, valid-types, valid-count, valid-good, valid-found}
 use Rattle.spec.specs.declared.Entry.{Entry}
 use Rattle.wire.proofs.Below.{equal-below}
@@ -269,11 +270,6 @@ read-as e w =
     (λ p. as-packed (both (e .repeated) (isScalar (shape (e .kind))) (both (e .repeated && isScalar (shape (e .kind))) (eqb w delimitedWire) p .0) .1))
     (λ p. as-unknown))
 
-scalar-of : (x : Shape) → isScalar x ≡ true → (c : Scalar) × (x ≡ one c)
-unfolding isScalar
-scalar-of (one c) h = (c, refl)
-scalar-of (other y) h = absurd (false≢true h)
-
 module _ (sch : Schema) (valid : badSchema sch ≡ none) (type t : ℕ) (wired : t % 8 ≤ fixed32Wire) where
   looked : Entry
   looked = lookup (sch .entries) type (t / 8)
@@ -306,7 +302,7 @@ module _ (sch : Schema) (valid : badSchema sch ≡ none) (type t : ℕ) (wired :
   -- a packed field's elements are of a kind that is one number
   pub said-packed : says sch type t .kind ≡ packedHead → (c : Scalar) × (shape (says sch type t .inner) ≡ one c)
   unfolding says saysOf looked
-  said-packed h = subst (λ (k : ℕ). (c : Scalar) × (shape (innerFor looked k) ≡ one c)) (sym h) (scalar-of (shape (looked .kind)) (go (read-as looked (t % 8)) h))
+  said-packed h = subst (λ (k : ℕ). (c : Scalar) × (shape (innerFor looked k) ≡ one c)) (sym h) (scalar-shape (shape (looked .kind)) (go (read-as looked (t % 8)) h))
     where
       go : {k : ℕ} → ReadAs looked (t % 8) k → k ≡ packedHead → isScalar (shape (looked .kind)) ≡ true
       go as-typed q = absurd (omega (arith, looked-kind))

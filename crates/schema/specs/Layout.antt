@@ -5,8 +5,9 @@
 --     info[innersAt + e]        its child type, or `mayPack`
 -- Each is an `abbrev`: to the checker a name and its number are one and the same.
 -- Assumes nothing: these are definitions. Public promises cite it.
-use Prim.Native.Nat.{ℕ}
+use Prim.Native.Nat.{ℕ, _*_}
 use Rattle.spec.specs.Names.{mostEntries}
+use Rattle.spec.specs.Schema.{entryStride}
 
 -- ---- keys
 
@@ -53,6 +54,6 @@ mayPack = 255
 
 -- ---- the schema as numbers
 
--- the most numbers that a schema's entries are: mostEntries * entryStride
+-- the most numbers that a schema's entries are
 abbrev pub mostNumbers : ℕ
-mostNumbers = 1280
+mostNumbers = mostEntries * entryStride

@@ -1,12 +1,10 @@
 -- Laws of the sizes of values: a varint takes at most ten bytes, the wire type of a kind says how its size is found, and cutting a part off above
 -- the limit does not change whether the whole is within it. Assumes nothing.
-use Prim.Native.Nat.{ℕ, zero, suc, _+_, _*_, _/_, _^_, _≤_}
+use Prim.Native.Nat.{ℕ, _+_, _*_, _≤_}
 use mathlib.Core.Path.{_≡_, refl, sym, ap, ap₂, _∙_}
 use mathlib.Core.Bool.{Bool, true, false}
 use native.Mathlib.Decide.{decLt, decLe}
 use native.Mathlib.Omega.{arith}
-use native.Mathlib.Nat.{pow-suc, one-le-pow, zero-lt-suc}
-use lib.Count.{leadingZeros}
 use lib.Dec.{eqb}
 use lib.ListN.{length, List·getD-eq-default}
 use borrow.Author.Tests.{le-leb, lt-leb}
@@ -22,24 +20,6 @@ use Rattle.wire.proofs.Below.{equal-below}
 pub size-most : (v : ℕ) → size v ≤ 10
 unfolding size
 size-most v = omega arith
-
--- a number whose highest bit is set, or that is larger still, takes ten
-top-bit : (k v : ℕ) → 2 ^ k ≤ v → leadingZeros (suc k) v ≡ 0
-unfolding leadingZeros
-top-bit zero v h = go v h
-  where
-    go : (v : ℕ) → 1 ≤ v → leadingZeros 1 v ≡ 0
-    go zero h = absurd (omega arith)
-    go (suc v) h = refl
-top-bit (suc k) v h = go v h (top-bit k (v / 2) (omega (arith, pow-suc 2 k)))
-  where
-    go : (v : ℕ) → 2 ^ suc k ≤ v → leadingZeros (suc k) (v / 2) ≡ 0 → leadingZeros (suc (suc k)) v ≡ 0
-    go zero h e = absurd (omega (arith, one-le-pow (suc k) 2 (zero-lt-suc 1)))
-    go (suc v) h e = e
-
-pub size-top : (v : ℕ) → 2 ^ 63 ≤ v → size v ≡ 10
-unfolding size
-size-top v h = rw (top-bit 63 v h)
 
 -- ---- by wire type
 

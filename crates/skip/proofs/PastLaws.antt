@@ -1,6 +1,6 @@
 -- Laws of a position after what was read: of varints, fixed values and contents, and of one reading after another.
 -- Assumes nothing.
-use Prim.Native.Nat.{ℕ, zero, suc, _+_, _-_, _≤_, _<_}
+use Prim.Native.Nat.{ℕ, zero, suc, _+_, _-_, _*_, _%_, _≤_, _<_}
 use native.Mathlib.Omega.{arith}
 use native.Mathlib.Numerals.{add-one}
 use native.Mathlib.Nat.{add-assoc}
@@ -44,6 +44,10 @@ module _ (k last at : ℕ) (s : List ℕ) (inside : at < length s) where
   pub one-byte : getD s at 0 < 128 → varint (suc k) last (drop at s) ≡ Took (getD s at 0) 1
   one-byte h = rw (drop-cons s at 0) (varint-ends k last (getD s at 0) (drop (suc at) s) h)
 
+  pub later-byte : {v n : ℕ} → 128 ≤ getD s at 0 → varint k last (drop (at + 1) s) ≡ Took v n → varint (suc k) last (drop at s) ≡ Took (getD s at 0 % 128 + 128 * v) (suc n)
+  unfolding digit
+  later-byte l e = rw (drop-cons s at 0, varint-goes-on k last (getD s at 0) (drop (suc at) s) l, ← add-one at, e)
+
   pub ends-here : getD s at 0 < 128 → Ends 1 (varint (suc k) last (drop at s))
   ends-here h = rw (one-byte h) ends
 
@@ -58,12 +62,6 @@ unfolding fixed
 fixed-ends zero s h = ends
 fixed-ends (suc n) [] h = absurd (omega arith)
 fixed-ends (suc n) (b ∷ s) h = ends-digit 256 b (fixed-ends n s (omega arith))
-
-pub fixed-short : (n : ℕ) (s : List ℕ) → length s < n → fixed n s ≡ No endsEarly
-unfolding fixed digit
-fixed-short zero s h = absurd (omega arith)
-fixed-short (suc n) [] h = refl
-fixed-short (suc n) (b ∷ s) h = ap (digit 256 b) (fixed-short n s (omega arith))
 
 -- a content: its length, and as many bytes
 module _ (len : List ℕ → Read) (s : List ℕ) where

@@ -146,6 +146,31 @@ bytes-run tags payload r xs ys o l =
     ∙ ap₂ (λ (x y : List Record). tagOf tags r ++ body (shape (r .kind)) payload r (bytesIn (not (eqb (r .kind) packedHead)) payload x) ++ bytesIn tags payload y)
     (ap (λ (k : ℕ). take k (xs ++ ys)) n ∙ take-append-seam xs ys) (ap (λ (k : ℕ). drop k (xs ++ ys)) n ∙ drop-append-seam xs ys)
 
+-- ---- kinds of values, and of records
+
+pub scalar-shape : (x : Shape) → isScalar x ≡ true → (c : Scalar) × (x ≡ one c)
+unfolding isScalar
+scalar-shape (one c) e = (c, refl)
+scalar-shape (other y) e = absurd (false≢true e)
+
+pub packed-shape : (e : Entry) → e .kind ≤ sint64Kind → kindOf e delimitedWire ≡ packedHead → (c : Scalar) × (shape (e .kind) ≡ one c)
+unfolding kindOf unknownKind
+packed-shape e h p = go (eqb delimitedWire (wire (e .kind))) (e .repeated) (isScalar (shape (e .kind))) refl p
+  where
+    go : (a b c : Bool) → isScalar (shape (e .kind)) ≡ c → (if a then e .kind else if b && c && true then packedHead else unknownBytes) ≡ packedHead → (c : Scalar) × (shape (e .kind) ≡ one c)
+    go true b c q p = absurd (omega arith)
+    go false true true q p = scalar-shape (shape (e .kind)) q
+    go false true false q p = absurd (omega arith)
+    go false false c q p = absurd (omega arith)
+
+pub recorded-small : (w : ℕ) → recorded w ≡ true → w ≤ fixed32Wire
+recorded-small w e = go (leb w delimitedWire) (eqb w fixed32Wire) refl refl e
+  where
+    go : (a b : Bool) → leb w delimitedWire ≡ a → eqb w fixed32Wire ≡ b → (a || b) ≡ true → w ≤ fixed32Wire
+    go true b p q h = omega (arith, leb-true w delimitedWire p)
+    go false true p q h = omega (arith, eqb-true w fixed32Wire q)
+    go false false p q h = absurd (false≢true h)
+
 -- ---- what a record without fault says
 
 module _ (sch : Schema) (payload : List ℕ) where
@@ -172,14 +197,6 @@ module _ (sch : Schema) (payload : List ℕ) where
         is-text = not-both (eqb (r .kind) stringKind) (utf8 (part (r .start) (r .stop) payload)) (f .0);
       }
 
-  or-small : (w : ℕ) → recorded w ≡ true → w ≤ fixed32Wire
-  or-small w e = go (leb w delimitedWire) (eqb w fixed32Wire) refl refl e
-    where
-      go : (a b : Bool) → leb w delimitedWire ≡ a → eqb w fixed32Wire ≡ b → (a || b) ≡ true → w ≤ fixed32Wire
-      go true b p q h = omega (arith, leb-true w delimitedWire p)
-      go false true p q h = omega (arith, eqb-true w fixed32Wire q)
-      go false false p q h = absurd (false≢true h)
-
   expects : (t : ℕ) (r : Record) → expected sch (Fields t) r ≡ true → Expected sch t r
   unfolding expected
   expects t r e =
@@ -189,7 +206,7 @@ module _ (sch : Schema) (payload : List ℕ) where
       record {
         low = leb-true 1 (r .number) (c .0);
         high = leb-true (r .number) largestNumber (c .1);
-        wired = or-small (wire (r .kind)) (b .1);
+        wired = recorded-small (wire (r .kind)) (b .1);
         reads = sym (eqb-true (r .kind) _ (a .1));
       }
 
@@ -381,21 +398,6 @@ module _ (sch : Schema) (payload : List ℕ) where
   -- ---- heads; in a valid schema no entry is of kind 20
 
   module _ (kinds : (t n : ℕ) → lookup (sch .entries) t n .kind ≤ sint64Kind) where
-    scalar-shape : (x : Shape) → isScalar x ≡ true → (c : Scalar) × (x ≡ one c)
-    unfolding isScalar
-    scalar-shape (one c) e = (c, refl)
-    scalar-shape (other y) e = absurd (false≢true e)
-
-    packed-shape : (e : Entry) → e .kind ≤ sint64Kind → kindOf e delimitedWire ≡ packedHead → (c : Scalar) × (shape (e .kind) ≡ one c)
-    unfolding kindOf unknownKind
-    packed-shape e h p = go (eqb 2 (wire (e .kind))) (e .repeated) (isScalar (shape (e .kind))) refl p
-      where
-        go : (a b c : Bool) → isScalar (shape (e .kind)) ≡ c → (if a then e .kind else if b && c && true then packedHead else unknownBytes) ≡ packedHead → (c : Scalar) × (shape (e .kind) ≡ one c)
-        go true b c q p = absurd (omega arith)
-        go false true true q p = scalar-shape (shape (e .kind)) q
-        go false true false q p = absurd (omega arith)
-        go false false c q p = absurd (omega arith)
-
     message-record : (t : ℕ) (out : List Place) (r : Record) (xs rest : List Record) → r .depth ≡ length out → Sound (Fields t) r (xs ++ rest) → r .kind ≡ messageKind
         → Over (length out + 1) xs → Tree sch payload (lookup (sch .entries) t (r .number) .child) (length out + 1) xs (bytesIn true payload xs)
         → Grown t out rest → Grown t out (r ∷ (xs ++ rest))

@@ -3,7 +3,7 @@
 use Prim.Native.Nat.{ℕ, zero, suc, _+_, _-_, _*_, _/_, _%_, _^_, _≤_, _<_}
 use native.Mathlib.Omega.{arith}
 use mathlib.Core.Path.{_≡_, refl, sym, ap, ap₂, _∙_, subst}
-use mathlib.Core.Bool.{Bool, true, false, _&&_, false≢true}
+use mathlib.Core.Bool.{Bool, true, _&&_}
 use mathlib.Core.List.{List, [], _∷_, _++_, append-assoc}
 use lib.ListN.{length, take, drop, length-append, length-drop, take-append-drop}
 use lib.Seq.{drop-drop, length-take-le}
@@ -26,7 +26,7 @@ use Rattle.spec.proofs.VarintLaws.{lower-or-not, varint-took}
 use Rattle.spec.proofs.FieldLaws.{message-head, message-too-deep}
 use Rattle.spec.proofs.ReadingLaws.{read-nil, read-cons, elements-cons, field-sound}
 use Rattle.spec.proofs.ReadingLaws as reads
-use Rattle.spec.proofs.ListLaws.{is-message-kind, is-packed-head}
+use Rattle.spec.proofs.ListLaws.{is-message-kind, is-packed-head, packed-shape}
 use Rattle.spec.proofs.RoundTrip.{Stands, stands-lies, stands-part, Expected, again, tagBytes, Values, no-value, value, Tree, no-field, number, text, blob, inner, row-of}
 use Rattle.spec.specs.Valid.{Bytes}
 use Rattle.spec.proofs.LeastLaws.{bytes-drop, bytes-take, Least, least, varint-least, Framed, framed, no-frame, content-framed, Fitting, fitting, no-fit, scalar-fits}
@@ -80,21 +80,6 @@ wire-kind e w h =
     chosen (λ (k : ℕ). wire k ≡ w) (eqb w (wire (e .kind))) (λ p. sym (eqb-true w (wire (e .kind)) p))
     (λ p. chosen (λ (k : ℕ). wire k ≡ w) (e .repeated && isScalar (shape (e .kind)) && eqb w delimitedWire)
     (λ q. wire-20 ∙ sym (eqb-true w delimitedWire (both (e .repeated && isScalar (shape (e .kind))) (eqb w delimitedWire) q .1))) (λ q. wire-unknown w h))
-
-scalar-shape : (x : Shape) → isScalar x ≡ true → (c : Scalar) × (x ≡ one c)
-unfolding isScalar
-scalar-shape (one c) e = (c, refl)
-scalar-shape (other x) e = absurd (false≢true e)
-
-packed-shape : (e : Entry) → e .kind ≤ sint64Kind → kindOf e delimitedWire ≡ packedHead → (c : Scalar) × (shape (e .kind) ≡ one c)
-unfolding kindOf unknownKind
-packed-shape e h p = go (eqb 2 (wire (e .kind))) (e .repeated) (isScalar (shape (e .kind))) refl p
-  where
-    go : (a b c : Bool) → isScalar (shape (e .kind)) ≡ c → (if a then e .kind else if b && c && true then 20 else 23) ≡ 20 → (c : Scalar) × (shape (e .kind) ≡ one c)
-    go true b c q p = absurd (omega arith)
-    go false true true q p = scalar-shape (shape (e .kind)) q
-    go false true false q p = absurd (omega arith)
-    go false false c q p = absurd (omega arith)
 
 -- ---- parts
 

@@ -18,7 +18,7 @@ use Rattle.spec.specs.Base.{if_then_else_, part}
 use Rattle.spec.specs.Varint.{encode, tagSize}
 use Rattle.spec.specs.Kind.{Scalar, int32, uint32, uint64, bool, sint32, sint64, fixed32, sfixed32, fixed64, Shape, one, other, string, bytes, message, packed, startGroup, endGroup, nothing, shapes, shape, wire, encoded, fits}
 use Rattle.spec.specs.Schema.{Schema, badSchema, lookup}
-use Rattle.spec.specs.Record.{Record, row, deeper, stride, recordsOf}
+use Rattle.spec.specs.Record.{Record, deeper, stride, recordsOf, recordAt, recordsFrom}
 use Rattle.spec.specs.Sizes.{bodySize, sizeOf}
 use Rattle.spec.specs.Writing.{prefixed, body, tagOf, written, Fields, lies, Fine, listFault}
 use Rattle.spec.proofs.Laws.{both, chosen, either-way}
@@ -369,12 +369,14 @@ fine-passed sch payload rs valid fine =
 
 -- the record at b, and those from the next place on
 pub records-at : (ns : List ℕ) (b : ℕ) → b + stride ≤ length ns
-    → recordsOf (drop b ns)
-    ≡ row (getD ns b 0) (getD ns (b + numberColumn) 0) (getD ns (b + kindColumn) 0) (getD ns (b + valueColumn) 0) (getD ns (b + startColumn) 0) (getD ns (b + stopColumn) 0) 0 ∷ recordsOf (drop (b + stride) ns)
+    → recordsFrom ns b ≡ recordAt ns b ∷ recordsFrom ns (b + stride)
 records-at ns b h =
     let zeroth : getD (drop b ns) 0 0 ≡ getD ns b 0 = rw add-zero at (getD-drop b ns 0 0) in
     records-cons (drop b ns) (omega (arith, length-drop b ns))
     ∙ rw (zeroth, getD-drop b ns numberColumn 0, getD-drop b ns kindColumn 0, getD-drop b ns valueColumn 0, getD-drop b ns startColumn 0, getD-drop b ns stopColumn 0, drop-drop stride b ns) refl
+
+pub records-end : (ns : List ℕ) (b : ℕ) → length ns ≤ b → recordsFrom ns b ≡ []
+records-end ns b h = ap recordsOf (drop-of-length-le ns {i = b} h) ∙ records-nil
 
 pub records-drop : (n : ℕ) (ns : List ℕ) → drop n (recordsOf ns) ≡ recordsOf (drop (stride * n) ns)
 records-drop zero ns = refl

@@ -11,7 +11,7 @@ use lib.ListN.{length, drop, getD}
 use lib.Seq.{drop-drop}
 use lib.Dec.{leb, ltb, eqb}
 use borrow.Author.Tests.{leb-true, le-ltb, ltb-true, eqb-true, eq-eqb, ne-eqb, eqb-false, not-true}
-use Rattle.spec.specs.Names.{groupKind, largestNumber, messageKind, sint64Kind, childColumn, doubleKind, entryKindColumn, entryNumberColumn, ownerColumn, repeatedColumn}
+use Rattle.spec.specs.Names.{groupKind, largestNumber, messageKind, mostEntries, mostTypes, sint64Kind, childColumn, doubleKind, entryKindColumn, entryNumberColumn, ownerColumn, repeatedColumn}
 use Rattle.spec.specs.Base.{if_then_else_, between}
 use Rattle.spec.specs.Schema.{Schema, rises, goodEntry, badEntry, badSchema, noEntry, lookup, placeOf, entryOf, entriesOf, schemaOf, bit, copied, entryStride}
 use Rattle.spec.proofs.Laws.{both, both-true, by-test}
@@ -317,13 +317,13 @@ abbrev pub at : Schema → ℕ → Entry
 at sch i = getD (sch .entries) i noEntry
 
 module _ (sch : Schema) (valid : badSchema sch ≡ none) where
-  pub valid-types : (1 ≤ sch .types) × (sch .types ≤ 32)
+  pub valid-types : (1 ≤ sch .types) × (sch .types ≤ mostTypes)
   valid-types =
-      let b = both (leb 1 (sch .types)) (leb (sch .types) 32) (valid-entries sch valid .0) in
-      (leb-true 1 (sch .types) (b .0), leb-true (sch .types) 32 (b .1))
+      let b = both (leb 1 (sch .types)) (leb (sch .types) mostTypes) (valid-entries sch valid .0) in
+      (leb-true 1 (sch .types) (b .0), leb-true (sch .types) mostTypes (b .1))
 
-  pub valid-count : length (sch .entries) ≤ 256
-  valid-count = leb-true (length (sch .entries)) 256 (valid-entries sch valid .1)
+  pub valid-count : length (sch .entries) ≤ mostEntries
+  valid-count = leb-true (length (sch .entries)) mostEntries (valid-entries sch valid .1)
 
   pub valid-good : (i : ℕ) → i < length (sch .entries) → goodEntry (sch .types) (at sch i) ≡ true
   valid-good i l = entry-valid (sch .types) 0 0 0 (sch .entries) (valid-entries sch valid .2) i l .1

@@ -4,7 +4,7 @@ use mathlib.Core.List.{List, [], _∷_, _++_}
 use lib.ListN.{length, drop, getD}
 use lib.Dec.{ltb}
 use Rattle.spec.specs.Base.{if_then_else_}
-use Rattle.spec.specs.Names.{depthColumn, numberColumn, kindColumn, valueColumn, startColumn, stopColumn}
+use Rattle.spec.specs.Names.{numberColumn, kindColumn, valueColumn, startColumn, stopColumn}
 
 -- the numbers of a record, and the place of its field's tag, which is the place of refusal 8
 pub record Record : Type 0 where
@@ -28,15 +28,18 @@ deeper d (r ∷ rs) =
 
 -- ---- as numbers, one record after the other
 
--- how many numbers a record has; those that are stored; the record that stands at the front of some numbers
+-- how many numbers a record has; those that are stored; the record whose numbers begin at a place, and at the front
 abbrev pub stride : ℕ
 stride = 6
 
 unfoldable pub numbers : Record → List ℕ
 numbers r = r .depth ∷ r .number ∷ r .kind ∷ r .value ∷ r .start ∷ r .stop ∷ []
 
+abbrev pub recordAt : List ℕ → ℕ → Record
+recordAt ns at = row (getD ns at 0) (getD ns (at + numberColumn) 0) (getD ns (at + kindColumn) 0) (getD ns (at + valueColumn) 0) (getD ns (at + startColumn) 0) (getD ns (at + stopColumn) 0) 0
+
 abbrev pub loaded : List ℕ → Record
-loaded ns = row (getD ns depthColumn 0) (getD ns numberColumn 0) (getD ns kindColumn 0) (getD ns valueColumn 0) (getD ns startColumn 0) (getD ns stopColumn 0) 0
+loaded ns = recordAt ns 0
 
 unfoldable pub stored : List Record → List ℕ
 stored [] = []
@@ -57,3 +60,7 @@ recordsUpTo (suc k) (n ∷ ns) =
 
 unfoldable pub recordsOf : List ℕ → List Record
 recordsOf ns = recordsUpTo (length ns) ns
+
+-- those from a place on
+abbrev pub recordsFrom : List ℕ → ℕ → List Record
+recordsFrom ns at = recordsOf (drop at ns)

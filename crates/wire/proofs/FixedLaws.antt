@@ -13,7 +13,7 @@ use Rattle.spec.specs.Varint.{fixed, little}
 use Rattle.wire.specs.Answers.{asRead}
 use Rattle.wire.specs.declared.found.Found.the-variants.{Refused}
 
-too-few : (n : ℕ) (s : List ℕ) → length s < n → fixed n s ≡ No endsEarly
+pub too-few : (n : ℕ) (s : List ℕ) → length s < n → fixed n s ≡ No endsEarly
 unfolding fixed digit
 too-few zero s h = absurd (omega arith)
 too-few (suc n) [] h = refl

@@ -5,24 +5,23 @@ use mathlib.Core.Path.{_≡_, refl, sym, ap, _∙_, subst}
 use mathlib.Core.Logic.{_≢_}
 use mathlib.Core.Bool.{Bool, true, false, not, false≢true}
 use mathlib.Core.List.{List, [], _∷_}
-use lib.ListN.{length, drop, getD, length-drop, drop-of-length-le}
+use lib.ListN.{length, drop, getD, length-drop}
 use lib.Seq.{drop-drop}
 use lib.Dec.{eqb}
 use Rattle.spec.specs.Names.{delimitedWire, messageKind, packedHead, kindColumn, numberColumn, startColumn, stopColumn, valueColumn}
 use Rattle.spec.specs.Base.{if_then_else_, limit}
 use Rattle.spec.specs.Varint.{size, tagSize, zigzag}
 use Rattle.spec.specs.Kind.{int32, uint32, uint64, bool, sint32, sint64, fixed32, sfixed32, fixed64, Shape, one, other, string, bytes, message, packed, startGroup, endGroup, nothing, shape, wire, isScalar, headKind}
-use Rattle.spec.specs.Record.{Record, row, recordsOf, stride}
+use Rattle.spec.specs.Record.{Record, row, recordsOf, stride, recordsFrom}
 use Rattle.spec.specs.Sizes.{scalarSize, prefixedSize, valueSize, bodySize, sizeUpTo}
 use Rattle.spec.proofs.VarintLaws.{lower-or-not}
-use Rattle.spec.proofs.FlatLaws.{records-nil}
 use Rattle.spec.proofs.RoundTrip.{hasContent, shape-message, shape-packed}
 use Rattle.spec.proofs.ListLaws.{Low}
 use Rattle.spec.proofs.SizeLaws.{sizeIn}
-use Rattle.spec.proofs.RunLaws.{front, behind, front-low, behind-drop, low-behind, front-length, front-size, Row, row-end, row-more, row-low, Nested, a-row, Fit, Content, Sane, sane-first, sane-rest, sane-drop, is-number, is-content, is-message, is-row, records-at, records-drop, sane-whole}
+use Rattle.spec.proofs.RunLaws.{front, behind, front-low, behind-drop, low-behind, front-length, front-size, Row, row-end, row-more, row-low, Nested, a-row, Fit, Content, Sane, sane-first, sane-rest, sane-drop, is-number, is-content, is-message, is-row, records-at, records-end, records-drop, sane-whole}
 use Rattle.sizes.specs.SizeParts.{capped}
 use Rattle.sizes.proofs.ValueSizes.{size-most}
-use Rattle.write.specs.Summing.{recordsFrom, runFrom, Summed, Lent, Elements, Below, perNumber}
+use Rattle.write.specs.Summing.{runFrom, Summed, Lent, Elements, Below, perNumber}
 use Rattle.write.proofs.KindLaws.{Head, of-message, of-packed}
 
 -- The loop over the run at depth d, from the place `from` on, is at the place `at`. What the run takes in all is what was added, and the rest of it.
@@ -49,9 +48,6 @@ start tags list from d h s l = record {
 
 -- ---- the run's end
 
-none-from : (list : List ℕ) (at : ℕ) → length list ≤ at → recordsFrom list at ≡ []
-none-from list at h = ap recordsOf (drop-of-length-le list {i = at} h) ∙ records-nil
-
 module _ {tags : Bool} {list : List ℕ} {from d at size : ℕ} (h : Here tags list from d at size) where
   finish : runFrom d list at ≡ [] → Summed tags list from d at size
   unfolding sizeUpTo
@@ -64,7 +60,7 @@ module _ {tags : Bool} {list : List ℕ} {from d at size : ℕ} (h : Here tags l
 
   pub ended : length list ≤ at → Summed tags list from d at size
   unfolding front
-  ended l = finish (ap (front d) (none-from list at l))
+  ended l = finish (ap (front d) (records-end list at l))
 
   module _ (lt : at < length list) where
     -- the record here
@@ -239,7 +235,7 @@ module _ {list : List ℕ} {from d at sum : ℕ} (h : Here true list from d at s
   elements-below {rs = rs} lent (a-row {q = q} {rs = qs} sh dep num values) e =
       let some : at + stride < length list =
       lower-or-not (at + stride) (length list) (λ l. l)
-      (λ l. let z : q ∷ qs ≡ [] = sym e ∙ none-from list (at + stride) l in let y : _≡_ {A = ℕ} 0 1 = cc in absurd (omega arith)) in
+      (λ l. let z : q ∷ qs ≡ [] = sym e ∙ records-end list (at + stride) l in let y : _≡_ {A = ℕ} 0 1 = cc in absurd (omega arith)) in
       let s : Sane (recordsFrom list (at + stride)) = rest-sane h lt in
       let full : at + stride + stride ≤ length list = omega (arith, sane-whole (drop (at + stride) list) s (omega (arith, length-drop (at + stride) list)), length-drop (at + stride) list) in
       let next : row (getD list (at + stride) 0) (getD list (at + stride + numberColumn) 0) (getD list (at + stride + kindColumn) 0) (getD list (at + stride + valueColumn) 0) (getD list (at + stride + startColumn) 0) (getD list (at + stride + stopColumn) 0) 0

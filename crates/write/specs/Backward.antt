@@ -6,11 +6,11 @@ use mathlib.Core.Bool.{Bool, true, false}
 use mathlib.Core.List.{List, [], _∷_, _++_}
 use lib.ListN.{length, take, drop, getD}
 use lib.Dec.{ltb, eqb}
-use Rattle.spec.specs.Names.{largestNumber, packedHead, kindColumn, noWire, numberColumn, recordKinds, startColumn, stopColumn, valueColumn}
+use Rattle.spec.specs.Names.{largestNumber, packedHead, kindColumn, noWire, numberColumn, recordKinds, valueColumn}
 use Rattle.spec.specs.Base.{if_then_else_, part}
 use Rattle.spec.specs.Varint.{encode}
 use Rattle.spec.specs.Kind.{Shape, one, other, string, bytes, message, packed, startGroup, endGroup, nothing, wires, shape, isScalar, encoded}
-use Rattle.spec.specs.Record.{Record, row, recordsOf, stride}
+use Rattle.spec.specs.Record.{Record, recordsOf, stride, recordAt}
 use Rattle.spec.specs.Writing.{prefixed}
 use Rattle.spec.proofs.WritingLaws.{bytesIn}
 use Rattle.spec.proofs.SizeLaws.{Held}
@@ -87,7 +87,7 @@ abbrev pub kindAt : List ℕ → ℕ → ℕ
 kindAt list i = getD list (stride * i + kindColumn) 0
 
 abbrev pub at : List ℕ → ℕ → Record
-at list i = row (getD list (stride * i) 0) (getD list (stride * i + numberColumn) 0) (getD list (stride * i + kindColumn) 0) (getD list (stride * i + valueColumn) 0) (getD list (stride * i + startColumn) 0) (getD list (stride * i + stopColumn) 0) 0
+at list i = recordAt list (stride * i)
 
 -- the records from index a up to, not including, index e
 unfoldable pub span : List ℕ → ℕ → ℕ → List Record

@@ -5,20 +5,17 @@ use mathlib.Core.Path.{_≡_}
 use mathlib.Core.Logic.{_≢_}
 use mathlib.Core.Bool.{Bool, true}
 use mathlib.Core.List.{List}
-use lib.ListN.{length, take, drop, getD}
+use lib.ListN.{length, take, getD}
 use Rattle.spec.specs.Base.{limit}
 use Rattle.spec.specs.Names.{messageKind, packedHead, kindColumn, recordKinds}
 use Rattle.spec.specs.Kind.{wires, shape, isScalar}
-use Rattle.spec.specs.Record.{Record, recordsOf, stride}
+use Rattle.spec.specs.Record.{Record, stride, recordsFrom}
 use Rattle.spec.proofs.ListLaws.{Low}
 use Rattle.spec.proofs.SizeLaws.{sizeIn}
 use Rattle.spec.proofs.RunLaws.{front, Row, Sane}
 use Rattle.sizes.specs.SizeParts.{capped}
 
--- the records from a place on, and those of them that are the run at depth d
-abbrev pub recordsFrom : List ℕ → ℕ → List Record
-recordsFrom list at = recordsOf (drop at list)
-
+-- the records from a place on that are the run at depth d
 abbrev pub runFrom : ℕ → List ℕ → ℕ → List Record
 runFrom d list at = front d (recordsFrom list at)
 

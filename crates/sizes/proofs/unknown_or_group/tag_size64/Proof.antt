@@ -4,12 +4,12 @@ use Prim.Native.Nat.{_*_}
 use mathlib.Core.Path.{sym}
 use native.Mathlib.Omega.{arith}
 use borrow.Author.Needs.{needs}
-use Rattle.sizes.proofs.ValueSizes.{size-top}
+use Rattle.spec.proofs.VarintLaws.{size-ten}
 use Rattle.sizes.proofs.unknown_or_group.tag_size64.Statement.{statement}
 use Rattle.sizes.proofs.unknown_or_group.tag_size64.Tie as tie
 
 returns-2 : tie.Need-returns-2
-returns-2 c = sym (size-top (c .before .args .number * 8) (omega arith))
+returns-2 c = sym (size-ten (c .before .args .number * 8) (omega arith))
 
 pub tag-size64-spec : {M : Type 1} → statement M
 tag-size64-spec =

@@ -7,9 +7,9 @@ use borrow.Author.Needs.{needs}
 use mathlib.Core.List.{List}
 use lib.ListN.{length, getD}
 use Rattle.spec.specs.Names.{kindColumn, recordKinds}
-use Rattle.spec.specs.Record.{stride}
+use Rattle.spec.specs.Record.{stride, recordsFrom}
 use Rattle.spec.proofs.RunLaws.{Row, kind-small}
-use Rattle.write.specs.Summing.{recordsFrom, Elements}
+use Rattle.write.specs.Summing.{Elements}
 use Rattle.list.proofs.FitLaws.{type-of}
 use Rattle.write.proofs.Turn.{Here, values-start, fit, ended, stopped, whole, rest-values, value-turn}
 use Rattle.write.proofs.measure.elements_size.Statement.{statement}
