@@ -25,7 +25,7 @@ use Rattle.spec.proofs.RecordLaws.{after-append, after-followed}
 use Rattle.spec.proofs.KindLaws.{scalar-encoded}
 use Rattle.spec.proofs.WritingLaws.{field-written, scalar-written, from, to, bytes-written, string-written, message-written, packed-written}
 use Rattle.spec.specs.declared.Entry.{Entry}
--- with the laws below, as whoever cites one needs these names too
+-- given out with the laws below, since who cites one needs these names
 pub use Rattle.spec.specs.Tree.{Expected, tagBytes, Values, no-value, value, Tree, no-field, number, text, blob, inner, row-of}
 
 -- ---- what is compared

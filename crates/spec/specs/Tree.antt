@@ -1,4 +1,4 @@
--- The grammar of valid lists: a list by its nesting, with the bytes that it is written as. It is a second reading of `listCheck` and `written`.
+-- The grammar of valid lists: a list by its nesting, with the bytes that it is written as. It is a second definition of what `listCheck` accepts and of what `written` gives.
 -- Assumes nothing: these are definitions. Only laws cite it.
 use Prim.Native.Nat.{ℕ, _+_, _*_, _≤_, _<_}
 use mathlib.Core.Path.{_≡_}

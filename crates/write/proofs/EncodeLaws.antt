@@ -1,10 +1,10 @@
--- The varint of a number of 64 bits, with no count: one byte, or one and the varint of the rest; so up to three, and four and the rest. Assumes nothing.
+-- The varint of a number of 64 bits, with no count: of two and of three bytes, and four bytes with the varint of what remains. Assumes nothing.
 use Prim.Native.Nat.{ℕ, _+_, _/_, _%_, _^_, _≤_, _<_}
 use mathlib.Core.Path.{_≡_, ap, _∙_}
 use mathlib.Core.List.{List, [], _∷_, _++_}
 use native.Mathlib.Omega.{arith}
 use Rattle.spec.specs.Varint.{encode}
--- with the laws below, as whoever cites one needs these too
+-- given out with the laws below, since who cites one needs these too
 pub use Rattle.wire.proofs.VarintStores.{encode-ends, encode-goes-on}
 use Rattle.write.specs.Backward.{four, threeBytes, fourBytes, fourGroups}
 
