@@ -98,11 +98,26 @@ static uint64_t ours_many_prepared(void)
     return sum;
 }
 
+/* a segment to ranges in values, and from these ranges of it; `count` is how many numbers they are */
+static uint64_t ours_segread(void)
+{
+    uint64_t answer[2];
+    uint64_t number = calf_segment_read(s, n, values, sizeof values / 8, answer);
+    return answer[0] | number << 32;
+}
+
+static uint64_t ours_segwrite(void)
+{
+    uint64_t answer[2];
+    return calf_segment_write(values, count, s, n, out, BYTES, answer) ? 0 : answer[0];
+}
+
 /* ---- its peers (peers/) */
 uint64_t crate_varints(const uint8_t *, size_t), crate_pull(const uint8_t *, size_t), crate_fields(const uint8_t *, size_t), crate_group(const uint8_t *, size_t);
 uint64_t crate_run(const uint8_t *, size_t), std_utf8(const uint8_t *, size_t);
 size_t crate_put_varints(const uint64_t *, size_t, uint8_t *, size_t);
 uint64_t crate_records(const uint8_t *, size_t, const uint32_t *, size_t, record *, size_t);
+uint64_t crate_segment_read(const uint8_t *, size_t, uint64_t *, size_t), crate_segment_write(const uint64_t *, size_t, const uint8_t *, size_t, uint8_t *, size_t);
 static uint64_t driver_varints(void) { return crate_varints(s, n); }
 static uint64_t driver_pull(void) { return crate_pull(s, n); }
 static uint64_t driver_fields(void) { return crate_fields(s, n); }
@@ -118,6 +133,10 @@ static uint64_t driver_many(void)
     for (size_t at = 0; at < n; at += s[at] + 1) sum += crate_records(s + at + 1, s[at], schema, 9, room2, RECORDS);
     return sum;
 }
+
+static uint64_t values2[sizeof values / 8];
+static uint64_t driver_segread(void) { return crate_segment_read(s, n, values2, sizeof values2 / 8); }
+static uint64_t driver_segwrite(void) { return crate_segment_write(values2, count, s, n, out2, BYTES); }
 
 /* parsers and writers of objects */
 #define PARSER(x) uint64_t x##_parse(const uint8_t *, size_t); static uint64_t x##_reads(void) { return x##_parse(s, n); }
@@ -265,6 +284,25 @@ static void leaf(size_t i)
     run();
 }
 
+/* ---- segments: the ranges that both read, and the bytes that both write of them, which are those that were read; after them nothing is touched */
+static void segment(void)
+{
+    memset(values, 0xee, sizeof values);
+    memset(values2, 0xee, sizeof values2);
+    uint64_t got = ours_segread();
+    if (!got || got != driver_segread() || memcmp(values, values2, sizeof values)) fail("other ranges than the crate driver's");
+    count = got * 2;
+    memset(out, 0xee, sizeof out);
+    memset(out2, 0xee, sizeof out2);
+    if (ours_segwrite() != n || driver_segwrite() != n || memcmp(out, s, n) || memcmp(out, out2, sizeof out)) fail("other bytes than were read");
+    for (size_t i = n; i < sizeof out; i++) if (out[i] != 0xee) fail("the output after the bytes is touched");
+    measure("segread", "calf", ours_segread, n);
+    measure("segread", "crate", driver_segread, n);
+    measure("segwrite", "calf", ours_segwrite, n);
+    measure("segwrite", "crate", driver_segwrite, n);
+    run();
+}
+
 /* ---- messages */
 static const struct { const char *who; call *reads; bool utf8; } parsers[] = {
     { "generated", crate_reads, true }, { "dynamic", dynamic_reads, true }, { "prost", prost_reads, true },
@@ -344,6 +382,7 @@ int main(int argc, char **argv)
 {
     static const char *messages[] = { "ints", "intmix", "packed", "nested", "strings", "station", "letters", "deep", "flat", "deep100", "cut", "bad", "tiny",
                                       "ints.1M", "intmix.1M", "packed.1M", "nested.1M", "strings.1M", "station.1M", "letters.1M" };
+    static const char *segments[] = { "seg20", "segstation", "seg1k", "seg20k" };
     if (argc < 3) return 2;
     setlinebuf(stdout);
     reps = atoi(argv[2]);
@@ -356,5 +395,6 @@ int main(int argc, char **argv)
     run();
     for (size_t i = 0; i < sizeof leaves / sizeof *leaves; i++) if (load(argv[1], leaves[i].input)) leaf(i);
     for (size_t i = 0; i < sizeof messages / sizeof *messages; i++) if (load(argv[1], messages[i])) message();
+    for (size_t i = 0; i < sizeof segments / sizeof *segments; i++) if (load(argv[1], segments[i])) segment();
     return 0;
 }

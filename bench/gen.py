@@ -9,6 +9,7 @@ cut: station without its last byte; bad: strings whose last byte is no UTF-8. Ea
 v1, vmix, v10: varints of one byte; mostly one and two bytes, some of four and ten; of ten bytes
 ascii, german, russian, mixed: words; a letter of two bytes in a third of them; words of two-byte letters; words of one to four bytes a letter
 fields: varints, strings, fixed values and groups nested ten deep; f-*: fields of one sort
+seg20, segstation, seg1k: segments of 1,000 messages of 20 bytes, of station messages, of 1,024 bytes; seg20k: of 50 messages of 20,000 bytes
 """
 import pathlib
 import struct
@@ -202,8 +203,12 @@ def number():
     return (rnd(2**31) << 33 | rnd(2**31) << 2) >> rnd(42)
 
 
+def string_of(b):
+    return varint(len(b)) + b
+
+
 def string(n):
-    return varint(n) + some(n)
+    return string_of(some(n))
 
 
 def field(depth):
@@ -226,3 +231,12 @@ put("f-string", lambda: b"\x12" + string(3))
 put("f-fixed", lambda: b"\x0d" + some(4) + b"\x09" + some(8))
 put("f-group", lambda: b"\x0b" * 10 + b"\x0c" * 10)
 put("f-tag2", lambda: varint(50 * 8) + b"\x05")
+
+
+# segments: 1,000 messages of 20 bytes, of station messages, and of 1,024 bytes; 50 of 20,000
+def segment(n, one):
+    return b"WFM\1\0" + times(n, lambda: string_of(one()))
+
+
+for name, n, one in (("seg20", 1000, lambda: some(20)), ("segstation", 1000, station), ("seg1k", 1000, lambda: some(1024)), ("seg20k", 50, lambda: some(20000))):
+    (folder / name).write_bytes(segment(n, one))

@@ -1,5 +1,5 @@
 /* limits.c: the size limit itself through the C interface, at 2,147,483,647 and 2,147,483,648 bytes. The inputs are one field whose content is all the other bytes, which are zeros;
- * each answer is compared with what the definitions say. Then the stack that a call takes: it runs on one that was filled with a pattern. */
+ * each answer is compared with what the definitions say; the same of segments of one message, and of as many of 1,024 bytes as there is place for. Then the stack that a call takes: it runs on one that was filled with a pattern. */
 #define _GNU_SOURCE
 #include "../include/calf.h"
 #include <pthread.h>
@@ -28,7 +28,7 @@ static void put_length(uint8_t *at, uint32_t length)
 static void expect(const char *call, size_t n, uint64_t number, uint64_t a, uint64_t want_number, uint64_t want)
 {
     bool ok = number == want_number && a == want;
-    printf("%-28s %10zu bytes: %2llu, %10llu %s\n", call, n, (unsigned long long)number, (unsigned long long)a, ok ? "as defined" : "OTHER");
+    printf("%-32s %10zu bytes: %2llu, %10llu %s\n", call, n, (unsigned long long)number, (unsigned long long)a, ok ? "as defined" : "OTHER");
     bad |= !ok;
 }
 
@@ -75,6 +75,38 @@ static size_t stack_of(void *f(void *))
     return STACK - i;
 }
 
+/* ---- segments: one message that is all but the front and a length of five bytes; and messages of 1,024 bytes, each after two bytes of length */
+enum { FRONT = 5, CONTENT = 1024, MESSAGE = CONTENT + 2, MESSAGES = (MOST - FRONT) / MESSAGE };
+static uint64_t ranges[2 * MESSAGES + 2];
+
+static void segments(uint8_t *s, uint8_t *out)
+{
+    uint64_t number, answer[2];
+    for (size_t n = MOST; n <= (size_t)MOST + 1; n++) {
+        bool over = n > MOST;
+        memcpy(s, "WFM\1\0", FRONT);
+        put_length(s + FRONT, n - 10);
+        number = calf_segment_read(s, n, ranges, 2, answer);
+        expect("calf_segment_read", n, number, answer[0], over ? 11 : 0, over ? 0 : 1);
+        if (!over) expect("  its range's end", n, 0, ranges[1], 0, n);
+        uint64_t range[2] = { 0, n - 10 };
+        number = calf_segment_size(range, 2, s, (size_t)MOST + 1, answer);
+        expect("calf_segment_size", n, number, answer[0], over ? 11 : 0, over ? 0 : n);
+        number = calf_segment_write(range, 2, s, (size_t)MOST + 1, out, (size_t)MOST + 1, answer);
+        expect("calf_segment_write", n, number, answer[0], over ? 11 : 0, over ? 0 : n);
+        if (!over && (memcmp(out, "WFM\1\0", FRONT) || memcmp(out + 10, s, n - 10))) bad = 1, puts("  OTHER bytes");
+        number = calf_segment_write(range, 2, s, (size_t)MOST + 1, out, (size_t)MOST - 1, answer);
+        expect("  one byte short", n, number, answer[0], over ? 11 : 12, over ? 0 : n);
+    }
+    size_t n = FRONT + (size_t)MESSAGE * MESSAGES;
+    for (size_t i = 0; i < MESSAGES; i++) memcpy(s + FRONT + i * MESSAGE, "\x80\x08", 2);
+    number = calf_segment_read(s, n, ranges, sizeof ranges / 8, answer);
+    expect("calf_segment_read, of 1,024", n, number, answer[0], 0, MESSAGES);
+    number = calf_segment_write(ranges, 2 * answer[0], s, n, out, (size_t)MOST + 1, answer);
+    expect("calf_segment_write, of 1,024", n, number, answer[0], 0, n);
+    if (memcmp(out, s, n)) bad = 1, puts("  OTHER bytes");
+}
+
 int main(void)
 {
     size_t own = stack_of(nothing);
@@ -113,5 +145,6 @@ int main(void)
         number = calf_write(1, schema, 5, list, 6, s, (size_t)MOST + 1, out, (size_t)MOST - 1, answer);
         expect("calf_write, one byte short", n, number, answer[0], over ? 11 : 12, over ? 0 : n);
     }
+    segments(s, out);
     return bad;
 }

@@ -6,6 +6,7 @@
  *   1 input or enclosing length ends too soon   2 bad varint        3 bad tag           4 end-group tag with no group open
  *   5 int32 or enum out of range                6 string not UTF-8  7 too deep          8 more records than room
  *   9 bad schema                               10 bad list         11 above 2,147,483,647 bytes   12 output too short
+ *  13 no segment: shorter than five bytes or another mark         14 a segment of another version
  * All else goes to the array `answer`, whatever the result is.
  *
  * A schema is `types` message types, 0 the root, and entries of five numbers: owner type, field number, kind (as in descriptor.proto), repeated (0 or 1), child
@@ -79,6 +80,22 @@ uint32_t calf_size(uint32_t types, const uint32_t *numbers, size_t numbers_len, 
 /* Writes a list to the front of out: answer = { size, index }; for 12 the size that is needed. After the size, and on refusal, out is untouched. */
 uint32_t calf_write(uint32_t types, const uint32_t *numbers, size_t numbers_len, const uint64_t *list, size_t list_len, const uint8_t *payload, size_t payload_len,
                     uint8_t *out, size_t out_len, uint64_t answer[2]);
+
+/* ---- segment files: the letters WFM, a version of two bytes, now 1, and then each message after its length as a varint of 32 bits.
+ * A range is two numbers: where a message starts, and where it ends. A message of a segment is read by calf_read of s + start, end - start: places are then
+ * counted from its start. */
+
+/* The messages of the segment s, as ranges in room: answer = { count of the ranges in room, place of the refusal }. Refused with 13, 14, 11 (at 0), then message by
+ * message with 1, 2 and 8 (more messages than room), at the first byte of its length. The ranges before a fault stand; room after them is untouched. */
+uint32_t calf_segment_read(const uint8_t *s, size_t s_len, uint64_t *room, size_t room_len, uint64_t answer[2]);
+
+/* How many bytes the segment of some ranges of the payload takes: answer = { size, index }. Refused with 10 (the index is that of the first range that does not lie in the
+ * payload; a last number alone is such a range) and 11; the size is then 0. Ranges may overlap and stand in any order. ranges_len counts numbers. */
+uint32_t calf_segment_size(const uint64_t *ranges, size_t ranges_len, const uint8_t *payload, size_t payload_len, uint64_t answer[2]);
+
+/* Writes the segment to the front of out: answer = { size, index }; refused with 10, 11, and then 12, with the size that is needed. After the size, and on refusal, out is
+ * untouched. */
+uint32_t calf_segment_write(const uint64_t *ranges, size_t ranges_len, const uint8_t *payload, size_t payload_len, uint8_t *out, size_t out_len, uint64_t answer[2]);
 
 /* ---- pulling: step by step over a slice, whose position and level the caller keeps; both begin with 0 */
 

@@ -8,8 +8,9 @@ from collections import Counter, defaultdict
 RULES = {
     'own': 'the crate has no such call (document, schema, lookup)',
     'schema': '9: the crate has no schema',
-    'list': '6, 7, 10 of the list writer: the crate writes objects, not lists',
-    'room': '8: the crate has no room; the records before it are compared',
+    'list': '6, 7, 10 of the writers: the crate writes objects, not lists or ranges',
+    'front': '13, 14: the crate knows no segments, and is asked only where the front is right',
+    'room': '8: the crate has no room; the records, or ranges, before it are compared',
     'place': 'the place of a refused reading; all else of the answer is compared',
     'enum': 'a packed negative enum, which the crate counts as five bytes',
     'long': 'the size of a content of more than 1,048,576 bytes: the crate asks for the bytes themselves, and judges no limit',
@@ -35,8 +36,10 @@ def rule(verb, crate, model):
         return LEFT[crate]
     if verb in ('read', 'size', 'write') and number == '9' or verb == 'records' and '/refused 9 ' in model:
         return 'schema'
-    if verb in ('size', 'write') and number in ('6', '7', '10'):
+    if verb in ('size', 'write') and number in ('6', '7', '10') or verb == 'segwrite' and number == '10':
         return 'list'
+    if verb == 'segread' and number in ('13', '14'):
+        return 'front'
     return None
 
 

@@ -1,6 +1,7 @@
 #!/usr/bin/env python3
-"""gen.py LINES SEED: writes so many case lines. First short inputs, all of them where LINES is 1,000,000 or more (else every so-many-th); then lines of every
-verb, valid, damaged and adversarial, by a seeded random choice."""
+"""gen.py LINES SEED [GROUP]: writes so many case lines. First short inputs, all of them where LINES is 1,000,000 or more (else every so-many-th); then lines of every
+verb, valid, damaged and adversarial, by a seeded random choice. GROUP is `messages` or `segments`, for the lines of segment files or for all others; without it
+there are lines of both."""
 import random
 import sys
 
@@ -304,7 +305,7 @@ def list_word(records):
 
 
 class Lines(Maker):
-    """Each method gives a few lines of one family."""
+    """Each method gives a few lines of one family; the families of segment files are in Segments."""
 
     def leaf(self):
         r = self.r
@@ -534,6 +535,153 @@ class Lines(Maker):
                           'size %s 0,1,5,1,0 -' % A, 'zdec32 4294967296', 'wire x', 'READ', 'varint64 8'])]
 
 
+FRONT = b'WFM\x01\x00'
+# lengths that no segment of a line can hold, up to the largest of 32 bits
+HUGE = [1 << 14, 1 << 16, (1 << 21) - 1, 1 << 21, 1 << 24, (1 << 28) - 1, 1 << 28, (1 << 31) - 6, (1 << 31) - 1, 1 << 31, (1 << 31) + 1, U32 - 5, U32 - 1, U32]
+# lengths of more than 32 bits, lengths that do not end, and cut ones
+BAD_LENGTHS = ['ffffffff10', '8080808010', 'ffffffff7f', '808080808000', 'ffffffffff01', '8080808080', 'ffffffffffffffffff01', '80808080808080808080', '80', 'ff', '8080', 'ffff', '808080',
+               'ffffff', '80808080', 'ffffffff']
+
+
+class Segments(Maker):
+    """Lines of segment files. A segment is made as pieces, the front and each message after its length, so that a fault can be put where a length is."""
+
+    def length(self, n):
+        """A length, now and then in more bytes than are needed."""
+        least = len(varint(n))
+        return longer(n, self.r.randrange(least, 6)) if self.r.random() < .1 else varint(n)
+
+    def sizes(self):
+        r = self.r
+        out = [r.choice([0, 0, 1, 2, 3, 5, 19, 40, 126, 127, 128, 129, r.randrange(40), r.randrange(300)]) for _ in range(r.choice([0, 1, 1, 2, 2, 3, 4, 8]))]
+        if r.random() < .02:
+            out.insert(r.randrange(len(out) + 1), r.choice([16383, 16384, 16385]))
+        return out
+
+    def pieces(self):
+        return [FRONT] + [self.length(n) + self.r.randbytes(n) for n in self.sizes()]
+
+    def fronts(self, b):
+        """A front that is wrong, or cut."""
+        r = self.r
+        front = bytearray(FRONT)
+        way = r.randrange(6)
+        if way == 0:
+            return b[:r.randrange(5)]
+        if way == 1:
+            front[r.randrange(3)] ^= 1 << r.randrange(8)
+        elif way == 2:
+            front[3:5] = r.choice([b'\x00\x00', b'\x02\x00', b'\x00\x01', b'\x01\x01', b'\xff\xff', b'\x01\x80', b'\x81\x00'])
+        elif way == 3:
+            front[3 + r.randrange(2)] ^= 1 << r.randrange(8)
+        elif way == 4:
+            front[:3] = r.choice([b'wfm', b'MFW', b'WFN', b'WMF', b'\x00\x00\x00', b'FM\x01'])
+        else:
+            front = bytearray(r.randbytes(5))
+        return bytes(front) + b[5:]
+
+    def spoilt(self, pieces):
+        """One fault of some way in a good segment."""
+        r = self.r
+        pieces = list(pieces)
+        b = b''.join(pieces)
+        i = r.randrange(1, len(pieces) + 1)
+        way = r.randrange(9)
+        if way == 0:
+            return self.fronts(b)
+        if way == 1:
+            return b[:r.randrange(len(b) + 1)]
+        if way == 2:
+            pieces.insert(i, bytes.fromhex(r.choice(BAD_LENGTHS)))
+        elif way == 3:
+            pieces.insert(i, varint(r.choice(HUGE)))
+        elif way == 4:
+            rest = sum(map(len, pieces[i:]))
+            pieces.insert(i, self.length(rest + r.choice([0, 1, 1, 2, 127, 128])))
+        elif way == 5:
+            pieces.append(bytes.fromhex(r.choice(BAD_LENGTHS + ['00', '01', '05', '7f', '8001'])))
+        elif way == 6 and len(b) > 5:
+            at = r.randrange(5, len(b))
+            return b[:at] + bytes([b[at] ^ 1 << r.randrange(8)]) + b[at + 1:]
+        elif way == 7 and len(b) > 5:
+            at = r.randrange(5, len(b))
+            return b[:at] + b[at + 1:]
+        else:
+            return b[:5] + r.randbytes(r.randrange(12))
+        return b''.join(pieces)
+
+    def reads(self):
+        r = self.r
+        pieces = self.pieces()
+        count = len(pieces) - 1
+        lines = ['segread %d %s' % (room, hexed(b''.join(pieces))) for room in {count, max(0, count - 1), r.choice([0, 1, count + 1, 4096])}]
+        for _ in range(6):
+            room = r.choice([count, count, count + 1, max(0, count - 1), r.randrange(count + 1), 100])
+            lines.append('segread %d %s' % (room, hexed(self.spoilt(pieces))))
+        return lines
+
+    def cuts(self):
+        """Every cut of a good segment."""
+        pieces = self.pieces()
+        b = b''.join(pieces)[:70]
+        return ['segread %d %s' % (len(pieces), hexed(b[:i])) for i in range(len(b) + 1)]
+
+    def ranges(self, payload):
+        """Ranges in the payload: in order or not, that overlap, that are empty, or the whole."""
+        r, n = self.r, len(payload)
+        out = []
+        for _ in range(r.choice([0, 1, 1, 2, 2, 3, 5, 8])):
+            start = r.choice([0, n, r.randrange(n + 1), out[-1][1] if out else 0])
+            out.append((start, r.choice([start, n, r.randrange(start, n + 1), r.randrange(start, n + 1)])))
+        return out
+
+    def outside(self, ranges, payload):
+        """Ranges of which one, or a second one too, is not in the payload."""
+        r, n = self.r, len(payload)
+        out = list(ranges)
+        for _ in range(r.choice([1, 1, 2])):
+            inside = r.randrange(n + 1)
+            bad = r.choice([(inside + 1, inside), (n, n - 1) if n else (1, 0), (0, n + 1), (inside, n + 1), (n + 1, n + 1), (n + 1, n), (n + 2, n + 9), (0, U64), (U64, U64), (U64, 0), (U64, n), (U64 - 1, U64),
+                            (1 << 63, 1 << 63), (0, 1 << 32), (1 << 32, 1 << 32), (1 << 32, (1 << 32) + n), ((1 << 32) + inside, inside), (1 << 31, 1 << 31), (0, self.pattern() + n + 1 & U64 or U64)])
+            out.insert(r.randrange(len(out) + 1), bad)
+        return out
+
+    def writes(self):
+        r = self.r
+        payload = r.randbytes(r.choice([0, 1, 5, 19, 60, 127, 128, 129, 200, 300, r.randrange(400)]))
+        if r.random() < .01:
+            payload = r.randbytes(r.choice([16383, 16384, 16385]))
+        ranges = self.ranges(payload)
+        size = 5 + sum(len(varint(e - s)) + e - s for s, e in ranges)
+        bad = self.outside(ranges, payload)
+        line = lambda some, room: 'segwrite %s %s %d' % (range_word(some), hexed(payload), min(room, 65536))
+        rooms = [size, size - 1, size + 1, 4000, 65536, 0, 4, 5, r.randrange(size)]
+        return [line(ranges, size), line(ranges, size - 1), line(ranges, r.choice(rooms)), line(bad, r.choice(rooms)), line(bad, 65536)]
+
+    def no_case(self):
+        """Lines that are no case."""
+        good = self.r.choice(['segread 5 57464d0100', 'segwrite 0-1;1-2 0102 20', 'segwrite - - 5'])
+        words = good.split(' ')
+        return [self.r.choice([' '.join(words[:-1]), good + ' 1', good + 'x', good.replace('w', 'W'), 'segread', 'segread 4097 57464d0100', 'segread 5 57464d010', 'segread 5 57464D0100',
+                               'segread 4294967296 -', 'segread -1 -', 'segread  57464d0100', 'segwrite 0-1 01 65537', 'segwrite 0-1; 01 9', 'segwrite ;0-1 01 9', 'segwrite 0,1 01 9', 'segwrite 0 01 9',
+                               'segwrite 0-1-1 01 9', 'segwrite 0-1;1 01 9', 'segwrite -0 01 9', 'segwrite 0- 01 9', 'segwrite -1 01 9', 'segwrite 0--1 01 9', 'segwrite 0-18446744073709551616 01 9',
+                               'segwrite 18446744073709551616-0 01 9', 'segwrite 0-1 1 9', 'segwrite  01 9', 'segwrite 0-1 01', 'segwrite 0-1 01 -1', 'segwrite 0-1;-0-1 01 9'])]
+
+    def long(self):
+        """Lines, rooms and answers about as long as they may be."""
+        r = self.r
+        count = r.choice([4094, 4095, 4096, 4097])
+        content, times = r.choice([20000, 21000, 21840]), r.randrange(1, 5)
+        return ['segread %d %s' % (r.choice([4095, 4096]), hexed(FRONT + b'\x00' * count)), 'segwrite %s 41 %d' % (range_word([(0, 1)] * count), 5 + 2 * count - r.randrange(2)),
+                'segwrite %s %s 65536' % (range_word([(0, content)] * times), '5a' * content), 'segread 9 ' + hexed(FRONT + b'\xff\xff\x01' + b'\x00' * r.choice([32750, 32740]))]
+
+
+def range_word(ranges):
+    return ';'.join('%d-%d' % x for x in ranges) or '-'
+
+
+# the families of each group, each as often as it says
+SEGMENTS = [('reads', 300), ('cuts', 20), ('writes', 400), ('no_case', 40), ('long', 1)]
 FAMILIES = [('leaf', 6), ('utf8', 5), ('groups', 8), ('schemas', 6), ('reads', 22), ('cuts', 3), ('rooms', 4), ('packed', 8), ('deep', 2), ('lists', 18), ('exact', 3), ('pulls', 14), ('no_case', 1)]
 MATTER = bytes.fromhex('00 01 02 05 06 07 08 09 0a 0b 0c 0d 0e 0f 10 12 13 1a 1c 20 22 24 25 2d 38 7f 80 81 ff')
 LEADS = bytes.fromhex('00 7f 80 8f 90 9f a0 bf c0 c1 c2 df e0 e1 ec ed ee ef f0 f1 f3 f4 f5 ff')
@@ -557,19 +705,36 @@ def short():
         yield 'utf8 ' + hexed(b)
 
 
+def short_segments():
+    """Every front that differs in one byte, and every input of up to two bytes after the front."""
+    for i in range(5):
+        yield from ('segread 1 ' + hexed(FRONT[:i] + bytes([b]) + FRONT[i + 1:] + b'\x01A') for b in range(256))
+    for b in [b''] + [bytes([a]) for a in range(256)] + [bytes([a, b]) for a in range(256) for b in range(256)]:
+        yield 'segread 2 ' + hexed(FRONT + b)
+
+
+def families(make, weights):
+    """One family after the other, by the choice of the maker's own random numbers."""
+    names = [n for n, w in weights for _ in range(w)]
+    while True:
+        yield getattr(make, make.r.choice(names))()
+
+
 def main():
     count, seed = int(sys.argv[1]), int(sys.argv[2])
+    group = sys.argv[3] if len(sys.argv) > 3 else ''
     out = sys.stdout
     every = 1 if count >= 1000000 else 1000000 // max(count, 1) + 1
     given = 0
-    for i, line in enumerate(short()):
+    starts = {'messages': [short()], 'segments': [short_segments()], '': [short(), short_segments()]}[group]
+    for i, line in enumerate(line for start in starts for line in start):
         if i % every == seed % every:
             out.write(line + '\n')
             given += 1
-    make = Lines(seed)
-    names = [n for n, w in FAMILIES for _ in range(w)]
+    messages, segments = families(Lines(seed), FAMILIES), families(Segments(seed), SEGMENTS)
+    which = random.Random(seed)
     while given < count:
-        lines = getattr(make, make.r.choice(names))()
+        lines = next(segments if group == 'segments' or not group and which.random() < .15 else messages)
         for line in lines[:count - given]:
             out.write(line + '\n')
         given += min(len(lines), count - given)

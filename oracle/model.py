@@ -41,13 +41,13 @@ def data(word):
     return bytes.fromhex(word)
 
 
-def rows(word, width, largest):
-    """Rows of so many numbers, joined by ';' and ','."""
+def rows(word, width, largest, joined=','):
+    """Rows of so many numbers, with ';' between rows, and ',' or another character within them."""
     if word == '-':
         return []
     out = []
     for row in word.split(';'):
-        cells = row.split(',')
+        cells = row.split(joined)
         if len(cells) != width:
             raise Bad
         out.append(tuple(number(c, largest) for c in cells))
@@ -61,8 +61,8 @@ def schema_word(word):
     return number(types, U32), rows(entries, 5, U32)
 
 
-def show(records):
-    return ';'.join(','.join(map(str, r)) for r in records) or '-'
+def show(records, joined=','):
+    return ';'.join(joined.join(map(str, r)) for r in records) or '-'
 
 
 # ---- varints, zigzag, tags
@@ -465,6 +465,54 @@ def write(types, entries, records, payload):
     return 0, len(out), 0, out
 
 
+# ---- segments
+
+MARK = b'WFM'
+VERSION = 1
+
+
+def check_front(b):
+    """The mark and a 16-bit little-endian version."""
+    if len(b) < 5 or b[:3] != MARK:
+        raise Refused(13)
+    if int.from_bytes(b[3:5], 'little') != VERSION:
+        raise Refused(14)
+    if len(b) > LIMIT:
+        raise Refused(11)
+
+
+def read_segment(room, b):
+    """The refusal number, its place, and the ranges of the messages before it. The place is the first byte of the length that is at fault."""
+    ranges, place = [], 0
+    try:
+        check_front(b)
+        at = 5
+        while at < len(b):
+            place = at
+            start, stop = content(b, at, len(b), varint32)
+            if len(ranges) == room:
+                raise Refused(8)
+            ranges.append((start, stop))
+            at = stop
+    except Refused as fault:
+        return fault.number, place, ranges
+    return 0, 0, ranges
+
+
+def write_segment(ranges, payload, room):
+    """Number, size, index and bytes."""
+    for i, (start, stop) in enumerate(ranges):
+        if not start <= stop <= len(payload):
+            return 10, 0, i, b''
+    size = 5 + sum(vsize(stop - start) + stop - start for start, stop in ranges)
+    if size > LIMIT:
+        return 11, 0, 0, b''
+    if size > room:
+        return 12, size, 0, b''
+    out = MARK + VERSION.to_bytes(2, 'little') + b''.join(encode(stop - start) + payload[start:stop] for start, stop in ranges)
+    return 0, size, 0, out
+
+
 # ---- the pull reader
 
 class Pull:
@@ -616,6 +664,16 @@ def size_verb(schema, records, payload):
     return '%d %d %d' % write(*schema, records, payload)[:3]
 
 
+def segread_verb(room, b):
+    no, place, ranges = read_segment(room, b)
+    return '%d %d %d %s' % (no, len(ranges), place, show(ranges, '-'))
+
+
+def segwrite_verb(ranges, payload, room):
+    no, size, index, out = write_segment(ranges, payload, room)
+    return '%d %d %d %s' % (no, size, index, out.hex() or '-')
+
+
 VERBS = {
     'varint64': (1, lambda h: said(lambda: varint64(data(h), 0, len(data(h))), lambda r: 'ok %d %d' % r)),
     'varint32': (1, lambda h: said(lambda: varint32(data(h), 0, len(data(h))), lambda r: 'ok %d %d' % r)),
@@ -643,6 +701,8 @@ VERBS = {
     'write': (4, lambda s, l, h, r: write_verb(schema_word(s), rows(l, 6, U64), data(h), number(r, 65536))),
     'pull': (3, lambda l, s, h: pull(number(l, 100), s.split(','), data(h))),
     'records': (2, lambda s, h: records_verb(schema_word(s), data(h))),
+    'segread': (2, lambda r, h: segread_verb(number(r, 4096), data(h))),
+    'segwrite': (3, lambda l, h, r: segwrite_verb(rows(l, 2, U64, '-'), data(h), number(r, 65536))),
 }
 
 

@@ -1,7 +1,7 @@
 #!/usr/bin/env python3
 """pick.py LINES ORACLE MODEL COUNT STDIN STDOUT: of generated lines with their answers, picks up to COUNT that cover much: a few of every verb, refusal, kind and
-way of answering; shorter ones first. Writes them behind the lines of own/lines.txt, and the answers beside them: the crate's, and where it has
-none (or not all of it) the model's. STDIN and STDOUT have the answered lines of own/lines.txt already, and are added to."""
+way of answering; shorter ones first. Adds them to STDIN, after the lines that are there, and their answers to STDOUT: the crate's, and where it has
+none (or not all of it) the model's."""
 import re
 import sys
 from collections import Counter
@@ -26,6 +26,10 @@ def signature(line, crate, model):
         return verb, first, kinds(model if verb == 'read' else words[2])
     if verb == 'records':
         return verb, model.rsplit('/', 1)[-1].split(' ')[:2][-1] if '/refused' in model else 'ok'
+    if verb == 'segread':
+        return verb, first, min(int(model.split(' ')[1]), 2), words[1] == model.split(' ')[1]
+    if verb == 'segwrite':
+        return verb, first, min(words[1].count('-'), 3), len(model.split(' ')[1]), model.split(' ')[2][:1]
     if verb == 'pull':
         return verb, words[1].split(',')[0], steps(model)
     if verb in ('fieldsize', 'packedsize', 'maketag', 'wire'):

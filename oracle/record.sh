@@ -1,6 +1,7 @@
 #!/bin/bash
 # record.sh: writes ../crates/replay/stdin and stdout: lines that cover every verb, kind and refusal, and their answers by the crate, or by the model where the
-# crate has none. The program `replay` is run over them by the gate, with no Rust at hand. The lines are own/lines.txt, and some of gen.py's.
+# crate has none. The program `replay` is run over them by the gate, with no Rust at hand. The lines are own/lines.txt, and some of gen.py's; then those of segment
+# files: own/segments.txt, every cut of three segments, and some of gen.py's.
 # After setup.sh. Nothing of ours takes part: the answers are the crate's and the model's, which must agree wherever both answer.
 set -eu
 cd "$(dirname "$0")"
@@ -13,12 +14,18 @@ answer() { # lines in $1: answered by both sides, which must agree
     python3 compare.py "$1" "$1.oracle" "$1.model" "$1.model" >"$1.table" || { cat "$1.table"; exit 1; }
 }
 grep -v '^#' own/lines.txt >$W/own
-python3 gen.py 60000 7 | awk 'length($0) < 2500' | grep -v '^lookup' >$W/some
-python3 gen.py 20000 8 | grep '^lookup' | head -n 200 >>$W/some
+python3 gen.py 60000 7 messages | awk 'length($0) < 2500' | grep -v '^lookup' >$W/some
+python3 gen.py 20000 8 messages | grep '^lookup' | head -n 200 >>$W/some
+{ grep -v '^#' own/segments.txt; python3 cuts.py; } >$W/segments
+python3 gen.py 20000 7 segments | awk 'length($0) < 1000' >$W/mixed
 answer $W/own
 answer $W/some
+answer $W/segments
+answer $W/mixed
 cp $W/own $W/stdin; cp $W/own.model $W/stdout
 python3 pick.py $W/some $W/some.oracle $W/some.model $((5000 - $(wc -l <$W/own))) $W/stdin $W/stdout
+cat $W/segments >>$W/stdin; cat $W/segments.model >>$W/stdout
+python3 pick.py $W/mixed $W/mixed.oracle $W/mixed.model 200 $W/stdin $W/stdout
 answer $W/stdin
 cmp $W/stdin.model $W/stdout
 cat $W/stdin.table

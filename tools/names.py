@@ -9,7 +9,7 @@ import re
 import subprocess
 import sys
 
-REFUSALS = "endsEarly badVarint badTag noGroupOpen outOfRange notUtf8 tooDeep noRoom invalidSchema invalidList tooLarge outputShort".split()
+REFUSALS = "endsEarly badVarint badTag noGroupOpen outOfRange notUtf8 tooDeep noRoom invalidSchema invalidList tooLarge outputShort badMark otherVersion".split()
 KINDS = ("doubleKind floatKind int64Kind uint64Kind int32Kind fixed64Kind fixed32Kind boolKind stringKind groupKind messageKind bytesKind uint32Kind enumKind "
          "sfixed32Kind sfixed64Kind sint32Kind sint64Kind - packedHead unknownVarint unknownFixed64 unknownBytes unknownFixed32 groupStart groupEnd").split()
 WIRES = "varintWire fixed64Wire delimitedWire startGroupWire endGroupWire fixed32Wire - noWire".split()

@@ -4,6 +4,7 @@ pub mod calls;
 pub mod pulling;
 pub mod reading;
 pub mod scalars;
+pub mod segments;
 pub mod words;
 pub mod writing;
 
@@ -25,6 +26,8 @@ fn by_verb(line: &Line) -> Parsed<String> {
         "size" => writing::size(line),
         "write" => writing::write(line),
         "pull" => pulling::pull(line),
+        "segread" => segments::read(line),
+        "segwrite" => segments::write(line),
         "document" | "schema" | "lookup" => Some("left out: the crate has no such call".to_string()),
         _ => calls::call(line),
     }

@@ -12,3 +12,5 @@ mod objects;
 mod pulls;
 #[cfg(feature = "records")]
 mod records;
+#[cfg(feature = "segments")]
+mod segments;

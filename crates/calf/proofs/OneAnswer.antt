@@ -8,11 +8,11 @@ use mathlib.Core.List.{List}
 pub one-result {ℓ} : {A : Type ℓ} {v r q : A} → r ≡ v → q ≡ v → r ≡ q
 one-result e f = e ∙ sym f
 
--- the varints, the skips, `calf_check_schema`, `calf_check_list`, `calf_size`, the pull steps
+-- the varints, the skips, `calf_check_schema`, `calf_check_list`, `calf_size`, `calf_segment_size`, the pull steps
 pub one-told : {v r q : ℕ} {u x y : List ℕ} → (r ≡ v) × (x ≡ u) → (q ≡ v) × (y ≡ u) → (r ≡ q) × (x ≡ y)
 one-told e f = (one-result (e .0) (f .0), one-result (e .1) (f .1))
 
--- `calf_read`, `calf_read_prepared`, `calf_write`
+-- `calf_read`, `calf_read_prepared`, `calf_write`, `calf_segment_read`, `calf_segment_write`
 pub one-filled : {v r q : ℕ} {u x y w a b : List ℕ} → (r ≡ v) × (x ≡ u) × (a ≡ w) → (q ≡ v) × (y ≡ u) × (b ≡ w) → (r ≡ q) × (x ≡ y) × (a ≡ b)
 one-filled e f = (one-result (e .0) (f .0), one-result (e .1) (f .1), one-result (e .2) (f .2))
 

@@ -90,7 +90,7 @@ fn put_checked(call: &[u8], v: Verdict, at: usize, out: &mut [u8]) -> usize {
 }
 
 // A number, a size and an index.
-fn put_answer(call: &[u8], r: write::Answer, at: usize, out: &mut [u8]) -> usize {
+pub fn put_answer(call: &[u8], r: write::Answer, at: usize, out: &mut [u8]) -> usize {
     put_three(
         call,
         r.number as u64,

@@ -1,10 +1,12 @@
 // The program that makes the calls that case lines do not reach, and prints a line for each. Some calls have no verb: `schema::find`, the methods of a tag,
-// the sizes of packed fields by type and of unknown fields, and the trip through an older schema. Others have one, but a case line has only whole records
-// and whole entries: here lists, rooms and schema numbers also end within a record or an entry. An entry with `repeated` 2 is tried too, since the case
-// lines make all calls but the schema check through lent entries, where `repeated` is yes or no.
+// the sizes of packed fields by type and of unknown fields, the trip through an older schema, the size of a segment, the segment that is written, cut and
+// read, and the records of one message of a segment. Others have one, but a case line has only whole records, ranges and entries: here lists, rooms and
+// schema numbers also end within one. An entry with `repeated` 2 is tried too, since the case lines make all calls but the schema check through lent
+// entries, where `repeated` is yes or no. The sizes of segments reach the limit, for which no case line is long enough.
 // What must be printed stands in the file stdout, derived by hand from the rules. A remainder after whole records is a broken record: 10 at its index, or at
-// the index of a packed head right before it. An earlier fault comes first. Room is as many records as fit whole. A remainder after whole entries is a
-// wrong entry count, 9 at 0, before any entry is judged; a search passes over it, and a size counts nothing for it.
+// the index of a packed head right before it. An earlier fault comes first. Room is as many records, or ranges, as fit whole. A remainder after whole entries
+// is a wrong entry count, 9 at 0, before any entry is judged; a search passes over it, and a size counts nothing for it. A remainder after whole ranges is a
+// range outside the payload: 10 at its index.
 mod copies;
 mod finds;
 mod lists;
@@ -12,6 +14,7 @@ mod packed;
 mod parts;
 mod rooms;
 mod schemas;
+mod segments;
 mod tags;
 mod unknowns;
 
@@ -38,6 +41,7 @@ fn main() {
     let tagged = tags::tags(found, &mut out);
     let packed = packed::packed(tagged, &mut out);
     let sized = unknowns::unknowns(packed, &mut out);
-    let size = copies::copies(sized, &mut out);
+    let copied = copies::copies(sized, &mut out);
+    let size = segments::segments(copied, &mut out);
     write_front(&out, size);
 }

@@ -6,9 +6,10 @@ use crate::schemas::ENTRIES;
 use crate::schemas::SCHEMA_A;
 use crate::schemas::TYPES;
 use printing::put_byte;
-use printing::put_records;
+use printing::put_rows;
 use printing::put_text;
 use read::Answer;
+use spec::columns::END;
 use spec::columns::STRIDE;
 
 // Two records: the int32 150 and the bool 1.
@@ -36,20 +37,27 @@ fn changed(part: &[u64]) -> bool {
     bad
 }
 
-// The records, or `-` where there are none.
-fn put_list(list: &[u64], at: usize, out: &mut [u8]) -> usize {
+// The rows, whose columns end with `last`, or `-` where there are none.
+fn put_list(list: &[u64], last: usize, within: u8, at: usize, out: &mut [u8]) -> usize {
     if list.len() == 0 {
         return put_text(b" -", at, out);
     }
-    put_records(list, b' ', b' ', b',', at, out)
+    put_rows(list, last, b' ', b' ', within, at, out)
 }
 
-// The records that stand in the room up to `end`, and whether anything after them has changed.
-fn put_room(room: &[u64], end: usize, at: usize, out: &mut [u8]) -> usize {
+// The rows that are in the room up to `end`, and whether anything after them has changed.
+pub fn put_room(
+    room: &[u64],
+    end: usize,
+    last: usize,
+    within: u8,
+    at: usize,
+    out: &mut [u8],
+) -> usize {
     if room.len() < end {
         return touched(true, at, out);
     }
-    let listed = put_list(&room[0..end], at, out);
+    let listed = put_list(&room[0..end], last, within, at, out);
     touched(changed(&room[end..]), listed, out)
 }
 
@@ -60,7 +68,7 @@ pub fn put_reading(call: &[u8], r: Answer, room: &[u64], at: usize, out: &mut [u
     if room.len() / STRIDE < count {
         return touched(true, told, out);
     }
-    put_room(room, count * STRIDE, told, out)
+    put_room(room, count * STRIDE, END, b',', told, out)
 }
 
 // Reads into the first `n` numbers of a room.

@@ -8,7 +8,7 @@ use mathlib.Core.List.{List, [], _∷_, _++_}
 use lib.ListN.{length, getD, drop, set, drop-of-length-le}
 use lib.Seq.{drop-cons}
 use borrow.Author.Tests.{lt-ltb, le-ltb, eq-eqb, ne-eqb}
-use Rattle.printing.specs.Text.{zeroGlyph, letters, blank, okText, refusedText, atText, put, puts, Shown, digitsOf, decimal, glyph, hexadecimal, rows, verdict, header, listing}
+use Rattle.printing.specs.Text.{zeroGlyph, letters, blank, okText, refusedText, atText, put, puts, Shown, digitsOf, decimal, glyph, hexadecimal, rows, verdict, lines, header, listing}
 use Rattle.spec.specs.Names.{stopColumn}
 
 puts-append : (at : ℕ) (a b out : List ℕ) → puts at (a ++ b) out ≡ puts (puts at a out .0) b (puts at a out .1)
@@ -86,35 +86,35 @@ pub hex-done : {bytes : List ℕ} {at : ℕ} {out₀ : List ℕ} {i to : ℕ} {o
 unfolding hexadecimal
 hex-done {bytes} l h = left-done (l .left) (ap hexadecimal (drop-of-length-le bytes h))
 
--- ---- records
+-- ---- rows
 
-row-on : (before between within column n : ℕ) (ns : List ℕ) → column < stopColumn
-    → rows before between within column (n ∷ ns) ≡ (before ∷ []) ++ (decimal n ++ rows within between within (column + 1) ns)
+row-on : (last before between within column n : ℕ) (ns : List ℕ) → column < last
+    → rows last before between within column (n ∷ ns) ≡ (before ∷ []) ++ (decimal n ++ rows last within between within (column + 1) ns)
 unfolding rows
-row-on before between within column n ns h = simp (lt-ltb column stopColumn h) refl
+row-on last before between within column n ns h = simp (lt-ltb column last h) refl
 
-row-anew : (before between within column n : ℕ) (ns : List ℕ) → stopColumn ≤ column
-    → rows before between within column (n ∷ ns) ≡ (before ∷ []) ++ (decimal n ++ rows between between within 0 ns)
+row-anew : (last before between within column n : ℕ) (ns : List ℕ) → last ≤ column
+    → rows last before between within column (n ∷ ns) ≡ (before ∷ []) ++ (decimal n ++ rows last between between within 0 ns)
 unfolding rows
-row-anew before between within column n ns h = simp (le-ltb column stopColumn h) refl
+row-anew last before between within column n ns h = simp (le-ltb column last h) refl
 
-pub record Rowing (list : List ℕ) (first between within at : ℕ) (out₀ : List ℕ) (before column i to : ℕ) (out : List ℕ) : Type 0 where
-  pub left : Left (rows first between within 0 list) at out₀ (rows before between within column (drop i list)) to out
+pub record Rowing (list : List ℕ) (last first between within at : ℕ) (out₀ : List ℕ) (before column i to : ℕ) (out : List ℕ) : Type 0 where
+  pub left : Left (rows last first between within 0 list) at out₀ (rows last before between within column (drop i list)) to out
 
-module _ {list : List ℕ} {first between within at : ℕ} {out₀ : List ℕ} {before column i to m n : ℕ} {out mid after : List ℕ}
-    (l : Rowing list first between within at out₀ before column i to out) (h : i < length list)
+module _ {list : List ℕ} {last first between within at : ℕ} {out₀ : List ℕ} {before column i to m n : ℕ} {out mid after : List ℕ}
+    (l : Rowing list last first between within at out₀ before column i to out) (h : i < length list)
     (s : Shown out to (before ∷ []) mid m) (t : Shown mid m (decimal (getD list i 0)) after n) where
-  pub rows-on : column < stopColumn → Rowing list first between within at out₀ within (column + 1) (i + 1) n after
-  rows-on c = record { left = left-turn (left-turn (l .left) (ap (rows before between within column) (from list i h) ∙ row-on before between within column _ _ c) s) refl t }
+  pub rows-on : column < last → Rowing list last first between within at out₀ within (column + 1) (i + 1) n after
+  rows-on c = record { left = left-turn (left-turn (l .left) (ap (rows last before between within column) (from list i h) ∙ row-on last before between within column _ _ c) s) refl t }
 
-  pub rows-anew : stopColumn ≤ column → Rowing list first between within at out₀ between 0 (i + 1) n after
-  rows-anew c = record { left = left-turn (left-turn (l .left) (ap (rows before between within column) (from list i h) ∙ row-anew before between within column _ _ c) s) refl t }
+  pub rows-anew : last ≤ column → Rowing list last first between within at out₀ between 0 (i + 1) n after
+  rows-anew c = record { left = left-turn (left-turn (l .left) (ap (rows last before between within column) (from list i h) ∙ row-anew last before between within column _ _ c) s) refl t }
 
-pub rows-done : {list : List ℕ} {first between within at : ℕ} {out₀ : List ℕ} {before column i to : ℕ} {out : List ℕ}
-    → Rowing list first between within at out₀ before column i to out → length list ≤ i → Shown out₀ at (rows first between within 0 list) out to
+pub rows-done : {list : List ℕ} {last first between within at : ℕ} {out₀ : List ℕ} {before column i to : ℕ} {out : List ℕ}
+    → Rowing list last first between within at out₀ before column i to out → length list ≤ i → Shown out₀ at (rows last first between within 0 list) out to
 unfolding rows
-rows-done {list} {between = between} {within = within} {before = before} {column = column} l h =
-    left-done (l .left) (ap (rows before between within column) (drop-of-length-le list h))
+rows-done {list} {last} {between = between} {within = within} {before = before} {column = column} l h =
+    left-done (l .left) (ap (rows last before between within column) (drop-of-length-le list h))
 
 -- ---- numbers
 
@@ -164,8 +164,14 @@ module _ {out mid after : List ℕ} {at m next : ℕ} (number count place : ℕ)
   unfolding verdict
   verdict-no e s t u v = rw (ne-eqb number 0 e) (shown-join s (shown-join t (shown-join u v)))
 
-pub listed : {out a b c after : List ℕ} {at i j k next end : ℕ} (number count place : ℕ) (list : List ℕ)
-    → Shown out at header a i → Shown a i (rows end end blank 0 list) b j → Shown b j (end ∷ []) c k → Shown c k (verdict number count place) after next
+pub lined : {out a b after : List ℕ} {at i j next end : ℕ} (number count place : ℕ) (list : List ℕ) (last : ℕ)
+    → Shown out at (rows last end end blank 0 list) a i → Shown a i (end ∷ []) b j → Shown b j (verdict number count place) after next
+    → Shown out at (lines number count place list last end) after next
+unfolding lines
+lined number count place list last s t u = shown-join s (shown-join t u)
+
+pub listed : {out a after : List ℕ} {at i next : ℕ} (number count place : ℕ) (list : List ℕ) (end : ℕ)
+    → Shown out at header a i → Shown a i (lines number count place list stopColumn end) after next
     → Shown out at (listing number count place list end) after next
 unfolding listing
-listed number count place list s t u v = shown-join s (shown-join t (shown-join u v))
+listed number count place list end s t = shown-join s t

@@ -66,16 +66,16 @@ unfoldable pub hexadecimal : List ℕ → List ℕ
 hexadecimal [] = []
 hexadecimal (b ∷ bs) = glyph (b / 16) ∷ glyph (b % 16) ∷ hexadecimal bs
 
--- ---- records
+-- ---- rows
 
--- The numbers of records, from a column on: `before` stands before the first number, `between` before each further record, `within` before the other
--- numbers of a record.
-unfoldable pub rows : (before between within column : ℕ) → List ℕ → List ℕ
-rows before between within column [] = []
-rows before between within column (n ∷ ns) =
-    let on = rows within between within (column + 1) ns in
-    let anew = rows between between within 0 ns in
-    (before ∷ []) ++ (decimal n ++ (if ltb column stopColumn then on else anew))
+-- Rows of numbers, from a column on; `last` is their last column: `before` stands before the first number, `between` before each further row, `within` before the
+-- other numbers of a row.
+unfoldable pub rows : (last before between within column : ℕ) → List ℕ → List ℕ
+rows last before between within column [] = []
+rows last before between within column (n ∷ ns) =
+    let on = rows last within between within (column + 1) ns in
+    let anew = rows last between between within 0 ns in
+    (before ∷ []) ++ (decimal n ++ (if ltb column last then on else anew))
 
 -- `ok COUNT` or `refused NUMBER at PLACE`
 unfoldable pub verdict : (number count place : ℕ) → List ℕ
@@ -89,6 +89,10 @@ header =
     100 ∷ 101 ∷ 112 ∷ 116 ∷ 104 ∷ 32 ∷ 110 ∷ 117 ∷ 109 ∷ 98 ∷ 101 ∷ 114 ∷ 32 ∷ 107 ∷ 105 ∷ 110 ∷ 100 ∷ 32 ∷ 118 ∷ 97 ∷ 108 ∷ 117 ∷ 101 ∷ 32 ∷ 115 ∷ 116 ∷ 97
     ∷ 114 ∷ 116 ∷ 32 ∷ 101 ∷ 110 ∷ 100 ∷ []
 
--- The listing of a reading: the header, a line for each record, how it ended; `end` stands between lines.
+-- The lines of a reading: one for each row, and how it ended; `end` stands before each.
+unfoldable pub lines : (number count place : ℕ) → List ℕ → (last end : ℕ) → List ℕ
+lines number count place list last end = rows last end end blank 0 list ++ ((end ∷ []) ++ verdict number count place)
+
+-- The listing of records: the header, a line for each record, how the reading ended; `end` stands between lines.
 unfoldable pub listing : (number count place : ℕ) → List ℕ → (end : ℕ) → List ℕ
-listing number count place list end = header ++ (rows end end blank 0 list ++ ((end ∷ []) ++ verdict number count place))
+listing number count place list end = header ++ lines number count place list stopColumn end

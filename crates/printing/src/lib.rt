@@ -1,9 +1,9 @@
-// Text of answers, as far as a lent slice has room: bytes, words, numbers in decimal and hexadecimal, and the listing of records.
+// Text of answers, as far as a lent slice has room: bytes, words, numbers in decimal and hexadecimal, and the listings of records and of ranges.
 // Each function stores from `at` on and returns the position after what it stored; what finds no room is left out.
 ghost use mathlib.Core.Path.{_≡_};
 ghost use mathlib.Core.List.{[], _∷_};
 ghost use Prim.Native.Nat.{_<_};
-ghost use Rattle.printing.specs.Text.{Shown, digitsOf, decimal, glyph, hexadecimal, rows, verdict, listing};
+ghost use Rattle.printing.specs.Text.{Shown, digitsOf, decimal, glyph, hexadecimal, rows, verdict, lines, listing};
 use spec::columns;
 
 // What is added to a digit of hexadecimal above nine.
@@ -82,16 +82,17 @@ pub fn put_hex(bytes: &[u8], at: usize, out: &mut [u8]) -> usize
     to
 }
 
-// The numbers of records, six a record: `first` before the first record, `between` before each other, `within` before the other numbers of a record.
-pub fn put_records(
+// Rows of numbers, whose columns end with `last`: `first` before the first row, `between` before each other, `within` before the other numbers of a row.
+pub fn put_rows(
     list: &[u64],
+    last: usize,
     first: u8,
     between: u8,
     within: u8,
     at: usize,
     out: &mut [u8],
 ) -> usize
-    ensures { λ r. ⌜ Shown (now (out .entry)) at (rows first between within 0 (now (list .entry))) (now (out .exit)) r ⌝ }
+    ensures { λ r. ⌜ Shown (now (out .entry)) at (rows last first between within 0 (now (list .entry))) (now (out .exit)) r ⌝ }
 {
     let mut to = at;
     let mut before = first;
@@ -101,7 +102,7 @@ pub fn put_records(
         to = put_byte(before, to, out);
         to = put_decimal(list[i], to, out);
         i += 1;
-        if column < columns::END {
+        if column < last {
             column += 1;
             before = within;
         } else {
@@ -112,7 +113,7 @@ pub fn put_records(
     to
 }
 
-// How a reading ended: `ok` and how many records there are, or `refused`, the number, `at` and the place.
+// How a reading ended: `ok` and how many rows there are, or `refused`, the number, `at` and the place.
 fn put_verdict(number: u32, count: usize, place: usize, at: usize, out: &mut [u8]) -> usize
     ensures { λ r. ⌜ Shown (now (out .entry)) at (verdict number count place) (now (out .exit)) r ⌝ }
 {
@@ -126,7 +127,25 @@ fn put_verdict(number: u32, count: usize, place: usize, at: usize, out: &mut [u8
     put_decimal(place as u64, to, out)
 }
 
-// The listing of what was read: a header, the records that stand in the room, a line each, and how the reading ended. `line_end` stands between lines.
+// What was read: its rows, a line each, and how the reading ended. `line_end` stands before each line, as the first may follow a header.
+pub fn put_lines(
+    number: u32,
+    count: usize,
+    place: usize,
+    list: &[u64],
+    last: usize,
+    line_end: u8,
+    at: usize,
+    out: &mut [u8],
+) -> usize
+    ensures { λ r. ⌜ Shown (now (out .entry)) at (lines number count place (now (list .entry)) last «line_end») (now (out .exit)) r ⌝ }
+{
+    let listed = put_rows(list, last, line_end, line_end, b' ', at, out);
+    let to = put_byte(line_end, listed, out);
+    put_verdict(number, count, place, to, out)
+}
+
+// The listing of records: a header, the records that stand in the room, a line each, and how the reading ended. `line_end` stands between lines.
 pub fn put_listing(
     number: u32,
     count: usize,
@@ -139,7 +158,14 @@ pub fn put_listing(
     ensures { λ r. ⌜ Shown (now (out .entry)) at (listing number count place (now (list .entry)) «line_end») (now (out .exit)) r ⌝ }
 {
     let headed = put_text(b"depth number kind value start end", at, out);
-    let listed = put_records(list, line_end, line_end, b' ', headed, out);
-    let to = put_byte(line_end, listed, out);
-    put_verdict(number, count, place, to, out)
+    put_lines(
+        number,
+        count,
+        place,
+        list,
+        columns::END,
+        line_end,
+        headed,
+        out,
+    )
 }

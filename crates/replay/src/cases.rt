@@ -14,6 +14,7 @@ use crate::words::number32;
 use crate::words::number64;
 use crate::words::past;
 use crate::words::word_end;
+use segment::RANGE_STRIDE;
 
 // What the words say: the schema's type count; the numbers; how many numbers or bytes were stored; where the steps begin, and where the last word ends.
 // A word that the verb does not take is 0.
@@ -70,9 +71,14 @@ fn past_steps(asked: bool, line: &[u8], at: usize) -> usize {
     at
 }
 
-// A list of single numbers has `,` between them; records have `;`.
+// A list of single numbers has `,` between them; records and ranges have `;`.
 fn separator(group: usize) -> u8 {
     if group == 1 { b',' } else { b';' }
+}
+
+// What stands between the numbers of a group: `-` in a range, `,` in a record.
+fn joiner(group: usize) -> u8 {
+    if group == RANGE_STRIDE { b'-' } else { b',' }
 }
 
 fn list_if(group: usize, line: &[u8], at: usize, list: &mut [u64]) -> Many
@@ -81,7 +87,7 @@ fn list_if(group: usize, line: &[u8], at: usize, list: &mut [u64]) -> Many
     if group == 0 {
         return Many { count: 0, next: at };
     }
-    groups(line, at, group, separator(group), list)
+    groups(line, at, group, joiner(group), separator(group), list)
 }
 
 fn bytes_if(asked: bool, line: &[u8], at: usize, bytes: &mut [u8]) -> Many

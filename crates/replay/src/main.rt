@@ -7,6 +7,7 @@ mod leaves;
 mod pulls;
 mod readings;
 mod schemas;
+mod segments;
 mod signs;
 mod sizings;
 mod verbs;
@@ -78,6 +79,9 @@ fn with_list(
     if verb == verbs::WRITE {
         return writings::write(c.types, numbers, &list[0..n], s, c.wide, out);
     }
+    if verb == verbs::SEGWRITE {
+        return segments::write(&list[0..n], s, c.wide, out);
+    }
     put_answer(plain(verb, c, s, &list[0..n], numbers), out)
 }
 
@@ -96,6 +100,7 @@ fn answer_to(
         verbs::READ => readings::read(c.types, numbers, s, c.first, list, out),
         verbs::RECORDS => readings::records(c.types, numbers, s, list, out),
         verbs::PULL => pulls::pull(c.first, line, c.steps, s, out),
+        verbs::SEGREAD => segments::read(s, c.first, list, out),
         _ => with_list(verb, c, s, list, numbers, out),
     }
 }

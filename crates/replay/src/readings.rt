@@ -1,28 +1,29 @@
 // The verbs that read a message: `read` and `records`. The room of `read` is filled with a pattern before the call. What the call was not lent, and what
-// stands after the records that it says it stored, is watched.
+// stands after the records that it says it stored, is watched. `segread` (segments) uses the same room in the same way.
 use crate::answers::put_answer;
 use crate::answers::three;
 use crate::answers::touched;
 use printing::put_listing;
-use printing::put_records;
+use printing::put_rows;
 use printing::put_text;
 use read::Answer;
+use spec::columns::END;
 use spec::columns::STRIDE;
 
 // What each number of the room is where nothing is stored.
 const PATTERN: u64 = 0xa5c3_5a3c_a5c3_5a3c;
 
-// The most records of room that a line may name.
-const MOST: u32 = 4096;
+// The most records, or ranges, of room that a line may name.
+pub const MOST: u32 = 4096;
 
 // How many numbers more are watched after them.
-const WATCHED: usize = 2 * STRIDE;
+pub const WATCHED: usize = 2 * STRIDE;
 
 // How many numbers the room of the listing has: 1,024 records, as the program `records` lends.
 const LISTED: usize = 1024 * STRIDE;
 
 // Fills a part of the room.
-fn fill(part: &mut [u64]) {
+pub fn fill(part: &mut [u64]) {
     let mut i: usize = 0;
     while i < part.len() {
         part[i] = PATTERN;
@@ -55,20 +56,27 @@ fn read_into(types: u32, numbers: &[u32], s: &[u8], n: usize, room: &mut [u64]) 
     }
 }
 
-// The records, or `-` where there are none.
-fn put_list(list: &[u64], at: usize, out: &mut [u8]) -> usize {
+// Rows of numbers whose columns end with `last`, or `-` where there are none.
+fn put_list(list: &[u64], last: usize, within: u8, at: usize, out: &mut [u8]) -> usize {
     if list.len() == 0 {
         return put_text(b" -", at, out);
     }
-    put_records(list, b' ', b';', b',', at, out)
+    put_rows(list, last, b' ', b';', within, at, out)
 }
 
-// The records in the room, which end at `end`, and whether anything after them has changed.
-fn put_room(room: &[u64], end: usize, at: usize, out: &mut [u8]) -> usize {
+// The rows in the room, which end at `end`, and whether anything after them has changed.
+pub fn put_room(
+    room: &[u64],
+    end: usize,
+    last: usize,
+    within: u8,
+    at: usize,
+    out: &mut [u8],
+) -> usize {
     if room.len() < end {
         return touched(true, at, out);
     }
-    let to = put_list(&room[0..end], at, out);
+    let to = put_list(&room[0..end], last, within, at, out);
     touched(changed(&room[end..]), to, out)
 }
 
@@ -79,7 +87,7 @@ fn put_reading(r: Answer, room: &[u64], out: &mut [u8]) -> usize {
     if room.len() / STRIDE < count {
         return touched(true, to, out);
     }
-    put_room(room, count * STRIDE, to, out)
+    put_room(room, count * STRIDE, END, b',', to, out)
 }
 
 // Reads into the first `n` numbers of a part, the whole of which is watched.

@@ -64,7 +64,14 @@ pub fn schema_word(line: &[u8], at: usize, list: &mut [u64], numbers: &mut [u32]
     ensures { λ r. ⌜ r .count ≤ length (now (numbers .exit)) ⌝ }
 {
     let t = as_narrow(digits(line, at, 0xffff_ffff));
-    let g = groups(line, past(line, t.next, b'|'), ENTRY_STRIDE, b';', list);
+    let g = groups(
+        line,
+        past(line, t.next, b'|'),
+        ENTRY_STRIDE,
+        b',',
+        b';',
+        list,
+    );
     let count = g.count;
     entries_word(t.value, &list[0..count], g.next, numbers)
 }

@@ -1,6 +1,7 @@
 // The verbs of case lines, by their place in the list of names, and the words that each one takes.
 use crate::words::Many;
 use crate::words::name_in;
+use segment::RANGE_STRIDE;
 use spec::columns::STRIDE;
 
 // Verbs on numbers.
@@ -58,10 +59,15 @@ pub const WRITE: usize = 24;
 
 pub const PULL: usize = 25;
 
+// Verbs on segment files.
+pub const SEGREAD: usize = 26;
+
+pub const SEGWRITE: usize = 27;
+
 // The verb that a line begins with.
 pub fn verb_in(line: &[u8]) -> Many {
     name_in(
-        b"vsize zdec64 zenc32 zenc64 msgsize encode tagsize zdec32 tag wire maketag fieldsize varint64 varint32 utf8 document skip group packedsize schema lookup read records size write pull",
+        b"vsize zdec64 zenc32 zenc64 msgsize encode tagsize zdec32 tag wire maketag fieldsize varint64 varint32 utf8 document skip group packedsize schema lookup read records size write pull segread segwrite",
         line,
         0,
     )
@@ -78,16 +84,21 @@ pub struct Shape {
     pub wide: bool,
 }
 
-// A verb with no schema, no steps and no list.
-fn plain(narrow: usize, bytes: bool, wide: bool) -> Shape {
+// A verb with no schema and no steps.
+fn bare(narrow: usize, group: usize, bytes: bool, wide: bool) -> Shape {
     Shape {
         schema: false,
         narrow,
         steps: false,
-        group: 0,
+        group,
         bytes,
         wide,
     }
+}
+
+// A verb with no schema, no steps and no list.
+fn plain(narrow: usize, bytes: bool, wide: bool) -> Shape {
+    bare(narrow, 0, bytes, wide)
 }
 
 // A verb with a schema.
@@ -111,19 +122,14 @@ pub fn shape_of(verb: usize) -> Shape {
         FIELDSIZE => plain(2, false, true),
         VARINT64 | VARINT32 | UTF8 | DOCUMENT => plain(0, true, false),
         SKIP | GROUP => plain(2, true, false),
-        PACKEDSIZE => Shape {
-            schema: false,
-            narrow: 2,
-            steps: false,
-            group: 1,
-            bytes: false,
-            wide: false,
-        },
+        SEGREAD => plain(1, true, false),
+        PACKEDSIZE => bare(2, 1, false, false),
         LOOKUP => under(2, 0, false, false),
         READ => under(1, 0, true, false),
         RECORDS => under(0, 0, true, false),
         SIZE => under(0, STRIDE, true, false),
         WRITE => under(0, STRIDE, true, true),
+        SEGWRITE => bare(0, RANGE_STRIDE, true, true),
         PULL => Shape {
             schema: false,
             narrow: 1,

@@ -192,17 +192,24 @@ pub fn hex(line: &[u8], at: usize, bytes: &mut [u8]) -> Many
     }
 }
 
-// After the separator of a list: `,` within a group, and `between` after one.
-fn separated(line: &[u8], at: usize, left: usize, between: u8) -> usize {
+// After the separator of a list: `within` a group, and `between` after one.
+fn separated(line: &[u8], at: usize, left: usize, within: u8, between: u8) -> usize {
     if left < 2 {
         past(line, at, between)
     } else {
-        past(line, at, b',')
+        past(line, at, within)
     }
 }
 
 // Groups of `group` numbers each, stored from the front on; `-` for none.
-pub fn groups(line: &[u8], at: usize, group: usize, between: u8, list: &mut [u64]) -> Many
+pub fn groups(
+    line: &[u8],
+    at: usize,
+    group: usize,
+    within: u8,
+    between: u8,
+    list: &mut [u64],
+) -> Many
     ensures { λ r. ⌜ r .count ≤ length (now (list .exit)) ⌝ }
 {
     let none = past(line, at, b'-');
@@ -231,7 +238,7 @@ pub fn groups(line: &[u8], at: usize, group: usize, between: u8, list: &mut [u64
                 };
             }
         }
-        i = separated(line, d.next, left, between);
+        i = separated(line, d.next, left, within, between);
         if left < 2 {
             left = group;
         } else {

@@ -1,4 +1,5 @@
-// The verbs that write a list: `size` and `write`. The output is made of a pattern before the call and watched, as the room is in readings.
+// The verbs that write a list: `size` and `write`. The output is made of a pattern before the call and watched, as the room is in readings; that of `segwrite`
+// (segments) too.
 use crate::answers;
 use crate::answers::put_answer;
 use crate::answers::three;
@@ -9,15 +10,15 @@ use printing::put_text;
 use write::Answer;
 
 // What each byte of the output is where nothing is written.
-const PATTERN: u8 = 0xa5;
+pub const PATTERN: u8 = 0xa5;
 
 // The most bytes of output that a line may name.
-const MOST: u64 = 65536;
+pub const MOST: u64 = 65536;
 
 // How many bytes more are watched after them.
-const WATCHED: usize = 64;
+pub const WATCHED: usize = 64;
 
-const OUTPUT: usize = MOST as usize + WATCHED;
+pub const OUTPUT: usize = MOST as usize + WATCHED;
 
 // Whether a byte of a part is not the pattern.
 fn changed(part: &[u8]) -> bool {
@@ -88,7 +89,7 @@ fn put_output(output: &[u8], end: usize, at: usize, out: &mut [u8]) -> usize {
 }
 
 // `N SIZE INDEX OUTHEX`.
-fn put_writing(r: Answer, output: &[u8], out: &mut [u8]) -> usize {
+pub fn put_writing(r: Answer, output: &[u8], out: &mut [u8]) -> usize {
     let to = put_answer(numbers_of(r), out);
     put_output(output, filled(r), to, out)
 }

@@ -5,7 +5,7 @@ use mathlib.Core.Path.{_≡_, refl}
 use mathlib.Core.Bool.{Bool, true, false}
 use mathlib.Core.List.{List, [], _∷_, _++_, map}
 use lib.ListN.{replicate}
-use Rattle.spec.specs.Names.{badTag, badVarint, boolKind, bytesKind, delimitedWire, doubleKind, endGroupWire, endsEarly, enumKind, fixed32Kind, fixed32Wire, fixed64Kind, fixed64Wire, floatKind, groupKind, int32Kind, int64Kind, invalidList, invalidSchema, largestNumber, messageKind, mostEntries, mostLevels, mostTypes, noGroupOpen, noRoom, notUtf8, outOfRange, outputShort, packedHead, sfixed32Kind, sfixed64Kind, sint32Kind, sint64Kind, startGroupWire, stringKind, tooDeep, tooLarge, uint32Kind, uint64Kind, unknownBytes, unknownFixed32, unknownFixed64, unknownVarint, varintWire}
+use Rattle.spec.specs.Names.{badMark, badTag, badVarint, boolKind, bytesKind, delimitedWire, doubleKind, endGroupWire, endsEarly, enumKind, fixed32Kind, fixed32Wire, fixed64Kind, fixed64Wire, floatKind, groupKind, int32Kind, int64Kind, invalidList, invalidSchema, largestNumber, messageKind, mostEntries, mostLevels, mostTypes, noGroupOpen, noRoom, notUtf8, otherVersion, outOfRange, outputShort, packedHead, sfixed32Kind, sfixed64Kind, sint32Kind, sint64Kind, startGroupWire, stringKind, tooDeep, tooLarge, uint32Kind, uint64Kind, unknownBytes, unknownFixed32, unknownFixed64, unknownVarint, varintWire}
 use Rattle.spec.specs.Base.{Read, Took, No, meaning, require, longer, _>>=_, digit, limited}
 use Rattle.spec.specs.Varint.{varint, unzigzag, fixed, tag}
 use Rattle.spec.specs.Utf8.{lead, followers, behind, char, chars, validPrefix}
@@ -94,8 +94,8 @@ all-right = refl
 -- ---- the numbers that the rules give to the names of specs/Names
 
 pub refusals-are :
-    endsEarly ∷ badVarint ∷ badTag ∷ noGroupOpen ∷ outOfRange ∷ notUtf8 ∷ tooDeep ∷ noRoom ∷ invalidSchema ∷ invalidList ∷ tooLarge ∷ outputShort ∷ []
-    ≡ 1 ∷ 2 ∷ 3 ∷ 4 ∷ 5 ∷ 6 ∷ 7 ∷ 8 ∷ 9 ∷ 10 ∷ 11 ∷ 12 ∷ []
+    endsEarly ∷ badVarint ∷ badTag ∷ noGroupOpen ∷ outOfRange ∷ notUtf8 ∷ tooDeep ∷ noRoom ∷ invalidSchema ∷ invalidList ∷ tooLarge ∷ outputShort ∷ badMark ∷ otherVersion ∷ []
+    ≡ 1 ∷ 2 ∷ 3 ∷ 4 ∷ 5 ∷ 6 ∷ 7 ∷ 8 ∷ 9 ∷ 10 ∷ 11 ∷ 12 ∷ 13 ∷ 14 ∷ []
 refusals-are = refl
 
 pub kinds-are :

@@ -8,9 +8,9 @@ use mathlib.Core.Bool.{Bool, true, false, not, _&&_, false≢true}
 use mathlib.Core.List.{List, [], _∷_, _++_, map}
 use mathlib.Core.Option.{Option, none, some}
 use lib.ListN.{length, take, drop, getD, length-append, length-take, length-drop}
-use lib.Seq.{take-length, drop-length}
+use lib.Seq.{take-length, drop-length, take-append-seam}
 use lib.Dec.{leb, ltb, eqb}
-use borrow.Author.Tests.{le-ltb, le-leb, lt-leb, leb-true, ltb-true, ltb-false}
+use borrow.Author.Tests.{le-ltb, lt-ltb, le-leb, lt-leb, leb-true, ltb-true, ltb-false, ne-eqb}
 use Rattle.spec.specs.Names.{messageKind, mostLevels, outputShort, packedHead, stringKind, tooLarge, invalidList, invalidSchema, noWire, unknownFixed32, unknownVarint}
 use Rattle.spec.specs.Base.{if_then_else_, between, part, limit, Took, No, limited}
 use Rattle.spec.specs.Varint.{encode, tagSize, zigzag}
@@ -19,7 +19,7 @@ use Rattle.spec.specs.Kind.{Scalar, int32, uint32, uint64, bool, sint32,
 use Rattle.spec.specs.Schema.{Schema, badSchema}
 use Rattle.spec.specs.Record.{Record, row, deeper}
 use Rattle.spec.specs.Sizes.{scalarSize, prefixedSize, valueSize, fieldSize, valuesSize, packedSize, bodySize, unknownsSize, unknownFieldsSize, sizeUpTo, sizeOf}
-use Rattle.spec.specs.Writing.{prefixed, body, tagOf, bytesOf, written, Place, Fields, expected, lies, fitting, nextDeeper, around, inside, recordFault, Verdict, Fine, Faulty, orElse, listFault, schemaFirst, listCheck, Writing, Wrote, Failed, number, size, output, judged, bySize, sized, writing, sizing}
+use Rattle.spec.specs.Writing.{prefixed, body, tagOf, bytesOf, written, Place, Fields, expected, lies, fitting, nextDeeper, around, inside, recordFault, Verdict, Fine, Faulty, orElse, listFault, schemaFirst, listCheck, Writing, Wrote, Failed, number, size, output, sent, sentSize, judged, bySize, sized, writing, sizing}
 use Rattle.spec.proofs.Laws.{both, either-way, chosen}
 use Rattle.spec.proofs.VarintLaws.{length-encode, size-one, size-ten, length-tag, length-little}
 use Rattle.spec.proofs.RoundTrip.{hasContent, shape-packed}
@@ -183,12 +183,45 @@ pub data Answered (room : ℕ) (b : List ℕ) : Writing → Type 0 where
   above : limit < length b → Answered room b (Failed tooLarge 0 0)
   faulty : {k i : ℕ} → 1 ≤ k → k ≤ invalidList → Answered room b (Failed k 0 i)
 
-sized-answered : (room : ℕ) (b : List ℕ) → Answered room b (sized room b)
+pub sized-answered : (room : ℕ) (b : List ℕ) → Answered room b (sized room b)
 unfolding sized
 sized-answered room b =
     chosen (Answered room b) (ltb limit (length b)) (λ e. above (omega (arith, ltb-true limit (length b) e)))
     λ e. let small : length b ≤ limit = omega (arith, ltb-false limit (length b) e) in
     chosen (Answered room b) (ltb room (length b)) (λ f. short small (ltb-true room (length b) f)) (λ f. wrote small (ltb-false room (length b) f))
+
+-- the same, where it is known how many bytes there are
+module _ (room : ℕ) (b : List ℕ) where
+  pub sized-above : limit < length b → sized room b ≡ Failed tooLarge 0 0
+  unfolding sized
+  sized-above h = rw (lt-ltb limit (length b) h)
+
+  pub sized-short : length b ≤ limit → room < length b → sized room b ≡ Failed outputShort (length b) 0
+  unfolding sized
+  sized-short h m = rw (le-ltb limit (length b) h, lt-ltb room (length b) m)
+
+  pub sized-fits : length b ≤ limit → length b ≤ room → sized room b ≡ Wrote b
+  unfolding sized
+  sized-fits h m = rw (le-ltb limit (length b) h, le-ltb room (length b) m)
+
+-- what a writing leaves in an output: the bytes that it sent, at the front
+pub record Leaves (w : Writing) (out : List ℕ) : Type 0 where
+  pub size-is : sentSize (number w) (size w) ≡ length (sent w)
+  pub fits : length (sent w) ≤ length out
+  pub kept : length (output w out) ≡ length out
+  pub front : take (length (sent w)) (output w out) ≡ sent w
+
+pub answered-leaves : (out : List ℕ) {b : List ℕ} {w : Writing} → Answered (length out) b w → Leaves w out
+unfolding number size output sent
+answered-leaves out {b} (wrote h j) = record {
+  size-is = refl;
+  fits = j;
+  kept = omega (arith, length-append b (drop (length b) out), length-drop (length b) out);
+  front = take-append-seam b (drop (length b) out);
+}
+answered-leaves out (short h j) = record { size-is = refl; fits = omega arith; kept = refl; front = refl }
+answered-leaves out (above h) = record { size-is = refl; fits = omega arith; kept = refl; front = refl }
+answered-leaves out (faulty {k} h j) = record { size-is = ap (λ (t : Bool). if t then 0 else 0) (ne-eqb k 0 (λ e. omega arith)); fits = omega arith; kept = refl; front = refl }
 
 -- a fault is numbered at most 10
 data Numbered : Verdict → Type 0 where

@@ -53,6 +53,14 @@ tooLarge = 11
 abbrev pub outputShort : ℕ
 outputShort = 12
 
+-- no segment: shorter than its front, or another mark
+abbrev pub badMark : ℕ
+badMark = 13
+
+-- a segment of another version
+abbrev pub otherVersion : ℕ
+otherVersion = 14
+
 -- ---- kinds: those of descriptor.proto (10, a group, is in no schema), and our own
 
 abbrev pub doubleKind : ℕ

@@ -162,6 +162,14 @@ unfoldable pub output : Writing → List ℕ → List ℕ
 output (Wrote s) out = filled s out
 output (Failed k n i) out = out
 
+-- the bytes that a writing leaves to be read: none where it was refused; and how many they are, by the number and the size of its answer
+unfoldable pub sent : Writing → List ℕ
+sent (Wrote s) = s
+sent (Failed k n i) = []
+
+abbrev pub sentSize : (number size : ℕ) → ℕ
+sentSize number size = if eqb number 0 then size else 0
+
 unfoldable pub judged : Verdict → Writing → Writing
 judged Fine w = w
 judged (Faulty k i) w = Failed k 0 i

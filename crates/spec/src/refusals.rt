@@ -35,3 +35,9 @@ pub const TOO_LARGE: u32 = 11;
 
 // Output too short.
 pub const OUTPUT_SHORT: u32 = 12;
+
+// No segment: shorter than its front, or another mark.
+pub const BAD_MARK: u32 = 13;
+
+// A segment of another version.
+pub const OTHER_VERSION: u32 = 14;

@@ -2,26 +2,25 @@
 use Prim.Native.Nat.{ℕ, _-_, _*_, _/_, _≤_}
 use native.Mathlib.Omega.{arith}
 use mathlib.Core.Path.{_≡_, refl, ap, ap₂, _∙_}
-use mathlib.Core.Bool.{Bool}
 use mathlib.Core.List.{List, [], _∷_, map}
 use mathlib.Core.Option.{Option, none, some}
-use lib.ListN.{length, take, drop, length-append, length-drop}
-use lib.Seq.{take-append-seam, take-at}
+use lib.ListN.{length, take, drop}
+use lib.Seq.{take-at}
 use lib.Dec.{ltb}
-use borrow.Author.Tests.{ne-eqb}
-use Rattle.spec.specs.Base.{if_then_else_, part, filled, limit}
+use Rattle.spec.specs.Base.{part, limit}
 use Rattle.spec.specs.Schema.{Schema, badSchema}
 use Rattle.spec.specs.Record.{Record, stride, stored, recordsOf}
 use Rattle.spec.specs.Reading.{Reading, plainly, looking, read, within, refusedOr, called, readingBy, readingAs, reading, listed, roomAfter}
-use Rattle.spec.specs.Writing.{Writing, number, size, index, output, writing, written}
+use Rattle.spec.specs.Writing.{Writing, number, size, sentSize, writing}
 use Rattle.spec.proofs.Laws.{either-way}
 use Rattle.spec.proofs.RecordLaws.{within-fits, stored-length, room-kept}
 use Rattle.spec.proofs.FlatLaws.{untagged, records-stored}
-use Rattle.spec.proofs.SizeLaws.{Answered, wrote, short, above, faulty, writing-answered}
+use Rattle.spec.proofs.SizeLaws.{writing-answered, Leaves, answered-leaves}
 use Rattle.onward.specs.Onward.{seen}
 use Rattle.onward.proofs.OnwardLaws.{same-seen}
 use Rattle.write.specs.Answers.{answerOfWriting}
-use Rattle.trip.specs.Copy.{sent, sentSize, reads}
+use Rattle.write.specs.declared.Answer.{Answer}
+use Rattle.trip.specs.Copy.{reads}
 
 -- a part that begins at the front
 pub part-front : (k : ℕ) (b : List ℕ) → part 0 k b ≡ take k b
@@ -29,26 +28,13 @@ part-front k b = let all : k - 0 ≡ k = omega arith in ap (λ (n : ℕ). take n
 
 -- ---- an output
 
--- what a writing leaves in an output: the bytes that it sent, at the front
-pub record Leaves (w : Writing) (out : List ℕ) : Type 0 where
-  pub size-is : sentSize (answerOfWriting w) ≡ length (sent w)
-  pub fits : length (sent w) ≤ length out
-  pub kept : length (output w out) ≡ length out
-  pub front : take (length (sent w)) (output w out) ≡ sent w
-
 pub writing-leaves : (sch : Schema) (payload : List ℕ) (rs : List Record) (out : List ℕ) → Leaves (writing sch (length out) payload rs) out
-unfolding answerOfWriting number size index output sent
-writing-leaves sch payload rs out = go (writing-answered sch (length out) payload rs)
-  where
-    kept-length : length (written payload rs) ≤ length out → length (filled (written payload rs) out) ≡ length out
-    kept-length j =
-        omega (arith, length-append (written payload rs) (drop (length (written payload rs)) out), length-drop (length (written payload rs)) out)
+writing-leaves sch payload rs out = answered-leaves out (writing-answered sch (length out) payload rs)
 
-    go : {w : Writing} → Answered (length out) (written payload rs) w → Leaves w out
-    go (wrote h j) = record { size-is = refl; fits = j; kept = kept-length j; front = take-append-seam (written payload rs) (drop (length (written payload rs)) out) }
-    go (short h j) = record { size-is = refl; fits = omega arith; kept = refl; front = refl }
-    go (above h) = record { size-is = refl; fits = omega arith; kept = refl; front = refl }
-    go (faulty {k} h j) = record { size-is = ap (λ (b : Bool). if b then 0 else 0) (ne-eqb k 0 (λ e. omega arith)); fits = omega arith; kept = refl; front = refl }
+-- the size that its answer tells
+pub told-size : {a : Answer} (w : Writing) → a ≡ answerOfWriting w → sentSize (a .number) (a .size) ≡ sentSize (number w) (size w)
+unfolding answerOfWriting
+told-size w e = ap (λ (x : Answer). sentSize (x .number) (x .size)) e
 
 -- ---- a room
 

@@ -9,6 +9,7 @@ use Rattle.spec.specs.Schema.{Schema}
 use Rattle.spec.specs.Record.{Record, stride, stored, recordsOf}
 use Rattle.spec.specs.Reading.{Reading, plainly, reading, number, listed}
 use Rattle.spec.specs.Writing as spec
+use Rattle.spec.specs.Writing.{sent}
 use Rattle.spec.proofs.FlatLaws.{writing-stored}
 use Rattle.onward.specs.Onward.{seen, GoesOnward}
 use Rattle.onward.proofs.OnwardLaws.{demand-three}
@@ -18,7 +19,7 @@ use Rattle.read.proofs.CallLaws as read-laws
 use Rattle.write.specs.Answers.{answerOfWriting}
 use Rattle.write.specs.declared.Answer.{Answer}
 use Rattle.write.proofs.CallLaws as write-laws
-use Rattle.trip.specs.Copy.{sent, writes, reads, rewrites, PassedOn, Copied, Demanded, message, Unharmed}
+use Rattle.trip.specs.Copy.{writes, reads, rewrites, PassedOn, Copied, Demanded, message, Unharmed}
 use Rattle.trip.specs.declared.Trip.{Trip}
 use Rattle.trip.proofs.CopyLaws.{part-front, room-front, seen-stored}
 

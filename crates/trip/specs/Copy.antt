@@ -2,14 +2,12 @@
 -- Assumes nothing: these are definitions. Public promises cite it.
 use Prim.Native.Nat.{ℕ, _*_, _/_, _≤_}
 use mathlib.Core.Path.{_≡_}
-use mathlib.Core.List.{List, [], map}
+use mathlib.Core.List.{List, map}
 use lib.ListN.{length, take}
-use lib.Dec.{eqb}
-use Rattle.spec.specs.Base.{if_then_else_}
 use Rattle.spec.specs.Schema.{Schema}
 use Rattle.spec.specs.Record.{Record, stride, recordsOf}
 use Rattle.spec.specs.Reading.{Reading, reading, number, place, listed, roomAfter}
-use Rattle.spec.specs.Writing.{written, Writing, Wrote, Failed, writing, output}
+use Rattle.spec.specs.Writing.{written, Writing, writing, output, sent}
 use Rattle.write.specs.Answers.{answerOfWriting}
 use Rattle.write.specs.declared.Answer.{Answer}
 use Rattle.read.specs.declared.Answer as read
@@ -17,15 +15,6 @@ use Rattle.onward.specs.Onward.{seen, onward, Given}
 use Rattle.trip.specs.declared.Trip.{Trip}
 
 -- ---- the three steps
-
--- the bytes that a writing leaves to be read: none where it was refused
-unfoldable pub sent : Writing → List ℕ
-sent (Wrote s) = s
-sent (Failed k n i) = []
-
--- how many they are, by the answer that tells it
-abbrev pub sentSize : Answer → ℕ
-sentSize a = if eqb (a .number) 0 then a .size else 0
 
 -- first, the list that the numbers are is written under the newer schema
 abbrev pub writes : (new : Schema) (list payload bytes : List ℕ) → Writing

@@ -3,7 +3,8 @@ ghost use mathlib.Core.Path.{_≡_};
 ghost use Prim.Native.Nat.{_*_, _^_, _<_};
 ghost use Rattle.spec.specs.Record.{stride};
 ghost use Rattle.spec.specs.Schema.{schemaOf};
-ghost use Rattle.trip.specs.Copy.{sentSize, PassedOn, Copied, Demanded, Unharmed};
+ghost use Rattle.spec.specs.Writing.{sentSize};
+ghost use Rattle.trip.specs.Copy.{PassedOn, Copied, Demanded, Unharmed};
 use read::read;
 use spec::columns;
 use write::write;
@@ -23,7 +24,7 @@ struct Passed {
 
 // How many bytes stand in the output then: none where the writing was refused.
 fn sent_size(wrote: write::Answer) -> usize
-    ensures { λ r. ⌜ r ≡ sentSize wrote ⌝ }
+    ensures { λ r. ⌜ r ≡ sentSize (wrote .number) (wrote .size) ⌝ }
 {
     if wrote.number == 0 {
         return wrote.size;

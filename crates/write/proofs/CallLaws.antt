@@ -8,15 +8,14 @@ use mathlib.Core.Option.{none}
 use mathlib.Core.Bool.{true}
 use mathlib.Core.List.{List, [], _∷_}
 use lib.ListN.{length}
-use borrow.Author.Tests.{lt-ltb, le-ltb}
 use Rattle.spec.specs.Names.{outputShort, tooLarge}
 use Rattle.spec.specs.Base.{filled, limit}
 use Rattle.spec.specs.Schema.{Schema, badSchema}
 use Rattle.spec.specs.Record.{Record, recordsOf}
 use Rattle.spec.specs.Sizes.{sizeOf}
-use Rattle.spec.specs.Writing.{Fields, written, Verdict, Fine, Faulty, listFault, listCheck, Writing, Wrote, Failed, number, size, index, output, judged, sized, writing, sizing}
+use Rattle.spec.specs.Writing.{Fields, written, Verdict, Fine, Faulty, listFault, listCheck, Writing, Failed, number, size, index, output, judged, sized, writing, sizing}
 use Rattle.spec.proofs.VarintLaws.{lower-or-not}
-use Rattle.spec.proofs.SizeLaws.{Held, size-bytes, fine-held, Answered, wrote, short, above, faulty, writing-answered, output-refused}
+use Rattle.spec.proofs.SizeLaws.{Held, size-bytes, fine-held, Answered, wrote, short, above, faulty, sized-above, sized-short, sized-fits, writing-answered, output-refused}
 use Rattle.spec.proofs.ListLaws.{accepted}
 use Rattle.spec.proofs.RunLaws.{fine-passed}
 use Rattle.sizes.specs.SizeParts.{capped}
@@ -79,31 +78,19 @@ module _ (sch : Schema) (room : ℕ) (payload : List ℕ) (rs : List Record) whe
 -- ---- by its size
 
 module _ (room : ℕ) (b : List ℕ) where
-  sized-above : limit < length b → sized room b ≡ Failed tooLarge 0 0
-  unfolding sized
-  sized-above h = rw (lt-ltb limit (length b) h)
-
-  sized-short : length b ≤ limit → room < length b → sized room b ≡ Failed outputShort (length b) 0
-  unfolding sized
-  sized-short h m = rw (le-ltb limit (length b) h, lt-ltb room (length b) m)
-
-  sized-fits : length b ≤ limit → length b ≤ room → sized room b ≡ Wrote b
-  unfolding sized
-  sized-fits h m = rw (le-ltb limit (length b) h, le-ltb room (length b) m)
-
   -- the answer, from their size n, which is cut off above the limit
   module _ (n : ℕ) (is : n ≡ capped (length b)) where
     pub told-above : limit < n → record { number = tooLarge; size = 0; index = 0 } ≡ answerOfWriting (sized room b)
     unfolding answerOfWriting number size index
-    told-above h = sym (ap answerOfWriting (sized-above (omega arith)))
+    told-above h = sym (ap answerOfWriting (sized-above room b (omega arith)))
 
     pub told-short : n ≤ limit → room < n → record { number = outputShort; size = n; index = 0 } ≡ answerOfWriting (sized room b)
     unfolding answerOfWriting number size index
-    told-short h m = let same : n ≡ length b = omega arith in sym (rw same (ap answerOfWriting (sized-short (omega arith) (omega arith))))
+    told-short h m = let same : n ≡ length b = omega arith in sym (rw same (ap answerOfWriting (sized-short room b (omega arith) (omega arith))))
 
     pub told-fits : n ≤ limit → n ≤ room → record { number = 0; size = n; index = 0 } ≡ answerOfWriting (sized room b)
     unfolding answerOfWriting number size index
-    told-fits h m = let same : n ≡ length b = omega arith in sym (rw same (ap answerOfWriting (sized-fits (omega arith) (omega arith))))
+    told-fits h m = let same : n ≡ length b = omega arith in sym (rw same (ap answerOfWriting (sized-fits room b (omega arith) (omega arith))))
 
   -- what the answer says of the output then
   pub sized-zero : {r : Answer} (out : List ℕ) → r ≡ answerOfWriting (sized room b) → r .number ≡ 0
@@ -112,10 +99,10 @@ module _ (room : ℕ) (b : List ℕ) where
   sized-zero {r} out e z =
       let tells : number (sized room b) ≡ 0 = sym (ap (λ (a : Answer). a .number) e) ∙ z in
       lower-or-not limit (length b)
-      (λ l. absurd (omega (arith, sym (ap number (sized-above l)) ∙ tells)))
+      (λ l. absurd (omega (arith, sym (ap number (sized-above room b l)) ∙ tells)))
       (λ l. lower-or-not room (length b)
-      (λ m. absurd (omega (arith, sym (ap number (sized-short l m)) ∙ tells)))
-      (λ m. (ap (λ (a : Answer). a .size) e ∙ ap size (sized-fits l m), m, ap (λ (w : Writing). output w out) (sized-fits l m))))
+      (λ m. absurd (omega (arith, sym (ap number (sized-short room b l m)) ∙ tells)))
+      (λ m. (ap (λ (a : Answer). a .size) e ∙ ap size (sized-fits room b l m), m, ap (λ (w : Writing). output w out) (sized-fits room b l m))))
 
   pub sized-refused : {r : Answer} (out : List ℕ) → r ≡ answerOfWriting (sized room b) → r .number ≢ 0 → output (sized room b) out ≡ out
   unfolding answerOfWriting

@@ -2,7 +2,6 @@ pub mod BackTurn
 pub mod BodyLaws
 pub mod CallLaws
 pub mod CheckedLaws
-pub mod CopyLaws
 pub mod EncodeLaws
 pub mod HereLaws
 pub mod InnerLaws

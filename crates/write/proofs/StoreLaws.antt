@@ -5,32 +5,35 @@ use mathlib.Core.List.{List, [], _∷_, _++_, append-assoc}
 use native.Mathlib.Omega.{arith}
 use native.Mathlib.Numerals.{add-one}
 use lib.ListN.{length, take, drop, set, length-append, length-set}
-use lib.Seq.{sets, sets-eq, length-take-le, drop-at, drop-drop, drop-append-seam}
+use lib.Seq.{sets, sets-eq, length-sets, length-take-le, drop-at, drop-drop, drop-append-seam}
+use Rattle.wire.specs.Answers.{stored}
 use Rattle.write.specs.Backward.{Stored, Room}
 
 -- ---- one byte after the other
 
--- what an output holds when `new` was stored in it from the place q on, and nothing else was touched
-unfoldable pub store : ℕ → List ℕ → List ℕ → List ℕ
-store q new out = take q out ++ new ++ drop (q + length new) out
+stored-sets : (q : ℕ) (new out : List ℕ) → q + length new ≤ length out → stored q new out ≡ sets out q new
+stored-sets q new out h = sym (sets-eq new out q h)
 
-store-sets : (q : ℕ) (new out : List ℕ) → q + length new ≤ length out → store q new out ≡ sets out q new
-unfolding store
-store-sets q new out h = sym (sets-eq new out q h)
+stored-cons : (q b : ℕ) (new out : List ℕ) → q + 1 + length new ≤ length out → stored q (b ∷ new) out ≡ stored (q + 1) new (set out q b)
+stored-cons q b new out h =
+    stored-sets q (b ∷ new) out (omega arith) ∙ ap (λ (n : ℕ). sets (set out q b) n new) (sym (add-one q))
+    ∙ sym (stored-sets (q + 1) new (set out q b) (omega (arith, length-set out q b)))
 
-store-cons : (q b : ℕ) (new out : List ℕ) → q + 1 + length new ≤ length out → store q (b ∷ new) out ≡ store (q + 1) new (set out q b)
-store-cons q b new out h =
-    store-sets q (b ∷ new) out (omega arith) ∙ ap (λ (n : ℕ). sets (set out q b) n new) (sym (add-one q))
-    ∙ sym (store-sets (q + 1) new (set out q b) (omega (arith, length-set out q b)))
+stored-nil : (q : ℕ) (out : List ℕ) → q ≤ length out → stored q [] out ≡ out
+stored-nil q out h = stored-sets q [] out (omega arith)
 
-store-nil : (q : ℕ) (out : List ℕ) → q ≤ length out → store q [] out ≡ out
-store-nil q out h = store-sets q [] out (omega arith)
-
-from-store : (q : ℕ) (new out : List ℕ) → q ≤ length out → drop q (store q new out) ≡ new ++ drop (q + length new) out
-unfolding store
-from-store q new out h =
+from-stored : (q : ℕ) (new out : List ℕ) → q ≤ length out → drop q (stored q new out) ≡ new ++ drop (q + length new) out
+from-stored q new out h =
     let rest : List ℕ = drop (q + length new) out in
     ap (drop q) (append-assoc (take q out) new rest) ∙ drop-at (take q out) (new ++ rest) q (length-take-le q out h)
+
+-- what is stored in its place
+pub in-place : (new out : List ℕ) (q p : ℕ) {now : List ℕ} → q + length new ≡ p → p ≤ length out → now ≡ stored q new out → Stored new p out q now
+in-place new out q p e h i = record {
+  starts = e;
+  behind = ap (drop q) i ∙ from-stored q new out (omega arith) ∙ ap (λ (n : ℕ). new ++ drop n out) e;
+  long = ap length (i ∙ stored-sets q new out (omega arith)) ∙ length-sets out q new;
+}
 
 -- ---- one run of bytes before another
 
@@ -68,14 +71,14 @@ stored-end a b {out} {now} {p} {q} {r} s e =
 -- ---- a loop that stores forward: `todo` is left of `new`, which is to be stored from q up to p, and goes to the place i
 
 pub record Going (new todo out₀ : List ℕ) (q p : ℕ) (out : List ℕ) (i : ℕ) : Type 0 where
-  pub same : store q new out₀ ≡ store i todo out
+  pub same : stored q new out₀ ≡ stored i todo out
   pub starts : q + length new ≡ p
   pub ends : i + length todo ≡ p
   pub inside : p ≤ length out
   pub long : length out ≡ length out₀
 
 pub going : (new out : List ℕ) (q p i : ℕ) → i ≡ q → q + length new ≡ p → p ≤ length out → Going new new out q p out i
-going new out q p i j e h = record { same = ap (λ (n : ℕ). store n new out) (sym j); starts = e; ends = omega arith; inside = h; long = refl }
+going new out q p i j e h = record { same = ap (λ (n : ℕ). stored n new out) (sym j); starts = e; ends = omega arith; inside = h; long = refl }
 
 module _ {new todo out₀ out : List ℕ} {q p i : ℕ} (g : Going new todo out₀ q p out i) where
   pub gone-on : (j b : ℕ) (rest : List ℕ) → j ≡ i + 1 → todo ≡ b ∷ rest → Going new rest out₀ q p (set out i b) j
@@ -83,8 +86,8 @@ module _ {new todo out₀ out : List ℕ} {q p i : ℕ} (g : Going new todo out�
       let count : length todo ≡ suc (length rest) = ap length e in
       record {
         same =
-            g .same ∙ ap (λ (l : List ℕ). store i l out) e ∙ store-cons i b rest out (omega (arith, g .ends, g .inside))
-            ∙ ap (λ (k : ℕ). store k rest (set out i b)) (sym next);
+            g .same ∙ ap (λ (l : List ℕ). stored i l out) e ∙ stored-cons i b rest out (omega (arith, g .ends, g .inside))
+            ∙ ap (λ (k : ℕ). stored k rest (set out i b)) (sym next);
         starts = g .starts;
         ends = omega (arith, g .ends);
         inside = omega (arith, g .inside, length-set out i b);
@@ -94,12 +97,7 @@ module _ {new todo out₀ out : List ℕ} {q p i : ℕ} (g : Going new todo out�
   pub gone : todo ≡ [] → Stored new p out₀ q out
   gone e =
       let count : length todo ≡ 0 = ap length e in
-      let holds : out ≡ store q new out₀ = sym (g .same ∙ ap (λ (l : List ℕ). store i l out) e ∙ store-nil i out (omega (arith, g .ends, g .inside))) in
-      record {
-        starts = g .starts;
-        behind = ap (drop q) holds ∙ from-store q new out₀ (omega (arith, g .starts, g .inside, g .long)) ∙ ap (λ (n : ℕ). new ++ drop n out₀) (g .starts);
-        long = g .long;
-      }
+      in-place new out₀ q p (g .starts) (omega (arith, g .inside, g .long)) (sym (g .same ∙ ap (λ (l : List ℕ). stored i l out) e ∙ stored-nil i out (omega (arith, g .ends, g .inside))))
 
 -- three bytes before p
 pub stored-three : (a b c p : ℕ) (out : List ℕ) → 3 ≤ p → p ≤ length out → Stored (a ∷ b ∷ c ∷ []) p out (p - 3) (set (set (set out (p - 3) a) (p - 2) b) (p - 1) c)

@@ -47,19 +47,6 @@ twoGroups = 2 ^ 14
 abbrev pub fourGroups : ℕ
 fourGroups = 2 ^ 28
 
--- how many bytes are copied at once: a block is two halves, a half two pairs, a pair two words
-abbrev pub word : ℕ
-word = 8
-
-abbrev pub pair : ℕ
-pair = 2 * word
-
-abbrev pub half : ℕ
-half = 2 * pair
-
-abbrev pub block : ℕ
-block = 2 * half
-
 -- four bytes of the varint of v, after which others come
 abbrev pub four : ℕ → List ℕ
 four v = (128 + v % 128) ∷ (128 + v / 128 % 128) ∷ (128 + v / 128 / 128 % 128) ∷ (128 + v / 128 / 128 / 128 % 128) ∷ []

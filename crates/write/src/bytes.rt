@@ -14,8 +14,9 @@ ghost use Rattle.spec.specs.Record.{recordsOf, stride};
 ghost use Rattle.spec.specs.Writing.{tagOf, written};
 ghost use Rattle.spec.proofs.WritingLaws.{bytesIn};
 ghost use Rattle.sizes.specs.SizeParts.{coded};
-ghost use Rattle.write.specs.Backward.{Stored, Room, four, at, kindAt, span, start, plain, Given, Here, leadOf, numberOf, headOf, Leads, Upto, Run, Inner, isPacked, Values, Ran, nineBytes, word, pair, half, block};
+ghost use Rattle.write.specs.Backward.{Stored, Room, four, at, kindAt, span, start, plain, Given, Here, leadOf, numberOf, headOf, Leads, Upto, Run, Inner, isPacked, Values, Ran, nineBytes};
 use crate::measure::is_head;
+use copy::put_bytes;
 use sizes::compute_raw_varint64_size;
 use spec::columns::END;
 use spec::columns::KIND;
@@ -51,15 +52,6 @@ const FOUR_GROUPS: u64 = 0x1000_0000;
 
 // How many values are put as if their sizes changed, after one that has more than one byte.
 const HINTS: u64 = 32;
-
-// Contents are copied in blocks: a block is two halves, a half two pairs, a pair two words of eight bytes.
-const WORD: usize = 8;
-
-const PAIR: usize = 2 * WORD;
-
-const HALF: usize = 2 * PAIR;
-
-const BLOCK: usize = 2 * HALF;
 
 // A place in the list, and one in the output: from there on it is written.
 struct Back {
@@ -239,95 +231,15 @@ fn put_plain(out: &mut [u8], p: usize, kind: u64, w: u8, v: u64) -> usize
     put_fixed32(out, p, v)
 }
 
-// The eight bytes of the payload before e, before p: all are loaded before one is stored, which makes a single load and store of them.
-fn copy_eight(payload: &[u8], out: &mut [u8], p: usize, e: usize) -> usize
-    requires { ⌜ (word ≤ e) × (e ≤ length (now payload)) × (word ≤ p) × (p ≤ length (now out)) ⌝ }
-    ensures { λ q. ⌜ Stored (part (e - word) e (now (payload .entry))) p (now (out .entry)) q (now (out .exit)) ⌝ }
-{
-    let i = e - WORD;
-    let b0 = payload[i];
-    let b1 = payload[i + 1];
-    let b2 = payload[i + 2];
-    let b3 = payload[i + 3];
-    let b4 = payload[i + 4];
-    let b5 = payload[i + 5];
-    let b6 = payload[i + 6];
-    let b7 = payload[i + 7];
-    let q = p - WORD;
-    out[q] = b0;
-    out[q + 1] = b1;
-    out[q + 2] = b2;
-    out[q + 3] = b3;
-    out[q + 4] = b4;
-    out[q + 5] = b5;
-    out[q + 6] = b6;
-    out[q + 7] = b7;
-    q
-}
-
-// The same of a pair of words, of half a block and of a block.
-fn copy_sixteen(payload: &[u8], out: &mut [u8], p: usize, e: usize) -> usize
-    requires { ⌜ (pair ≤ e) × (e ≤ length (now payload)) × (pair ≤ p) × (p ≤ length (now out)) ⌝ }
-    ensures { λ q. ⌜ Stored (part (e - pair) e (now (payload .entry))) p (now (out .entry)) q (now (out .exit)) ⌝ }
-{
-    let q = copy_eight(payload, out, p, e);
-    copy_eight(payload, out, q, e - WORD)
-}
-
-fn copy_half(payload: &[u8], out: &mut [u8], p: usize, e: usize) -> usize
-    requires { ⌜ (half ≤ e) × (e ≤ length (now payload)) × (half ≤ p) × (p ≤ length (now out)) ⌝ }
-    ensures { λ q. ⌜ Stored (part (e - half) e (now (payload .entry))) p (now (out .entry)) q (now (out .exit)) ⌝ }
-{
-    let q = copy_sixteen(payload, out, p, e);
-    copy_sixteen(payload, out, q, e - PAIR)
-}
-
-fn copy_block(payload: &[u8], out: &mut [u8], p: usize, e: usize) -> usize
-    requires { ⌜ (block ≤ e) × (e ≤ length (now payload)) × (block ≤ p) × (p ≤ length (now out)) ⌝ }
-    ensures { λ q. ⌜ Stored (part (e - block) e (now (payload .entry))) p (now (out .entry)) q (now (out .exit)) ⌝ }
-{
-    let q = copy_half(payload, out, p, e);
-    copy_half(payload, out, q, e - HALF)
-}
-
-// The bytes of the payload from a up to e, one by one.
-fn put_bytes(payload: &[u8], out: &mut [u8], p: usize, a: usize, e: usize) -> usize
-    requires { ⌜ (a ≤ e) × (e ≤ length (now payload)) × Room (part a e (now payload)) p (now out) ⌝ }
-    ensures { λ q. ⌜ Stored (part a e (now (payload .entry))) p (now (out .entry)) q (now (out .exit)) ⌝ }
-{
-    let from = &payload[a..e];
-    let q = p - from.len();
-    let mut i: usize = 0;
-    while i < from.len() {
-        out[q + i] = from[i];
-        i += 1;
-    }
-    q
-}
-
-// A content, which lies in the payload: in blocks from its end, as far as there are blocks in both. What the last block leaves before the content is overwritten by what
-// comes before it.
+// A content, which lies in the payload.
 fn put_content(payload: &[u8], out: &mut [u8], p: usize, start: u64, stop: u64) -> usize
     requires { ⌜ (start ≤ stop) × (stop ≤ length (now payload)) × Room (part start stop (now payload)) p (now out) ⌝ }
     ensures { λ q. ⌜ Stored (part start stop (now (payload .entry))) p (now (out .entry)) q (now (out .exit)) ⌝ }
 {
     let a = start as usize;
-    let mut e = stop as usize;
-    let mut q = p;
-    while a < e {
-        if e < BLOCK {
-            return put_bytes(payload, out, q, a, e);
-        }
-        if q < BLOCK {
-            return put_bytes(payload, out, q, a, e);
-        }
-        let r = copy_block(payload, out, q, e);
-        if e - a <= BLOCK {
-            return q - (e - a);
-        }
-        q = r;
-        e -= BLOCK;
-    }
+    let e = stop as usize;
+    let q = p - (e - a);
+    put_bytes(&payload[a..e], out, q);
     q
 }
 

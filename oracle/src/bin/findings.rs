@@ -277,6 +277,23 @@ fn kinds() {
     println!("read_unknown(StartGroup) over 0c gives {}", told(stream(&[0x0c], true, 0).read_unknown(WireType::StartGroup)));
 }
 
+/// A length past the end of a segment file, as the crate's streams answer it.
+fn segment() {
+    title("a segment's length past its end (the front, then 05 61): where the stream is then");
+    let bytes = b"WFM\x01\x00\x05a";
+    let after = |limited, call: fn(&mut CodedInputStream, u32) -> Result<()>| {
+        let mut is = stream(bytes, limited, 0);
+        is.skip_raw_bytes(5).expect("a front");
+        let length = is.read_raw_varint32().expect("a length");
+        let said = told(call(&mut is, length));
+        format!("{} at {}", said, is.pos())
+    };
+    for (name, limited) in [("bare", false), ("limited", true)] {
+        row(&format!("skip_raw_bytes, {}", name), bytes, after(limited, |is, n| is.skip_raw_bytes(n)));
+        row(&format!("read_raw_bytes, {}", name), bytes, after(limited, |is, n| is.read_raw_bytes(n).map(|_| ())));
+    }
+}
+
 fn main() {
     std::panic::set_hook(Box::new(|_| {}));
     println!("What the crate protobuf {} says, by a run. Columns: call, input in hex, answer and position.", protobuf::VERSION);
@@ -292,4 +309,5 @@ fn main() {
     positions();
     no_overflow();
     kinds();
+    segment();
 }

@@ -8,12 +8,10 @@ use Rattle.printing.proofs.put_listing.Tie as tie
 returns : tie.Need-returns
 unfolding header
 returns c =
-    let v = c .before .before in
-    let u = v .before .before .before .before in
-    let t = u .before .before .before .before in
+    let t = c .before .before in
     let s = t .before .before .before .before in
     let a = s .before .before .before .before .before .args in
-    listed (a .number) (a .count) (a .place) (a .list .now) (s .put-text .ensures) (t .put-records .ensures) (u .put-byte .ensures) (v .put-verdict .ensures)
+    listed (a .number) (a .count) (a .place) (a .list .now) (a .line-end) (s .put-text .ensures) (t .put-lines .ensures)
 
 pub put-listing-spec : {M : Type 1} → statement M
-put-listing-spec = tie.close (tie.spec (λ c. search needs) (λ c κs. search needs) (λ c κs. search needs) (λ c κs. search needs) (λ c κs. search needs) (λ c. search needs) returns)
+put-listing-spec = tie.close (tie.spec (λ c. search needs) (λ c κs. search needs) (λ c κs. search needs) (λ c. search needs) returns)

@@ -5,8 +5,7 @@ use borrow.Author.Needs.{needs}
 use lib.ListN.{length, take}
 use Rattle.spec.specs.Schema.{schemaOf}
 use Rattle.spec.specs.Record.{recordsOf}
-use Rattle.trip.specs.Copy.{sentSize}
-use Rattle.trip.proofs.CopyLaws.{part-front, writing-leaves}
+use Rattle.trip.proofs.CopyLaws.{part-front, writing-leaves, told-size}
 use Rattle.trip.proofs.TripLaws.{copied, demand-3}
 use Rattle.trip.proofs.copy_onward.Statement.{statement}
 use Rattle.trip.proofs.copy_onward.Tie as tie
@@ -17,7 +16,7 @@ part-message-end c =
     let w = z .before .before .before in
     let a = w .before .before .before .before .before .before .before .before .before .args in
     let l = writing-leaves (schemaOf (a .newer-types) (a .newer .now)) (a .payload .now) (recordsOf (a .list .now)) (a .bytes .now) in
-    omega (arith, z .sent-size .ensures ∙ ap sentSize (w .write .ensures .0) ∙ l .size-is, ap length (w .write .ensures .1), l .fits, l .kept)
+    omega (arith, z .sent-size .ensures ∙ told-size _ (w .write .ensures .0) ∙ l .size-is, ap length (w .write .ensures .1), l .fits, l .kept)
 
 returns : tie.Need-returns
 returns c =
@@ -28,7 +27,7 @@ returns c =
     let new = schemaOf (a .newer-types) (a .newer .now) in
     let old = schemaOf (a .older-types) (a .older .now) in
     let l = writing-leaves new (a .payload .now) (recordsOf (a .list .now)) (a .bytes .now) in
-    let sent-is = part-front (z .sent-size .result) _ ∙ ap₂ take (z .sent-size .ensures ∙ ap sentSize (w .write .ensures .0) ∙ l .size-is) (w .write .ensures .1) ∙ l .front in
+    let sent-is = part-front (z .sent-size .result) _ ∙ ap₂ take (z .sent-size .ensures ∙ told-size _ (w .write .ensures .0) ∙ l .size-is) (w .write .ensures .1) ∙ l .front in
     let all = copied new old (a .list .now) (a .payload .now) (a .bytes .now) (a .room .now) (a .again .now) (w .write .ensures) sent-is (p .pass-on .ensures) in
     (all, λ d. demand-3 new old (a .list .now) (a .payload .now) (a .bytes .now) (a .room .now) (a .again .now) d all)
 

@@ -8,10 +8,10 @@ use Rattle.replay.proofs.words.groups.Statement.{statement}
 use Rattle.replay.proofs.words.groups.Tie as tie
 
 abbrev Inv-loop : tie.InvT-loop
-Inv-loop line at group between list₀ none i₀ left₀ n₀ list i left n = (n ≤ length list) × (length list ≡ length list₀)
+Inv-loop line at group within between list₀ none i₀ left₀ n₀ list i left n = (n ≤ length list) × (length list ≡ length list₀)
 
 abbrev μ-loop : tie.MeasureT-loop
-μ-loop line at group between list₀ none i₀ left₀ n₀ list i left n = length list₀ - n
+μ-loop line at group within between list₀ none i₀ left₀ n₀ list i left n = length list₀ - n
 
 returns-2 : tie.Need-returns-2 Inv-loop μ-loop
 returns-2 c = simp length-set (omega arith)

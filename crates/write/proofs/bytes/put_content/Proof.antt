@@ -1,101 +1,48 @@
--- `write::bytes::put_content` meets its contract: block after block from the content's end; what is before e is left. Assumes nothing.
+-- `write::bytes::put_content` meets its contract: there is room, so the content is stored. Assumes nothing.
+use Prim.Native.Nat.{ℕ, _+_, _-_, _≤_}
+use mathlib.Core.Path.{_≡_}
+use mathlib.Core.List.{List}
 use native.Mathlib.Omega.{arith}
-use Rattle.write.proofs.CopyLaws.{Left, left-all, rest-room, left-few, left-none, left-done, left-block, left-less}
+use borrow.Author.Needs.{needs}
+use borrow.Author.Tests.{le-leb}
+use lib.Dec.{leb}
+use lib.ListN.{length}
+use Rattle.spec.specs.Base.{if_then_else_, part}
+use Rattle.spec.proofs.MadeLaws.{part-length}
+use Rattle.wire.specs.Answers.{stored}
+use Rattle.write.specs.Backward.{Room, Stored}
+use Rattle.write.proofs.StoreLaws.{in-place}
 use Rattle.write.proofs.bytes.put_content.Statement.{statement}
 use Rattle.write.proofs.bytes.put_content.Tie as tie
 
-abbrev Inv-loop : tie.InvT-loop
-Inv-loop payload out₀ p start stop a e₀ q₀ out e q = Left payload out₀ start stop p out e q
-
-abbrev μ-loop : tie.MeasureT-loop
-μ-loop payload out₀ p start stop a e₀ q₀ out e q = e
-
-loop-holds : tie.Need-loop-holds Inv-loop μ-loop
-loop-holds c =
+sub-q-2 : tie.Need-sub-q-2
+sub-q-2 c =
     let o = c .before .before in
-    left-all (o .args .payload .now) (o .args .out .now) (o .args .start) (o .args .stop) (o .args .p) (o .pre .0)
+    omega (arith, part-length (o .args .start) (o .args .stop) (o .args .payload .now) (o .pre .0) (o .pre .1), o .pre .2 .few)
 
-put-bytes-requires : tie.Need-put-bytes-requires Inv-loop μ-loop
-put-bytes-requires c κs =
-    let o = c .before .before .before .before .before .before in
-    let l = c .before .before .before .loop .inv in
-    (l .from, omega (arith, l .upto, o .pre .1), rest-room l (o .pre .1) (o .pre .2))
+put : (a e p : ℕ) (s out : List ℕ) {x : List ℕ} → a ≤ e → e ≤ length s → Room (part a e s) p out
+    → x ≡ (if leb (p - (e - a) + length (part a e s)) (length out) then stored (p - (e - a)) (part a e s) out else out) → Stored (part a e s) p out (p - (e - a)) x
+put a e p s out h l room is =
+    let long = part-length a e s h l in
+    let ends : p - (e - a) + length (part a e s) ≡ p = omega (arith, room .few) in
+    let fits = le-leb (p - (e - a) + length (part a e s)) (length out) (omega (arith, room .inside)) in
+    in-place (part a e s) out (p - (e - a)) p ends (room .inside) (simp fits at is)
 
-returns : tie.Need-returns Inv-loop μ-loop
+returns : tie.Need-returns
 returns c =
-    let o = c .before .before .before .before .before .before .before .before .before in
-    left-none (c .before .before .before .before .before .before .loop .inv) (o .pre .1) (c .before .before .put-bytes .ensures)
-
-same-length : tie.Need-same-length Inv-loop μ-loop
-same-length c = returns c .long
-
-put-bytes-requires-2 : tie.Need-put-bytes-requires-2 Inv-loop μ-loop
-put-bytes-requires-2 c κs =
-    let o = c .before .before .before .before .before .before .before in
-    let l = c .before .before .before .before .loop .inv in
-    (l .from, omega (arith, l .upto, o .pre .1), rest-room l (o .pre .1) (o .pre .2))
-
-returns-2 : tie.Need-returns-2 Inv-loop μ-loop
-returns-2 c =
-    let o = c .before .before .before .before .before .before .before .before .before .before in
-    left-none (c .before .before .before .before .before .before .before .loop .inv) (o .pre .1) (c .before .before .put-bytes2 .ensures)
-
-same-length-2 : tie.Need-same-length-2 Inv-loop μ-loop
-same-length-2 c = returns-2 c .long
-
-copy-block-requires : tie.Need-copy-block-requires Inv-loop μ-loop
-copy-block-requires c κs =
-    let o = c .before .before .before .before .before .before .before in
-    let l = c .before .before .before .before .loop .inv in
-    (omega arith, omega (arith, l .upto, o .pre .1), omega arith, rest-room l (o .pre .1) (o .pre .2) .inside)
-
-sub-result-2 : tie.Need-sub-result-2 Inv-loop μ-loop
-sub-result-2 c =
-    let o = c .before .before .before .before .before .before .before .before .before .before .before in
-    left-few (c .before .before .before .before .before .before .before .before .loop .inv) (o .pre .1) (o .pre .2)
-
-returns-3 : tie.Need-returns-3 Inv-loop μ-loop
-returns-3 c =
-    let o = c .before .before .before .before .before .before .before .before .before .before .before in
-    let l = c .before .before .before .before .before .before .before .before .loop .inv in
-    left-block l (o .pre .1) (omega arith) (omega (arith, left-few l (o .pre .1) (o .pre .2))) (c .before .before .before .copy-block .ensures)
-
-same-length-3 : tie.Need-same-length-3 Inv-loop μ-loop
-same-length-3 c = returns-3 c .long
-
-loop-again : tie.Need-loop-again Inv-loop μ-loop
-loop-again c =
-    let o = c .before .before .before .before .before .before .before .before .before .before .before in
-    left-less (c .before .before .before .before .before .before .before .before .loop .inv) (o .pre .1) (omega arith) (c .before .before .before .copy-block .ensures)
-
-returns-4 : tie.Need-returns-4 Inv-loop μ-loop
-returns-4 c =
-    let o = c .before .before .before .before in
-    left-done (c .before .loop .inv) (o .pre .1) (omega arith)
-
-same-length-4 : tie.Need-same-length-4 Inv-loop μ-loop
-same-length-4 c = returns-4 c .long
+    let call = c .before .before in
+    let o = call .before .before .before .before .before in
+    put (o .args .start) (o .args .stop) (o .args .p) (o .args .payload .now) (o .args .out .now) (o .pre .0) (o .pre .1) (o .pre .2) (call .put-bytes .ensures .1)
 
 pub put-content-spec : {M : Type 1} → statement M
 put-content-spec =
     tie.close
     (tie.spec
-    Inv-loop
-    μ-loop
-    loop-holds
-    put-bytes-requires
-    same-length
-    returns
-    put-bytes-requires-2
-    same-length-2
-    returns-2
-    copy-block-requires
-    (λ c. c .before .before .before .before .before .before .before .loop .inv .from)
-    (λ c. c .before .before .before .before .before .before .before .before .loop .inv .from)
-    sub-result-2
-    same-length-3
-    returns-3
-    (λ c. omega arith)
-    loop-again
-    same-length-4
-    returns-4)
+    (λ c. search needs)
+    sub-q-2
+    (λ c. search needs)
+    (λ c. search needs)
+    (λ c. search needs)
+    (λ c κs. search needs)
+    (λ c. search needs)
+    returns)

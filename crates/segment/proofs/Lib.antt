@@ -1,0 +1,9 @@
+pub mod SegmentLaws
+pub mod CutLaws
+pub mod RangeLaws
+pub mod Cases
+pub mod EmitLaws
+pub mod ShortLengths
+pub mod JudgeLaws
+pub mod PutLaws
+pub mod OneAnswer

@@ -1,0 +1,4 @@
+pub mod Segment
+pub mod Cut
+pub mod Emit
+pub mod Judging
