@@ -9,7 +9,7 @@ cut: station without its last byte; bad: strings whose last byte is no UTF-8. Ea
 v1, vmix, v10: varints of one byte; mostly one and two bytes, some of four and ten; of ten bytes
 ascii, german, russian, mixed: words; a letter of two bytes in a third of them; words of two-byte letters; words of one to four bytes a letter
 fields: varints, strings, fixed values and groups nested ten deep; f-*: fields of one sort
-seg20, segstation, seg1k: segments of 1,000 messages of 20 bytes, of station messages, of 1,024 bytes; seg20k: of 50 messages of 20,000 bytes
+seg20, segstation, seg1k: segments of 1,000 messages of 20 bytes, of station messages, of 1,024 bytes; seg20k: of 50 messages of 20,000 bytes; seglong: seg20 with lengths of five bytes
 """
 import pathlib
 import struct
@@ -240,3 +240,5 @@ def segment(n, one):
 
 for name, n, one in (("seg20", 1000, lambda: some(20)), ("segstation", 1000, station), ("seg1k", 1000, lambda: some(1024)), ("seg20k", 50, lambda: some(20000))):
     (folder / name).write_bytes(segment(n, one))
+# as seg20, with each length in five bytes, which are more than it needs
+(folder / "seglong").write_bytes(b"WFM\1\0" + times(1000, lambda: b"\x94\x80\x80\x80\0" + some(20)))

@@ -4,7 +4,7 @@
  * A slice is a pointer and a length, in elements. Where the length is 0 the pointer may be anything but NULL.
  * The result is the refusal's number, 0 for none:
  *   1 input or enclosing length ends too soon   2 bad varint        3 bad tag           4 end-group tag with no group open
- *   5 int32 or enum out of range                6 string not UTF-8  7 too deep          8 more records than room
+ *   5 int32 or enum out of range                6 string not UTF-8  7 too deep          8 more records, or messages, than room
  *   9 bad schema                               10 bad list         11 above 2,147,483,647 bytes   12 output too short
  *  13 no segment: shorter than five bytes or another mark         14 a segment of another version
  * All else goes to the array `answer`, whatever the result is.

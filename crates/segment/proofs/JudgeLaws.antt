@@ -17,19 +17,13 @@ use Rattle.spec.specs.Varint.{encode}
 use Rattle.spec.specs.Writing as w
 use Rattle.spec.specs.Writing.{prefixed, Writing, number, index, output, sized}
 use Rattle.spec.proofs.Laws.{both-true}
-use Rattle.spec.proofs.VarintLaws.{length-encode}
 use Rattle.spec.proofs.SizeLaws.{sized-above, sized-short, sized-fits}
 use Rattle.sizes.specs.SizeParts.{capped}
-use Rattle.sizes.proofs.ValueSizes.{size-most}
 use Rattle.segment.specs.Segment.{frontSize, rangeStride, messages, segment, Range, range, rangesOf, contentsOf, lies, badRange, rangesFirst, writing}
 use Rattle.segment.proofs.SegmentLaws.{writing-well}
 use Rattle.segment.specs.Judging.{Judges, outside, inside, Tells}
 use Rattle.segment.specs.declared.writing.Judged.the-variants.{Bad, Size}
 use Rattle.segment.specs.declared.writing.Written.{Written}
-
--- a length takes at most ten bytes
-pub encode-most : (v : ℕ) → length (encode v) ≤ 10
-encode-most v = omega (arith, length-encode v, size-most v)
 
 -- ---- ranges in numbers, from the place i on
 

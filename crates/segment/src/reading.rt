@@ -73,7 +73,7 @@ fn counted(number: u32, to: usize, place: usize) -> Answer
 }
 
 // The messages whose lengths have up to three bytes, one after the other, where three bytes are left: most of a segment. It stops before whatever is not so, a fault
-// included, and the caller goes on from there. A byte after which another comes counts 128 too many.
+// included, and the caller goes on from there. A byte after which another comes is 128 above its digit: what that adds to the length, 128 or 128 * 128, is taken off.
 fn quick(s: &[u8], room: &mut [u64], most: usize, from: usize, used: usize) -> Spot
     requires { ⌜ (frontSize ≤ length (now s)) × (from ≤ length (now s)) × (most ≤ length (now room)) × (most % rangeStride ≡ 0)
         × (used ≤ most) × (used % rangeStride ≡ 0) ⌝ }

@@ -105,6 +105,7 @@ fn by_size(room: u64, size: u64) -> Written
     }
 }
 
+// The answer for ranges that were judged, and the room for their segment.
 fn answer(room: u64, judged: Judged) -> Written
     ensures { λ r. ⌜ ((payload : List ℕ) (rs : List Range) → Judges payload rs judged → Tells (writing room payload rs) r) ⌝ }
 {

@@ -2,15 +2,15 @@
 use borrow.Author.Needs.{needs}
 use native.Mathlib.Omega.{arith}
 use Rattle.spec.proofs.VarintLaws.{length-encode}
-use Rattle.segment.proofs.JudgeLaws.{encode-most}
+use Rattle.sizes.proofs.ValueSizes.{size-most}
 use Rattle.segment.proofs.writing.grown.Statement.{statement}
 use Rattle.segment.proofs.writing.grown.Tie as tie
 
 add-sum : tie.Need-add-sum
-add-sum c = let n = c .before .before .args .n in omega (arith, encode-most n, length-encode n)
+add-sum c = let n = c .before .before .args .n in omega (arith, size-most n)
 
 add-sum-2 : tie.Need-add-sum-2
-add-sum-2 c = let n = c .before .before .args .n in omega (arith, encode-most n, length-encode n)
+add-sum-2 c = let n = c .before .before .args .n in omega (arith, size-most n)
 
 returns-2 : tie.Need-returns-2
 returns-2 c = omega (arith, length-encode (c .before .before .before .args .n))
