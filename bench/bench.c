@@ -389,7 +389,7 @@ static void message(void)
 int main(int argc, char **argv)
 {
     static const char *messages[] = { "ints", "intmix", "packed", "nested", "strings", "station", "letters", "deep", "flat", "deep100", "cut", "bad", "tiny",
-                                      "ints.1M", "intmix.1M", "packed.1M", "nested.1M", "strings.1M", "station.1M", "letters.1M" };
+                                      "intmix100k", "packed100k", "ints.1M", "intmix.1M", "packed.1M", "nested.1M", "strings.1M", "station.1M", "letters.1M" };
     static const char *segments[] = { "seg20", "segstation", "seg1k", "seg20k", "seglong" };
     if (argc < 3) return 2;
     setlinebuf(stdout);

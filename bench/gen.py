@@ -5,6 +5,7 @@ Messages of bench.proto: ints, intmix: int32 fields of one byte; mostly short, s
 strings: short texts, mostly ASCII. station: all of these. letters: texts of two to four bytes a letter. deep, flat: the same 99 messages of 70 fields each inside the
 other, and side by side; deep100: 100 levels. tiny: one message of 21 bytes; many: 1,000 messages of 20 bytes, each with its length in one byte before it.
 cut: station without its last byte; bad: strings whose last byte is no UTF-8. Each NAME.1M is its input as often as makes 1 MB.
+intmix100k, packed100k: 100,000 values like those of intmix and packed, which do not repeat: a processor learns by heart which branches 10,000 of them take.
 
 v1, vmix, v10: varints of one byte; mostly one and two bytes, some of four and ten; of ten bytes
 ascii, german, russian, mixed: words; a letter of two bytes in a third of them; words of two-byte letters; words of one to four bytes a letter
@@ -153,6 +154,8 @@ alone = {
     "many": times(1000, lambda: (lambda b: bytes([len(b)]) + b)(small())),
     "cut": messages["station"][:-1],
     "bad": messages["strings"][:-1] + b"\xff",
+    "intmix100k": times(100000, lambda: tag_of(1, 0) + varint(int32())),
+    "packed100k": times(200, lambda: delimited(4, times(500, delta))),
 }
 for name, b in messages.items():
     (folder / name).write_bytes(b)

@@ -96,6 +96,9 @@ FAULTS = [
     ('an empty segment of no bytes', 'out = MARK + VERSION.to_bytes(2, \'little\') +', 'out = (MARK + VERSION.to_bytes(2, \'little\') if ranges else b\'\') +'),
     ('a search gives the last of equal entries', 'for i, e in enumerate(entries):\n        if e[:2] == (owner, num):', 'for i, e in reversed(list(enumerate(entries))):\n        if e[:2] == (owner, num):'),
 ]
+# each rung of the ladder of sizes one too high, alone
+RULE = 'return (max(v.bit_length(), 1) + 6) // 7'
+FAULTS += [('128 ^ %d takes one byte less' % k, RULE, '%s - (v == 128**%d)' % (RULE, k)) for k in range(1, 10)]
 
 
 def found(source, lines, answers):

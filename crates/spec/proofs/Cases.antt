@@ -1,13 +1,14 @@
--- The schemas A and B of the user's rules, and the cases that the rules mark to be proved, as one list under one statement; the numbers of the rules' tables.
+-- The schemas A and B of the user's rules, and the cases that the rules mark to be proved, as one list under one statement; the numbers of the rules' tables; sizes at each rung of the ladder.
 -- Assumes nothing.
 use Prim.Native.Nat.{ℕ}
 use mathlib.Core.Path.{_≡_, refl}
 use mathlib.Core.Bool.{Bool, true, false}
 use mathlib.Core.List.{List, [], _∷_, _++_, map}
 use lib.ListN.{replicate}
+use lib.Count.{leadingZeros}
 use Rattle.spec.specs.Names.{badMark, badTag, badVarint, boolKind, bytesKind, delimitedWire, doubleKind, endGroupWire, endsEarly, enumKind, fixed32Kind, fixed32Wire, fixed64Kind, fixed64Wire, floatKind, groupKind, int32Kind, int64Kind, invalidList, invalidSchema, largestNumber, messageKind, mostEntries, mostLevels, mostTypes, noGroupOpen, noRoom, notUtf8, otherVersion, outOfRange, outputShort, packedHead, sfixed32Kind, sfixed64Kind, sint32Kind, sint64Kind, startGroupWire, stringKind, tooDeep, tooLarge, uint32Kind, uint64Kind, unknownBytes, unknownFixed32, unknownFixed64, unknownVarint, varintWire}
 use Rattle.spec.specs.Base.{Read, Took, No, meaning, require, longer, _>>=_, digit, limited}
-use Rattle.spec.specs.Varint.{varint, unzigzag, fixed, tag}
+use Rattle.spec.specs.Varint.{varint, size, unzigzag, fixed, tag}
 use Rattle.spec.specs.Utf8.{lead, followers, behind, char, chars, validPrefix}
 use Rattle.spec.specs.Kind.{kindWires, ownWires, wires, wire, shapes, shape, isScalar, extend, scalar}
 use Rattle.spec.specs.Schema.{Schema, goodEntry, badEntry, badSchema, lookup, unknownKind, kindOf, says, saysOf}
@@ -114,3 +115,13 @@ limits-are = refl
 pub limit-is : limited 2147483647 ∷ limited 2147483648 ∷ [] ≡ Took 2147483647 0 ∷ No 11 ∷ []
 unfolding limited
 limit-is = refl
+
+-- ---- sizes on both sides of each rung of the ladder: 16,384 takes three bytes, where 16,383 takes two
+
+pub sizes-are :
+    map size (
+    0 ∷ 127 ∷ 128 ∷ 16383 ∷ 16384 ∷ 2097151 ∷ 2097152 ∷ 268435455 ∷ 268435456 ∷ 34359738367
+    ∷ 34359738368 ∷ 4398046511103 ∷ 4398046511104 ∷ 562949953421311 ∷ 562949953421312 ∷ 72057594037927935 ∷ 72057594037927936 ∷ 9223372036854775807 ∷ 9223372036854775808 ∷ 18446744073709551615 ∷ [])
+    ≡ 1 ∷ 1 ∷ 2 ∷ 2 ∷ 3 ∷ 3 ∷ 4 ∷ 4 ∷ 5 ∷ 5 ∷ 6 ∷ 6 ∷ 7 ∷ 7 ∷ 8 ∷ 8 ∷ 9 ∷ 9 ∷ 10 ∷ 10 ∷ []
+unfolding size leadingZeros
+sizes-are = refl

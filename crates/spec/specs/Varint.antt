@@ -1,5 +1,7 @@
 -- Varints, zigzag, little-endian numbers and tags, from the Encoding page. Assumes nothing: these are definitions. Public promises cite it.
-use Prim.Native.Nat.{ℕ, zero, suc, _+_, _-_, _*_, _/_, _%_, _^_, max}
+use Prim.Native.Nat.{ℕ, zero, suc, _+_, _-_, _*_, _/_, _%_, _^_, _≤_, _<_, max}
+use mathlib.Core.Path.{_≡_}
+use mathlib.Core.Logic.{_↔_}
 use mathlib.Core.Bool.{Bool, _&&_}
 use mathlib.Core.List.{List, [], _∷_}
 use lib.Dec.{leb, ltb, eqb}
@@ -38,6 +40,18 @@ bits v = 64 - leadingZeros 64 v
 
 unfoldable pub size : ℕ → ℕ
 size v = (max 1 (bits v) + 6) / 7
+
+-- The same rule as a ladder of powers of 128. A value stands on rung n when it is below 128 to the n and not below 128 to the n - 1. The first rung has no lower
+-- bound, so that 0 stands on it, and the last has no upper bound.
+pub record Rung (last v n : ℕ) : Type 0 where
+  pub low : 1 ≤ n
+  pub high : n ≤ last
+  pub reached : 1 < n → 128 ^ (n - 1) ≤ v
+  pub below : n < last → v < 128 ^ n
+
+-- A value takes n bytes exactly when it stands on rung n of ten: one byte below 128, ten from 128 to the 9 on. VarintLaws.size-ladder proves it.
+abbrev pub SizeLadder : Type 0
+SizeLadder = (v n : ℕ) → (size v ≡ n) ↔ Rung 10 v n
 
 abbrev pub tagSize : ℕ → ℕ
 tagSize number = size (number * 8)

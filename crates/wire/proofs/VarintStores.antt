@@ -1,7 +1,7 @@
 -- Storing the shortest varint a byte at a time: its two equations with no bound on the bytes in them, and what each store leaves to be done.
 -- Assumes nothing.
 use Prim.Native.Nat.{ℕ, zero, suc, _+_, _/_, _%_, _^_, _≤_, _<_}
-use native.Mathlib.Nat.{pow-suc, one-le-pow, zero-lt-suc}
+use native.Mathlib.Nat.{pow-suc}
 use native.Mathlib.Numerals.{add-one}
 use native.Mathlib.Omega.{arith}
 use mathlib.Core.Path.{_≡_, refl, sym, ap, _∙_}
@@ -9,7 +9,7 @@ use mathlib.Core.List.{List, [], _∷_}
 use lib.ListN.{length, set, length-set}
 use lib.Seq.{sets}
 use Rattle.spec.specs.Varint.{shortest, encode}
-use Rattle.spec.proofs.VarintLaws.{lower-or-not, shortest-ends, shortest-goes-on}
+use Rattle.spec.proofs.VarintLaws.{lower-or-not, shortest-ends, shortest-goes-on, shortest-rung, power-less, rung-from, rung-upto}
 
 -- one byte more than is needed changes nothing
 enough : (k v : ℕ) → v < 128 ^ suc k → shortest (suc k) v ≡ shortest k v
@@ -27,13 +27,12 @@ encode-ends v h = shortest-ends 9 v h
 pub encode-goes-on : (v : ℕ) → 128 ≤ v → v < 2 ^ 64 → encode v ≡ (128 + v % 128) ∷ encode (v / 128)
 encode-goes-on v h below = shortest-goes-on 8 v h ∙ ap (λ (l : List ℕ). (128 + v % 128) ∷ l) (sym (enough 8 (v / 128) (omega arith)))
 
--- from k groups of seven bits on, it has more than k bytes
+-- from k groups of seven bits on it has more than k bytes, and k groups take at most k bytes: the ladder of sizes
 pub bytes-beyond : (k v : ℕ) → 128 ^ k ≤ v → v < 2 ^ 64 → k < length (encode v)
-bytes-beyond zero v h below =
-    lower-or-not v 128 (λ c. rw (encode-ends v c) (omega arith)) (λ c. rw (encode-goes-on v c below) (omega arith))
-bytes-beyond (suc k) v h below =
-    let big : 128 ≤ v = omega (arith, pow-suc 128 k, one-le-pow k 128 (zero-lt-suc 127)) in
-    rw (encode-goes-on v big below) (omega (arith, bytes-beyond k (v / 128) (omega (arith, pow-suc 128 k)) (omega arith)))
+bytes-beyond k v h below = rung-from k (shortest-rung 9 v) (power-less k 10 v h (omega arith)) h
+
+pub bytes-within : (k v : ℕ) → 1 ≤ k → v < 128 ^ k → length (encode v) ≤ k
+bytes-within k v some h = rung-upto k (shortest-rung 9 v) some h
 
 -- v stands to be stored at i of `out`, which then is what storing the whole makes of the slice as it was
 pub record Storing (value : ℕ) (before : List ℕ) (at : ℕ) (out : List ℕ) (v i : ℕ) : Type 0 where
@@ -73,11 +72,3 @@ module _ {value : ℕ} {before : List ℕ} {at : ℕ} {out : List ℕ} {v i : �
   stored-last small e =
       let one = encode-ends v small in
       (omega (arith, ap length one), rw one at (h .same))
-
--- k + 1 groups of seven bits take at most k + 1 bytes
-pub bytes-within : (k v : ℕ) → v < 128 ^ suc k → v < 2 ^ 64 → length (encode v) ≤ suc k
-bytes-within zero v h below = rw (encode-ends v h) (omega arith)
-bytes-within (suc k) v h below =
-    lower-or-not v 128
-    (λ c. rw (encode-ends v c) (omega arith))
-    (λ c. rw (encode-goes-on v c below) (omega (arith, bytes-within k (v / 128) (omega (arith, pow-suc 128 (suc k))) (omega arith))))

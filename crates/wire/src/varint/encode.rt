@@ -2,7 +2,7 @@
 use super::LONGEST;
 use crate::put::Put;
 ghost use mathlib.Core.Path.{_≡_};
-ghost use Prim.Native.Nat.{_+_, _^_, _≤_};
+ghost use Prim.Native.Nat.{_+_, _^_, _≤_, _<_};
 ghost use lib.ListN.{length};
 ghost use lib.Seq.{sets};
 ghost use Rattle.spec.specs.Base.{filled};
@@ -12,20 +12,52 @@ ghost use Rattle.wire.specs.Answers.{Stored};
 // The most bytes of a varint of 32 bits.
 const LONGEST_OF_32: usize = 5;
 
-// The least values whose varints take three, five and nine bytes: 128 ^ 2, 128 ^ 4, 128 ^ 8.
-const THREE_BYTES: u64 = 0x4000;
+// Rungs of the size ladder: the least values whose varints take two bytes, three, four, five, nine and ten. A byte has seven bits of the value, so each rung is
+// 128 times the one before it: 128, 16,384, 2,097,152 and so on.
+const TWO_BYTES: u64 = 128;
 
-const FIVE_BYTES: u64 = 0x1000_0000;
+const THREE_BYTES: u64 = 128 * TWO_BYTES;
 
-const NINE_BYTES: u64 = 0x100_0000_0000_0000;
+const FOUR_BYTES: u64 = 128 * THREE_BYTES;
 
-// How many bytes the shortest varint of `value` has: its significant bits, at least 1, plus 6, divided by 7. That is (9 * bits + 64) / 64 for all 65
-// counts, with no branch and no division; the bits are 64 less the leading zeros.
+const FIVE_BYTES: u64 = 128 * FOUR_BYTES;
+
+const NINE_BYTES: u64 = FIVE_BYTES * FIVE_BYTES;
+
+const TEN_BYTES: u64 = 128 * NINE_BYTES;
+
+// How many bytes the shortest varint of a value below 2,097,152 has: one below 128, two below 16,384, else three. It is a function of its own so that the compiler
+// does without a branch, which would be mispredicted where sizes change.
+fn short_varint64_len(value: u64) -> usize
+    requires { ⌜ value < 128 ^ 3 ⌝ }
+    ensures { λ r. ⌜ r ≡ size value ⌝ }
+{
+    if value < TWO_BYTES {
+        1
+    } else if value < THREE_BYTES {
+        2
+    } else {
+        3
+    }
+}
+
+// The same of any value: one byte, and one more for each rung that it reaches; after the rung of ten bytes there is none.
 pub fn encoded_varint64_len(value: u64) -> usize
     ensures { λ r. ⌜ r ≡ size value ⌝ }
 {
-    let zeros = u64::leading_zeros(value) as usize;
-    (640 - 9 * zeros) / 64
+    if value < FOUR_BYTES {
+        return short_varint64_len(value);
+    }
+    if TEN_BYTES <= value {
+        return LONGEST;
+    }
+    let mut bytes = 4;
+    let mut rung = FIVE_BYTES;
+    while rung <= value {
+        rung = rung * 128;
+        bytes += 1;
+    }
+    bytes
 }
 
 // Stores the first eight bytes of a varint of nine or ten, each of which has more after it, and returns what is left of the value.

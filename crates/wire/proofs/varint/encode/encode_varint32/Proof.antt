@@ -11,7 +11,7 @@ use Rattle.wire.proofs.varint.encode.encode_varint32.Statement.{stateme
 use Rattle.wire.proofs.varint.encode.encode_varint32.Tie as tie
 
 room : (c : tie.After-store-arg) → length (encode (c .before .args .value)) ≤ length (c .before .args .buf .now)
-room c = omega (arith, bytes-within 4 (c .before .args .value) (omega arith) (omega arith))
+room c = omega (arith, bytes-within 5 (c .before .args .value) (omega arith) (omega arith))
 
 store-requires : tie.Need-store-requires
 store-requires c κs = omega (arith, room c)

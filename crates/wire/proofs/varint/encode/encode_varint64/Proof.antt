@@ -11,7 +11,7 @@ use Rattle.wire.proofs.varint.encode.encode_varint64.Statement.{stateme
 use Rattle.wire.proofs.varint.encode.encode_varint64.Tie as tie
 
 room : (c : tie.After-store-arg) → length (encode (c .before .args .value)) ≤ length (c .before .args .buf .now)
-room c = omega (arith, bytes-within 9 (c .before .args .value) (omega arith) (omega arith))
+room c = omega (arith, bytes-within 10 (c .before .args .value) (omega arith) (omega arith))
 
 store-requires : tie.Need-store-requires
 store-requires c κs = omega (arith, room c)

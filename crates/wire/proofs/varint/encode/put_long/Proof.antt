@@ -26,7 +26,7 @@ room c =
     let start = c .before .before .before in
     ⊎-elim
     (λ w. omega (arith, length-encode (start .args .value)))
-    (λ w. omega (arith, bytes-within 9 (start .args .value) (omega arith) (omega arith)))
+    (λ w. omega (arith, bytes-within 10 (start .args .value) (omega arith) (omega arith)))
     (c .if2 .came)
 
 store-requires : tie.Need-store-requires
