@@ -12,7 +12,7 @@ returns-2 : tie.Need-returns-2
 returns-2 c = sym (size-between 2 (c .before .before .args .value) (omega arith) (omega arith) (omega arith) (omega arith))
 
 returns-3 : tie.Need-returns-3
-returns-3 c = sym (size-between 3 (c .before .before .args .value) (omega arith) (omega arith) (omega (arith)) (omega arith))
+returns-3 c = sym (size-between 3 (c .before .before .args .value) (omega arith) (omega arith) (omega arith) (omega arith))
 
 pub short-varint64-len-spec : {M : Type 1} → statement M
 short-varint64-len-spec = tie.close (tie.spec returns returns-2 returns-3)
