@@ -5,7 +5,7 @@ Messages of bench.proto: ints, intmix: int32 fields of one byte; mostly short, s
 strings: short texts, mostly ASCII. station: all of these. letters: texts of two to four bytes a letter. deep, flat: the same 99 messages of 70 fields each inside the
 other, and side by side; deep100: 100 levels. tiny: one message of 21 bytes; many: 1,000 messages of 20 bytes, each with its length in one byte before it.
 cut: station without its last byte; bad: strings whose last byte is no UTF-8. Each NAME.1M is its input as often as makes 1 MB.
-intmix100k, packed100k: 100,000 values like those of intmix and packed, which do not repeat: a processor learns by heart which branches 10,000 of them take.
+intmix100k, packed100k: 100,000 values like those of intmix and packed. A processor learns which branches 10,000 values take that come again and again; these are too many for that.
 
 v1, vmix, v10: varints of one byte; mostly one and two bytes, some of four and ten; of ten bytes
 ascii, german, russian, mixed: words; a letter of two bytes in a third of them; words of two-byte letters; words of one to four bytes a letter
