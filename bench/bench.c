@@ -98,6 +98,14 @@ static uint64_t ours_many_prepared(void)
     return sum;
 }
 
+/* how many of them are documents */
+static uint64_t ours_many_document(void)
+{
+    uint64_t sum = 0;
+    for (size_t at = 0; at < n; at += s[at] + 1) sum += calf_is_document(s + at + 1, s[at]);
+    return sum;
+}
+
 /* a segment to ranges in values, and from these ranges of it; `count` is how many numbers they are */
 static uint64_t ours_segread(void)
 {
@@ -131,6 +139,13 @@ static uint64_t driver_many(void)
 {
     uint64_t sum = 0;
     for (size_t at = 0; at < n; at += s[at] + 1) sum += crate_records(s + at + 1, s[at], schema, 9, room2, RECORDS);
+    return sum;
+}
+
+static uint64_t driver_many_document(void)
+{
+    uint64_t sum = 0;
+    for (size_t at = 0; at < n; at += s[at] + 1) sum += crate_run(s + at + 1, s[at]);
     return sum;
 }
 
@@ -252,8 +267,12 @@ static const struct { const char *input, *name, *peer; call *here, *there; } lea
     { "f-fixed", "skip", "crate", ours_skip, driver_skip },
     { "f-group", "skip", "crate", ours_skip, driver_skip },
     { "f-tag2", "skip", "crate", ours_skip, driver_skip },
-    { "fields", "document", "crate", ours_document, driver_document },
+    { "groups", "document", "crate", ours_document, driver_document },
     { "f-group", "document", "crate", ours_document, driver_document },
+    { "ints", "document", "crate", ours_document, driver_document },
+    { "station", "document", "crate", ours_document, driver_document },
+    { "tiny", "document", "crate", ours_document, driver_document },
+    { "many", "document", "crate", ours_many_document, driver_many_document },
     { "many", "read", "crate", ours_many, driver_many },
     { "many", "prepared", "crate", ours_many_prepared, driver_many },
 };

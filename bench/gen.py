@@ -9,7 +9,7 @@ intmix100k, packed100k: 100,000 values like those of intmix and packed. A proces
 
 v1, vmix, v10: varints of one byte; mostly one and two bytes, some of four and ten; of ten bytes
 ascii, german, russian, mixed: words; a letter of two bytes in a third of them; words of two-byte letters; words of one to four bytes a letter
-fields: varints, strings, fixed values and groups nested ten deep; f-*: fields of one sort
+fields: varints, strings, fixed values and groups nested ten deep, which end under any number; groups: the same sorts, in which each group ends under its own; f-*: fields of one sort
 seg20, segstation, seg1k: segments of 1,000 messages of 20 bytes, of station messages, of 1,024 bytes; seg20k: of 50 messages of 20,000 bytes; seglong: seg20 with lengths of five bytes
 """
 import pathlib
@@ -214,7 +214,8 @@ def string(n):
     return string_of(some(n))
 
 
-def field(depth):
+def field(depth, end):
+    """A field; a group of fields ends with what `end` makes of its start tag."""
     r = rnd(100)
     if r < 50 or r >= 91 and depth == 10:
         return tag(0) + varint(number())
@@ -224,10 +225,11 @@ def field(depth):
         return tag(5) + some(4)
     if r < 91:
         return tag(1) + some(8)
-    return tag(3) + b"".join(field(depth + 1) for _ in range(1 + rnd(9))) + tag(4)
+    start = tag(3)
+    return start + b"".join(field(depth + 1, end) for _ in range(1 + rnd(9))) + end(start)
 
 
-put("fields", lambda: field(1))
+put("fields", lambda: field(1, lambda start: tag(4)))
 put("f-varint1", lambda: b"\x08" + bytes([rnd(128)]))
 put("f-varint10", lambda: b"\x08" + varint(2**64 - 1 - rnd(1000)))
 put("f-string", lambda: b"\x12" + string(3))
@@ -245,3 +247,6 @@ for name, n, one in (("seg20", 1000, lambda: some(20)), ("segstation", 1000, sta
     (folder / name).write_bytes(segment(n, one))
 # as seg20, with each length in five bytes, which are more than it needs
 (folder / "seglong").write_bytes(b"WFM\1\0" + times(1000, lambda: b"\x94\x80\x80\x80\0" + some(20)))
+
+# after all others, which it must not change: the wire type of an end tag is one more than the start's
+put("groups", lambda: field(1, lambda start: bytes([start[0] + 1]) + start[1:]))

@@ -48,7 +48,7 @@ uint32_t calf_skip_field_for_tag(uint32_t tag, const uint8_t *s, size_t s_len, u
 /* The same as reading does it with a field that the schema does not have: the outermost group is not counted, and must end. */
 uint32_t calf_read_unknown_or_skip_group(uint32_t tag, const uint8_t *s, size_t s_len, uint32_t level, uint64_t answer[1]);
 
-/* Whether s is a run of fields, with at most 100 groups open. No length is opened. */
+/* Whether s is a run of fields, with at most 100 groups open, each ended under its own number (reading and the skips above take any end). No length is opened. */
 bool calf_is_document(const uint8_t *s, size_t s_len);
 
 /* ---- a schema */

@@ -1,7 +1,8 @@
 #!/usr/bin/env python3
 """gen.py LINES SEED [GROUP]: writes so many case lines. First short inputs, all of them where LINES is 1,000,000 or more (else every so-many-th); then lines of every
-verb, valid, damaged and adversarial, by a seeded random choice. GROUP is `messages` or `segments`, for the lines of segment files or for all others; without it
-there are lines of both."""
+verb, valid, damaged and adversarial, by a seeded random choice. GROUP is `segments` for the lines of segment files, `documents` for those of groups that end under
+their own number or another, `messages` for all others; without it there are lines of each."""
+import itertools
 import random
 import sys
 
@@ -680,7 +681,81 @@ def range_word(ranges):
     return ';'.join('%d-%d' % x for x in ranges) or '-'
 
 
+class Documents(Maker):
+    """Lines of groups that end under their own number or another: what the document check says, and that reading and both skips do not look. A run of fields is a
+    list of pieces: a start or end tag as (number, wire type), any other field as its bytes."""
+
+    def near(self, n):
+        """Another number: next to n, or one bit away."""
+        r = self.r
+        other = r.choice([n + 1, n - 1, n ^ 1 << r.randrange(29), n ^ 1 << r.choice([4, 8, 16, 24, 28]), self.number()])
+        return other if 0 < other <= MAX_NUMBER and other != n else n % MAX_NUMBER + 1
+
+    def fields(self, deep):
+        """Fields and groups, in which every group ends under its own number."""
+        r, out = self.r, []
+        for _ in range(r.choice([0, 1, 1, 2, 3])):
+            n = self.number()
+            out += [(n, 3)] + self.fields(deep - 1) + [(n, 4)] if deep and r.random() < .7 else [self.unknown(r.choice([0, 1, 2, 5]), n)]
+        return out
+
+    def spelled(self, pieces):
+        """The bytes of the pieces, tags now and then longer than needed."""
+        out = b''
+        for x in pieces:
+            b = x if isinstance(x, bytes) else tag(*x)
+            out += longer(x[0] * 8 + x[1], self.r.randrange(len(b), 6)) if not isinstance(x, bytes) and self.r.random() < .1 else b
+        return out
+
+    def spoilt(self, pieces):
+        """One end tag of another number, two of them exchanged, one left out, or one too many."""
+        r, out = self.r, list(pieces)
+        ends = [i for i, x in enumerate(out) if not isinstance(x, bytes) and x[1] == 4]
+        if not ends:
+            return out + [(self.number(), 4)]
+        i, j = r.choice(ends), r.choice(ends)
+        way = r.randrange(6)
+        if way < 3:
+            out[i] = (self.near(out[i][0]), 4)
+        elif way == 3:
+            out[i], out[j] = out[j], out[i]
+        elif way == 4:
+            del out[i]
+        else:
+            out.insert(i, out[j])
+        return out
+
+    def asked(self, pieces):
+        """The check of these pieces; and, where a group is first, reading it and both skips from its tag on."""
+        b = self.spelled(pieces)
+        lines = ['document ' + hexed(b)]
+        if pieces and not isinstance(pieces[0], bytes):
+            rest = self.spelled(pieces[1:])
+            lines += ['%s %d %d %s' % (v, self.r.choice([0, 0, 1, 98, 99, 100]), pieces[0][0] * 8 + pieces[0][1], hexed(rest)) for v in ('skip', 'group')]
+            lines.append('read %s 9 %s' % (A, hexed(b)))
+        return lines
+
+    def nests(self):
+        pieces = self.fields(4)
+        return self.asked(pieces) + self.asked(self.spoilt(pieces)) + self.asked(self.spoilt(pieces))
+
+    def cuts(self):
+        """Every cut of a document."""
+        b = self.spelled(self.fields(3))[:60]
+        return ['document ' + hexed(b[:i]) for i in range(len(b) + 1)]
+
+    def depths(self):
+        """About 100 groups, one in the other, of different numbers: ended right, one of them under another number, and in the order in which they began."""
+        r = self.r
+        numbers = [self.number() for _ in range(r.choice([1, 2, 3, 98, 99, 100, 100, 101, 102]))]
+        starts, ends = [(n, 3) for n in numbers], [(n, 4) for n in reversed(numbers)]
+        i = r.choice([0, len(ends) - 1, r.randrange(len(ends))])
+        other = ends[:i] + [(self.near(ends[i][0]), 4)] + ends[i + 1:]
+        return [line for some in (ends, other, ends[::-1]) for line in self.asked(starts + some)]
+
+
 # the families of each group, each as often as it says
+DOCUMENTS = [('nests', 90), ('cuts', 5), ('depths', 5)]
 SEGMENTS = [('reads', 300), ('cuts', 20), ('writes', 400), ('no_case', 40), ('long', 1)]
 FAMILIES = [('leaf', 6), ('utf8', 5), ('groups', 8), ('schemas', 6), ('reads', 22), ('cuts', 3), ('rooms', 4), ('packed', 8), ('deep', 2), ('lists', 18), ('exact', 3), ('pulls', 14), ('no_case', 1)]
 MATTER = bytes.fromhex('00 01 02 05 06 07 08 09 0a 0b 0c 0d 0e 0f 10 12 13 1a 1c 20 22 24 25 2d 38 7f 80 81 ff')
@@ -713,6 +788,13 @@ def short_segments():
         yield 'segread 2 ' + hexed(FRONT + b)
 
 
+def short_documents():
+    """Every run of up to six start and end tags of three numbers."""
+    tags = [tag(n, wire) for n in (1, 2, 16) for wire in (3, 4)]
+    for count in range(7):
+        yield from ('document ' + hexed(b''.join(some)) for some in itertools.product(tags, repeat=count))
+
+
 def families(make, weights):
     """One family after the other, by the choice of the maker's own random numbers."""
     names = [n for n, w in weights for _ in range(w)]
@@ -726,15 +808,16 @@ def main():
     out = sys.stdout
     every = 1 if count >= 1000000 else 1000000 // max(count, 1) + 1
     given = 0
-    starts = {'messages': [short()], 'segments': [short_segments()], '': [short(), short_segments()]}[group]
+    starts = {'messages': [short()], 'segments': [short_segments()], 'documents': [short_documents()], '': [short(), short_segments(), short_documents()]}[group]
     for i, line in enumerate(line for start in starts for line in start):
         if i % every == seed % every:
             out.write(line + '\n')
             given += 1
-    messages, segments = families(Lines(seed), FAMILIES), families(Segments(seed), SEGMENTS)
+    groups = {'messages': families(Lines(seed), FAMILIES), 'segments': families(Segments(seed), SEGMENTS), 'documents': families(Documents(seed), DOCUMENTS)}
     which = random.Random(seed)
+    mixed = ['segments'] * 3 + ['documents'] + ['messages'] * 16
     while given < count:
-        lines = next(segments if group == 'segments' or not group and which.random() < .15 else messages)
+        lines = next(groups[group or which.choice(mixed)])
         for line in lines[:count - given]:
             out.write(line + '\n')
         given += min(len(lines), count - given)

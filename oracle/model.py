@@ -230,24 +230,23 @@ def skip(b, at, end, level, tag, counted):
 
 
 def document(b):
-    at, opened = 0, 0
+    at, opened = 0, []  # the numbers of the groups that are open, the innermost last
     try:
         while at < len(b):
             tag, at = varint32(b, at, len(b))
-            wire = judged(tag)[1]
+            num, wire = judged(tag)
             if wire == 3:
-                opened += 1
-                if opened > 100:
+                opened.append(num)
+                if len(opened) > 100:
                     return False
             elif wire == 4:
-                opened -= 1
-                if opened < 0:
+                if not opened or opened.pop() != num:
                     return False
             else:
                 at = past(b, at, len(b), wire)
     except Refused:
         return False
-    return opened == 0
+    return not opened
 
 
 # ---- schemas

@@ -2,21 +2,21 @@
 use Prim.Native.Nat.{ℕ, zero, suc, _+_, _-_, _/_, _%_, _≤_, _<_}
 use native.Mathlib.Omega.{arith}
 use native.Mathlib.Numerals.{add-one}
-use mathlib.Core.Path.{_≡_, refl, sym, ap, ap₂, _∙_}
-use mathlib.Core.Bool.{Bool, false}
+use mathlib.Core.Path.{_≡_, refl, sym, ap, ap₂, _∙_, subst}
+use mathlib.Core.Bool.{Bool, true, false}
 use mathlib.Core.Logic.{inl, inr}
 use mathlib.Core.List.{List, [], _∷_}
 use lib.ListN.{length, drop, getD, set, length-drop, length-set, drop-of-length-le}
 use lib.Seq.{getD-set-same, getD-set-other}
 use lib.Dec.{eqb}
-use borrow.Author.Tests.{le-leb, lt-leb, le-ltb, eq-eqb, ne-eqb}
+use borrow.Author.Tests.{le-leb, lt-leb, le-ltb, eq-eqb, ne-eqb, eqb-true, eqb-false}
 use Rattle.spec.specs.Names.{endGroupWire, mostLevels, startGroupWire}
 use Rattle.spec.specs.Base.{limit, Read, Took, No, longer}
 use Rattle.spec.specs.Varint.{tag}
 use Rattle.spec.specs.Skip.{plain}
-use Rattle.spec.specs.Document.{Step, Stop, passed, closed, step, goOn, isNil, isRun, isDocument}
+use Rattle.spec.specs.Document.{Step, Go, Stop, passed, step, goOn, isNil, isRun, isDocument}
 use Rattle.spec.proofs.VarintLaws.{top}
-use Rattle.spec.proofs.DocumentLaws.{walk, walk-step, step-start, step-end, step-value}
+use Rattle.spec.proofs.DocumentLaws.{walk, walk-step, step-start, step-end, step-other, step-none, step-value}
 use Rattle.wire.proofs.FoundLaws.{Placed}
 use Rattle.skip.specs.declared.field.Past.the-variants.{To, Refused}
 use Rattle.skip.specs.Passed.{behind}
@@ -46,37 +46,27 @@ unfolding opened
 opened-less numbers zero h = absurd (h refl)
 opened-less numbers (suc n) h = let q : suc n - 1 ≡ n = omega arith in rw q refl
 
--- ---- the loop is at the byte `at` with n groups open, and what is to be said of all is what is said from here
+-- ---- one iteration: what is said of all the bytes is what is said from the byte `at` on, with the groups o open
 
 -- what the walk says of all the bytes
 abbrev pub run : List ℕ → Bool
-run s = isRun (length s) [] s
+run s = walk [] s
 
-pub record Here (s numbers : List ℕ) (n at : ℕ) : Type 0 where
-  pub room : length numbers ≡ mostLevels
-  pub few : n ≤ mostLevels
-  pub rest : run s ≡ walk (opened numbers n) (drop at s)
+pub record From (said : Bool) (s o : List ℕ) (at : ℕ) : Type 0 where
+  pub rest : said ≡ walk o (drop at s)
 
-pub start : (s numbers : List ℕ) → length numbers ≡ mostLevels → Here s numbers 0 0
-unfolding opened
-start s numbers r = record { room = r; few = omega arith; rest = refl }
-
-module _ {s numbers : List ℕ} {n at : ℕ} (h : Here s numbers n at) where
+module _ {said : Bool} {s o : List ℕ} {at : ℕ} (h : From said s o at) where
   -- no byte is left
-  pub finish : length s ≤ at → eqb n 0 ≡ run s
-  unfolding isRun opened
-  finish l = go n ∙ sym (h .rest ∙ ap (walk (opened numbers n)) (drop-of-length-le s l))
-    where
-      go : (k : ℕ) → eqb k 0 ≡ isNil (opened numbers k)
-      go zero = refl
-      go (suc k) = ne-eqb (suc k) 0 (λ e. omega arith)
+  pub no-more : length s ≤ at → isNil o ≡ said
+  unfolding isRun
+  no-more l = sym (h .rest ∙ ap (walk o) (drop-of-length-le s l))
 
   -- no tag
-  pub bad-tag : (k : ℕ) → at < length s → No k ≡ tag (drop at s) → false ≡ run s
+  pub bad-tag : (k : ℕ) → at < length s → No k ≡ tag (drop at s) → false ≡ said
   unfolding isRun step goOn
   bad-tag k l r = sym (h .rest ∙ go (drop at s) (rw length-drop (omega arith)) (sym r))
     where
-      go : (u : List ℕ) → 0 < length u → tag u ≡ No k → walk (opened numbers n) u ≡ false
+      go : (u : List ℕ) → 0 < length u → tag u ≡ No k → walk o u ≡ false
       go [] l e = absurd (omega arith)
       go (b ∷ u) l e = rw e refl
 
@@ -88,72 +78,118 @@ module _ {s numbers : List ℕ} {n at : ℕ} (h : Here s numbers n at) where
     behind-tag : drop (next - at) (drop at s) ≡ drop next s
     behind-tag = let b = bounds in drop-to at next s (omega arith)
 
-    turned : (x : Step) → step (opened numbers n) (drop at s) (Took t (next - at)) ≡ x
-        → run s ≡ goOn x (λ o m. walk o (drop m (drop at s)))
-    turned x e = h .rest ∙ walk-step (opened numbers n) (drop at s) t (next - at) (sym r) ∙ ap (λ (y : Step). goOn y (λ o m. walk o (drop m (drop at s)))) e
+    turned : (x : Step) → step o (drop at s) (Took t (next - at)) ≡ x → said ≡ goOn x (λ p m. walk p (drop m (drop at s)))
+    turned x e = h .rest ∙ walk-step o (drop at s) t (next - at) (sym r) ∙ ap (λ (y : Step). goOn y (λ p m. walk p (drop m (drop at s)))) e
 
-    stopped : step (opened numbers n) (drop at s) (Took t (next - at)) ≡ Stop → false ≡ run s
+    stopped : step o (drop at s) (Took t (next - at)) ≡ Stop → false ≡ said
     unfolding goOn
     stopped e = sym (turned Stop e)
 
-    -- a group is opened, where fewer than `mostLevels` are open
-    pub opens : t % 8 ≡ startGroupWire → n < mostLevels → Here s (set numbers n (t / 8)) (n + 1) next
+    -- a start-group tag: it opens a group, where fewer than `mostLevels` are open
+    pub opens : t % 8 ≡ startGroupWire → length o < mostLevels → From said s (t / 8 ∷ o) next
     unfolding goOn
-    opens w l = record {
-      room = length-set numbers n (t / 8) ∙ h .room;
-      few = omega arith;
-      rest = turned _ (step-start (opened numbers n) [] (drop at s) t (next - at) w (rw (length-opened numbers n) l))
-          ∙ ap₂ walk (sym (opened-more numbers (t / 8) n (omega (arith, h .room)))) behind-tag;
-    }
+    opens w l = record { rest = turned _ (step-start o [] (drop at s) t (next - at) w l) ∙ ap (walk (t / 8 ∷ o)) behind-tag }
 
-    pub too-many : t % 8 ≡ startGroupWire → mostLevels ≤ n → false ≡ run s
+    pub too-many : t % 8 ≡ startGroupWire → mostLevels ≤ length o → false ≡ said
     unfolding step
-    too-many w l = stopped (rw (eq-eqb (t % 8) startGroupWire w, length-opened numbers n, le-ltb n mostLevels l) refl)
+    too-many w l = stopped (rw (eq-eqb (t % 8) startGroupWire w, le-ltb (length o) mostLevels l) refl)
 
-    -- the innermost group is closed, where one is open
-    pub closes : t % 8 ≡ endGroupWire → (n ≡ 0 → ⊥) → Here s numbers (n - 1) next
-    unfolding goOn
-    closes w l = record {
-      room = h .room;
-      few = omega (arith, h .few);
-      rest = turned _
-          (ap (λ (o : List ℕ). step o (drop at s) (Took t (next - at))) (opened-less numbers n l)
-          ∙ step-end (opened numbers (n - 1)) [] (drop at s) (getD numbers (n - 1) 0) t (next - at) w)
-          ∙ ap (walk (opened numbers (n - 1))) behind-tag;
-    }
+    -- an end-group tag: it closes the innermost group, where one is open and has its number
+    module _ (w : t % 8 ≡ endGroupWire) where
+      pub none-open : o ≡ [] → false ≡ said
+      none-open z = stopped (rw z (step-none [] [] (drop at s) t (next - at) w))
 
-    pub none-open : t % 8 ≡ endGroupWire → n ≡ 0 → false ≡ run s
-    unfolding step closed opened
-    none-open w z = stopped (rw (ne-eqb (t % 8) startGroupWire (λ e. omega arith), eq-eqb (t % 8) endGroupWire w, z) refl)
+      module _ (y : ℕ) (p : List ℕ) (inner : o ≡ y ∷ p) where
+        pub closes : t / 8 ≡ y → From said s p next
+        unfolding goOn
+        closes same = record { rest = turned (Go p (next - at)) (rw inner (step-end p [] (drop at s) y t (next - at) w same)) ∙ ap (walk p) behind-tag }
+
+        pub other-number : (t / 8 ≡ y → ⊥) → false ≡ said
+        other-number differs = stopped (rw inner (step-other p [] (drop at s) y t (next - at) w differs))
 
     -- a value that is no group's
     valued : (x : Read) → (t % 8 ≡ startGroupWire → ⊥) → (t % 8 ≡ endGroupWire → ⊥) → plain (t % 8) (drop next s) ≡ x
-        → step (opened numbers n) (drop at s) (Took t (next - at)) ≡ passed (opened numbers n) (longer (next - at) x)
+        → step o (drop at s) (Took t (next - at)) ≡ passed o (longer (next - at) x)
     valued x a b e =
-        step-value (opened numbers n) [] (drop at s) t (next - at) a b
-        ∙ ap (λ (u : List ℕ). passed (opened numbers n) (longer (next - at) (plain (t % 8) u))) behind-tag
-        ∙ ap (λ (y : Read). passed (opened numbers n) (longer (next - at) y)) e
+        step-value o [] (drop at s) t (next - at) a b
+        ∙ ap (λ (u : List ℕ). passed o (longer (next - at) (plain (t % 8) u))) behind-tag
+        ∙ ap (λ (y : Read). passed o (longer (next - at) y)) e
 
-    pub value : (q : ℕ) → To q ≡ behind next (plain (t % 8) (drop next s)) → (next ≤ q) × Here s numbers n q
+    pub value : (q : ℕ) → To q ≡ behind next (plain (t % 8) (drop next s)) → (next ≤ q) × From said s o q
     unfolding passed longer goOn
     value q f = go (plain (t % 8) (drop next s)) refl (behind-of next q _ f)
       where
-        go : (x : Read) → plain (t % 8) (drop next s) ≡ x → Behind next q x → (next ≤ q) × Here s numbers n q
+        go : (x : Read) → plain (t % 8) (drop next s) ≡ x → Behind next q x → (next ≤ q) × From said s o q
         go (Took v m) e (stands p) =
             let b = bounds in
             let p′ : next - at + m ≡ q - at = omega arith in (
               omega arith,
               record {
-                room = h .room;
-                few = h .few;
                 rest = turned _ (valued (Took v m) (λ w. no-value next q (t % 8) (drop next s) (inl w) f) (λ w. no-value next q (t % 8) (drop next s) (inr w) f) e)
                     ∙ rw (p′, drop-to at q s (omega arith));
               },
             )
 
-    pub lost : (k : ℕ) → (t % 8 ≡ startGroupWire → ⊥) → (t % 8 ≡ endGroupWire → ⊥) → Refused k ≡ behind next (plain (t % 8) (drop next s)) → false ≡ run s
+    pub lost : (k : ℕ) → (t % 8 ≡ startGroupWire → ⊥) → (t % 8 ≡ endGroupWire → ⊥) → Refused k ≡ behind next (plain (t % 8) (drop next s)) → false ≡ said
     unfolding passed longer
     lost k a b f = stopped (valued (No k) a b (refused-of next k _ f))
+
+    -- the same where no group is open: an end-group tag is no value either
+    pub lost-outside : (k : ℕ) → o ≡ [] → (t % 8 ≡ startGroupWire → ⊥) → Refused k ≡ behind next (plain (t % 8) (drop next s)) → false ≡ said
+    lost-outside k z a f = go (eqb (t % 8) endGroupWire) refl
+      where
+        go : (b : Bool) → eqb (t % 8) endGroupWire ≡ b → false ≡ said
+        go true e = none-open (eqb-true (t % 8) endGroupWire e) z
+        go false e = lost k a (eqb-false (t % 8) endGroupWire e) f
+
+-- ---- the loop with groups: the first n of the numbers are those of the open groups
+
+pub record Here (said : Bool) (s numbers : List ℕ) (n at : ℕ) : Type 0 where
+  pub room : length numbers ≡ mostLevels
+  pub few : n ≤ mostLevels
+  pub rest : From said s (opened numbers n) at
+
+pub start : (s numbers : List ℕ) (from : ℕ) → length numbers ≡ mostLevels → Here (walk [] (drop from s)) s numbers 0 from
+unfolding opened
+start s numbers from r = record { room = r; few = omega arith; rest = record { rest = refl } }
+
+module _ {said : Bool} {s numbers : List ℕ} {n at : ℕ} (h : Here said s numbers n at) where
+  pub finish : length s ≤ at → eqb n 0 ≡ said
+  unfolding opened
+  finish l = go n ∙ no-more (h .rest) l
+    where
+      go : (k : ℕ) → eqb k 0 ≡ isNil (opened numbers k)
+      go zero = refl
+      go (suc k) = ne-eqb (suc k) 0 (λ e. omega arith)
+
+  module _ (t next : ℕ) (r : Took t (next - at) ≡ tag (drop at s)) where
+    pub stores : t % 8 ≡ startGroupWire → n < mostLevels → Here said s (set numbers n (t / 8)) (n + 1) next
+    stores w l = record {
+      room = length-set numbers n (t / 8) ∙ h .room;
+      few = omega arith;
+      rest = subst (λ (o : List ℕ). From said s o next) (sym (opened-more numbers (t / 8) n (omega (arith, h .room))))
+          (opens (h .rest) t next r w (rw (length-opened numbers n) l));
+    }
+
+    pub full : t % 8 ≡ startGroupWire → mostLevels ≤ n → false ≡ said
+    full w l = too-many (h .rest) t next r w (rw (length-opened numbers n) l)
+
+    pub nothing-open : t % 8 ≡ endGroupWire → n ≡ 0 → false ≡ said
+    unfolding opened
+    nothing-open w z = none-open (h .rest) t next r w (rw z refl)
+
+    pub takes-off : t % 8 ≡ endGroupWire → (n ≡ 0 → ⊥) → t / 8 ≡ getD numbers (n - 1) 0 → Here said s numbers (n - 1) next
+    takes-off w l same = record {
+      room = h .room;
+      few = omega (arith, h .few);
+      rest = closes (h .rest) t next r w _ _ (opened-less numbers n l) same;
+    }
+
+    pub other-stored : t % 8 ≡ endGroupWire → (n ≡ 0 → ⊥) → (t / 8 ≡ getD numbers (n - 1) 0 → ⊥) → false ≡ said
+    other-stored w l differs = other-number (h .rest) t next r w _ _ (opened-less numbers n l) differs
+
+    pub goes-on : (q : ℕ) → To q ≡ behind next (plain (t % 8) (drop next s)) → (next ≤ q) × Here said s numbers n q
+    goes-on q f = let v = value (h .rest) t next r q f in (v .0, record { room = h .room; few = h .few; rest = v .1 })
 
 -- ---- the check is the run, of input that is not above the size limit
 

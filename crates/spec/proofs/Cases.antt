@@ -1,4 +1,5 @@
--- The schemas A and B of the user's rules, and the cases that the rules mark to be proved, as one list under one statement; the numbers of the rules' tables; sizes at each rung of the ladder.
+-- The schemas A and B of the user's rules, and the cases that the rules mark to be proved, as one list under one statement; the numbers of the rules' tables; sizes at each rung of the ladder;
+-- groups that end under their own number, and under another.
 -- Assumes nothing.
 use Prim.Native.Nat.{ℕ}
 use mathlib.Core.Path.{_≡_, refl}
@@ -12,7 +13,8 @@ use Rattle.spec.specs.Varint.{varint, size, unzigzag, fixed, tag}
 use Rattle.spec.specs.Utf8.{lead, followers, behind, char, chars, validPrefix}
 use Rattle.spec.specs.Kind.{kindWires, ownWires, wires, wire, shapes, shape, isScalar, extend, scalar}
 use Rattle.spec.specs.Schema.{Schema, goodEntry, badEntry, badSchema, lookup, unknownKind, kindOf, says, saysOf}
-use Rattle.spec.specs.Skip.{content, plain, skipField, skipGroup, skipFieldForTag}
+use Rattle.spec.specs.Skip.{content, plain, skipField, skipGroup, skipFieldForTag, readUnknownOrSkipGroup}
+use Rattle.spec.specs.Document.{passed, closed, step, goOn, isRun, isDocument}
 use Rattle.spec.specs.Record.{numbers}
 use Rattle.spec.specs.Reading.{given, shaped, field, used, _followed-by_, element, elements, contents, records, fields, read, within, refusedOr, called, readingBy, readingAs, reading, number, place, listed}
 use Rattle.spec.specs.declared.Entry.{Entry}
@@ -125,3 +127,24 @@ pub sizes-are :
     ≡ 1 ∷ 1 ∷ 2 ∷ 2 ∷ 3 ∷ 3 ∷ 4 ∷ 4 ∷ 5 ∷ 5 ∷ 6 ∷ 6 ∷ 7 ∷ 7 ∷ 8 ∷ 8 ∷ 9 ∷ 9 ∷ 10 ∷ 10 ∷ []
 unfolding size leadingZeros
 sizes-are = refl
+
+-- ---- in a document a group ends under its own number; reading (`0b 14` above) and both skips take any end-group tag
+
+pub documents-are :
+    map isDocument (
+    (0x0b ∷ 0x0c ∷ []) ∷ (0x0b ∷ 0x14 ∷ [])
+    -- the Encoding page's: opened as 8 and closed as 8; closed as 7
+    ∷ (0x43 ∷ 0x44 ∷ []) ∷ (0x43 ∷ 0x3c ∷ [])
+    -- a group in a group: each under its own number; the ends exchanged; the inner one's number not its own; the outer one's
+    ∷ (0x0b ∷ 0x13 ∷ 0x14 ∷ 0x0c ∷ []) ∷ (0x0b ∷ 0x13 ∷ 0x0c ∷ 0x14 ∷ []) ∷ (0x0b ∷ 0x13 ∷ 0x0c ∷ 0x0c ∷ []) ∷ (0x0b ∷ 0x13 ∷ 0x14 ∷ 0x14 ∷ [])
+    -- one after the other
+    ∷ (0x0b ∷ 0x0c ∷ 0x13 ∷ 0x14 ∷ []) ∷ (0x0b ∷ 0x0c ∷ 0x13 ∷ 0x0c ∷ [])
+    -- the number counts, not the bytes of the tag; contents are not opened
+    ∷ (0x8b ∷ 0x00 ∷ 0x0c ∷ []) ∷ (0x0b ∷ 0x1a ∷ 0x01 ∷ 0x14 ∷ 0x0c ∷ []) ∷ [])
+    ≡ true ∷ false ∷ true ∷ false ∷ true ∷ false ∷ false ∷ false ∷ true ∷ false ∷ true ∷ true ∷ []
+unfolding isDocument isRun step closed passed goOn tag require varint digit longer plain content meaning _>>=_
+documents-are = refl
+
+pub skips-are : skipFieldForTag 0x0b 0 (0x14 ∷ []) ∷ readUnknownOrSkipGroup 0x0b 0 (0x14 ∷ []) ∷ [] ≡ Took 0 1 ∷ Took 0 1 ∷ []
+unfolding skipFieldForTag readUnknownOrSkipGroup skipField skipGroup plain content tag require varint digit longer meaning _>>=_
+skips-are = refl

@@ -27,10 +27,10 @@ either {ℓ κ} : {A : Type ℓ} (P : A → Type κ) (b : Bool) {x y : A} → P 
 either P true p q = p
 either P false p q = q
 
-goes-closed : (o : List ℕ) (n most : ℕ) → 1 ≤ n → n ≤ most → Goes most (closed o n)
+goes-closed : (o : List ℕ) (m n most : ℕ) → 1 ≤ n → n ≤ most → Goes most (closed o m n)
 unfolding closed
-goes-closed [] n most h j = stops
-goes-closed (x ∷ o) n most h j = goes h j
+goes-closed [] m n most h j = stops
+goes-closed (x ∷ o) m n most h j = either (Goes most) (eqb x m) (goes h j) stops
 
 goes-passed : (o : List ℕ) {least most : ℕ} {r : Read} → 1 ≤ least → Takes least most r → Goes most (passed o r)
 unfolding passed
@@ -54,7 +54,7 @@ goes-step o s none = stops
 goes-step o s (took {v = t} {n = n} h j) =
     let P : Step → Type 0 = Goes (length s) in
     either P (eqb (t % 8) startGroupWire) (either P (ltb (length o) mostLevels) (goes h j) stops)
-    (either P (eqb (t % 8) endGroupWire) (goes-closed o n (length s) h j)
+    (either P (eqb (t % 8) endGroupWire) (goes-closed o (t / 8) n (length s) h j)
     (goes-passed o h (takes-behind n (takes-weaker (omega arith) (omega (arith, length-drop n s)) (takes-plain (t % 8) (drop n s))) j)))
 
 goOn-cong : {most : ℕ} {x : Step} {p q : List ℕ → ℕ → Bool} → Goes most x → ((o : List ℕ) (n : ℕ) → 1 ≤ n → n ≤ most → p o n ≡ q o n) → goOn x p ≡ goOn x q
@@ -91,7 +91,7 @@ walk-step o (b ∷ s) t n e =
 -- bytes that end the open groups, one after the other, and then run on; k groups may still be opened
 data Rest : ℕ → List ℕ → List ℕ → Type 0 where
   here : {k : ℕ} {s : List ℕ} → Run k s → Rest k [] s
-  up : {k x m : ℕ} {o r e s : List ℕ} → Run k r → IsTag m endGroupWire e → Rest (suc k) o s → Rest k (x ∷ o) (r ++ (e ++ s))
+  up : {k x : ℕ} {o r e s : List ℕ} → Run k r → IsTag x endGroupWire e → Rest (suc k) o s → Rest k (x ∷ o) (r ++ (e ++ s))
 
 rest-field : {k n w : ℕ} {o a v s : List ℕ} → IsTag n w a → IsValue w v → Rest k o s → Rest k o (a ++ (v ++ s))
 rest-field t i (here r) = here (field t i r)
@@ -99,7 +99,7 @@ rest-field {k} {a = a} {v = v} t i (up {x = x} {o = o} {r = r} {e = e} {s = s} r
     subst (Rest k (x ∷ o)) (append-assoc a (v ++ r) (e ++ s) ∙ ap (λ (y : List ℕ). a ++ y) (append-assoc v r (e ++ s)))
     (up (field t i run) f rest)
 
-rest-group : {k n x : ℕ} {o a s : List ℕ} → IsTag n startGroupWire a → Rest k (x ∷ o) s → Rest (suc k) o (a ++ s)
+rest-group : {k n : ℕ} {o a s : List ℕ} → IsTag n startGroupWire a → Rest k (n ∷ o) s → Rest (suc k) o (a ++ s)
 rest-group t (up run f (here r)) = here (group t run f r)
 rest-group {k} {a = a} t (up {r = r} {e = e} run f (up {x = y} {o = o} {r = r′} {e = e′} {s = s} run′ f′ rest)) =
     subst (Rest (suc k) (y ∷ o))
@@ -107,7 +107,7 @@ rest-group {k} {a = a} t (up {r = r} {e = e} run f (up {x = y} {o = o} {r = r′
     ∙ ap (λ (z : List ℕ). a ++ z) (append-assoc r (e ++ r′) (e′ ++ s) ∙ ap (λ (z : List ℕ). r ++ z) (append-assoc e r′ (e′ ++ s))))
     (up (group t run f run′) f′ rest)
 
-rest-end : {k m x : ℕ} {o e s : List ℕ} → IsTag m endGroupWire e → Rest (suc k) o s → Rest k (x ∷ o) (e ++ s)
+rest-end : {k x : ℕ} {o e s : List ℕ} → IsTag x endGroupWire e → Rest (suc k) o s → Rest k (x ∷ o) (e ++ s)
 rest-end f rest = up empty f rest
 
 taken-tag : (s : List ℕ) (t n : ℕ) → tag s ≡ Took t n → (w : ℕ) → t % 8 ≡ w → IsTag (t / 8) w (take n s)
@@ -139,12 +139,17 @@ module _ (f : ℕ) (s : List ℕ) (enough : length s ≤ suc f)
   abbrev next : List ℕ → ℕ → Bool
   next p n = isRun f p (drop n s)
 
-  sound-end : (o : List ℕ) (t n : ℕ) → 1 ≤ n → length o ≤ mostLevels → tag s ≡ Took t n → t % 8 ≡ endGroupWire → goOn (closed o n) next ≡ true → Rest (mostLevels - length o) o s
+  sound-end : (o : List ℕ) (t n : ℕ) → 1 ≤ n → length o ≤ mostLevels → tag s ≡ Took t n → t % 8 ≡ endGroupWire → goOn (closed o (t / 8) n) next ≡ true → Rest (mostLevels - length o) o s
   unfolding goOn closed
-  sound-end [] t n h l e w k = absurd (false≢true k)
-  sound-end (x ∷ o) t n h l e w k =
+  sound-end [] t n h l e w = λ k. absurd (false≢true k)
+  sound-end (x ∷ o) t n h l e w =
+      when (λ (y : Step). goOn y next ≡ true) (eqb x (t / 8))
+      (λ c k.
+      let same : t / 8 ≡ x = sym (eqb-true x (t / 8) c) in
       rest-as refl (take-append-drop n s)
-      (rest-end (taken-tag s t n e endGroupWire w) (rest-as (omega arith) refl (ih o (drop n s) (omega (arith, length-drop n s)) (omega arith) k)))
+      (rest-end (subst (λ (m : ℕ). IsTag m endGroupWire (take n s)) same (taken-tag s t n e endGroupWire w))
+      (rest-as (omega arith) refl (ih o (drop n s) (omega (arith, length-drop n s)) (omega arith) k))))
+      (λ c k. absurd (false≢true k))
 
   sound-value : (o : List ℕ) (t n : ℕ) → 1 ≤ n → length o ≤ mostLevels → tag s ≡ Took t n → (r : Read) → plain (t % 8) (drop n s) ≡ r
       → goOn (passed o (longer n r)) next ≡ true → Rest (mostLevels - length o) o s
@@ -185,9 +190,18 @@ module _ (o a x : List ℕ) where
   unfolding step
   step-start t n h l = simp (eq-eqb (t % 8) startGroupWire h, lt-ltb (length o) mostLevels l)
 
-  pub step-end : (y t n : ℕ) → t % 8 ≡ endGroupWire → step (y ∷ o) x (Took t n) ≡ Go o n
+  -- an end-group tag: with the number of the innermost group, with another number, and with no group open
+  pub step-end : (y t n : ℕ) → t % 8 ≡ endGroupWire → t / 8 ≡ y → step (y ∷ o) x (Took t n) ≡ Go o n
   unfolding step closed
-  step-end y t n h = simp (ne-eqb (t % 8) startGroupWire (λ q. omega arith), eq-eqb (t % 8) endGroupWire h)
+  step-end y t n h same = simp (ne-eqb (t % 8) startGroupWire (λ q. omega arith), eq-eqb (t % 8) endGroupWire h, eq-eqb y (t / 8) (sym same))
+
+  pub step-other : (y t n : ℕ) → t % 8 ≡ endGroupWire → (t / 8 ≡ y → ⊥) → step (y ∷ o) x (Took t n) ≡ Stop
+  unfolding step closed
+  step-other y t n h differs = simp (ne-eqb (t % 8) startGroupWire (λ q. omega arith), eq-eqb (t % 8) endGroupWire h, ne-eqb y (t / 8) (λ q. differs (sym q)))
+
+  pub step-none : (t n : ℕ) → t % 8 ≡ endGroupWire → step [] x (Took t n) ≡ Stop
+  unfolding step closed
+  step-none t n h = simp (ne-eqb (t % 8) startGroupWire (λ q. omega arith), eq-eqb (t % 8) endGroupWire h)
 
   pub step-value : (t n : ℕ) → (t % 8 ≡ startGroupWire → ⊥) → (t % 8 ≡ endGroupWire → ⊥) → step o x (Took t n) ≡ passed o (longer n (plain (t % 8) (drop n x)))
   unfolding step
@@ -203,11 +217,11 @@ walk-start {n} {a} o x i l =
     ∙ ap (λ (y : Step). goOn y (λ p m. walk p (drop m (a ++ x)))) (step-start o a (a ++ x) (i .value) (length a) (i .wire-is) l)
     ∙ ap₂ (λ (y : ℕ) (z : List ℕ). walk (y ∷ o) z) (i .number-is) (drop-append-seam a x)
 
-walk-end : {m : ℕ} {e : List ℕ} (y : ℕ) (o x : List ℕ) → IsTag m endGroupWire e → walk (y ∷ o) (e ++ x) ≡ walk o x
+walk-end : {y : ℕ} {e : List ℕ} (o x : List ℕ) → IsTag y endGroupWire e → walk (y ∷ o) (e ++ x) ≡ walk o x
 unfolding goOn
-walk-end {m} {e} y o x i =
+walk-end {y} {e} o x i =
     walk-step (y ∷ o) (e ++ x) (i .value) (length e) (tag-front x i)
-    ∙ ap (λ (z : Step). goOn z (λ p m. walk p (drop m (e ++ x)))) (step-end o e (e ++ x) y (i .value) (length e) (i .wire-is))
+    ∙ ap (λ (z : Step). goOn z (λ p m. walk p (drop m (e ++ x)))) (step-end o e (e ++ x) y (i .value) (length e) (i .wire-is) (i .number-is))
     ∙ ap (walk o) (drop-append-seam e x)
 
 no-value : {w : ℕ} {v : List ℕ} (g : ℕ) → IsValue w v → plain g v ≡ No noGroupOpen → w ≡ g → ⊥
@@ -235,7 +249,7 @@ complete (group {n = n} {a = a} {r = r} {e = e} {s = s} t run f rest) o u h =
     ap (walk o) (append-assoc a (r ++ (e ++ s)) u ∙ ap (λ (y : List ℕ). a ++ y) (append-assoc r (e ++ s) u ∙ ap (λ (y : List ℕ). r ++ y) (append-assoc e s u)))
     ∙ walk-start o (r ++ (e ++ (s ++ u))) t (omega arith)
     ∙ complete run (n ∷ o) (e ++ (s ++ u)) (omega arith)
-    ∙ walk-end n o (s ++ u) f
+    ∙ walk-end o (s ++ u) f
     ∙ complete rest o u h
 
 -- ---- the check says yes exactly when the bytes are a document

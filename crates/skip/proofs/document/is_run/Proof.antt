@@ -1,22 +1,23 @@
 -- `skip::document::is_run` meets its contract. The loop's invariant: what is to be said of all the bytes is what is said from here, with
--- the groups that are open. Assumes nothing.
+-- no group open. Assumes nothing.
 use Prim.Native.Nat.{_-_, _≤_}
 use mathlib.Core.Path.{_≡_, refl, sym, ap, _∙_}
+use mathlib.Core.List.{[]}
 use native.Mathlib.Omega.{arith}
 use borrow.Author.Needs.{needs}
 use lib.ListN.{length, drop}
 use Rattle.spec.specs.Base.{Took}
 use Rattle.spec.specs.Varint.{tag}
 use Rattle.wire.specs.Answers.{asRead}
-use Rattle.skip.proofs.DocumentTurn.{Here, start, finish, bad-tag, bounds, opens, too-many, closes, none-open, value, lost}
+use Rattle.skip.proofs.DocumentTurn.{From, run, no-more, bad-tag, bounds, value, lost-outside}
 use Rattle.skip.proofs.document.is_run.Statement.{statement}
 use Rattle.skip.proofs.document.is_run.Tie as tie
 
 abbrev Inv-loop : tie.InvT-loop
-Inv-loop s numbers₀ n₀ at₀ numbers n at = Here s numbers n at
+Inv-loop s at₀ at = From (run s) s [] at
 
 abbrev μ-loop : tie.MeasureT-loop
-μ-loop s numbers₀ n₀ at₀ numbers n at = length s - at
+μ-loop s at₀ at = length s - at
 
 -- the tag that was read, and where the loop is
 tagged : (c : tie.After-known-told Inv-loop μ-loop) →
@@ -26,11 +27,9 @@ tagged : (c : tie.After-known-told Inv-loop μ-loop) →
 tagged c = ap (asRead _) (sym (c .before .value .given .1)) ∙ c .before .before .before .tag-at .ensures
 
 here : (c : tie.After-known-told Inv-loop μ-loop) →
-    let b = c .before .before .before .before .before in Here (b .before .before .args .s .now) (b .loop .numbers) (b .loop .n) (b .loop .at)
+    let b = c .before .before .before .before .before in
+    let s = b .before .before .args .s .now in From (run s) s [] (b .loop .at)
 here c = c .before .before .before .before .before .loop .inv
-
-loop-holds : tie.Need-loop-holds Inv-loop μ-loop
-loop-holds c = start _ _ refl
 
 returns : tie.Need-returns Inv-loop μ-loop
 returns c = let g = c .before .before in bad-tag (g .before .before .loop .inv) _ (g .before .loop-test .taken) (ap (asRead _) (sym (c .enum-told .given .1)) ∙ g .tag-at .ensures)
@@ -44,68 +43,39 @@ loop-less c = let k = c .before .before in omega (arith, bounds (here k) _ _ (ta
 loop-again : tie.Need-loop-again Inv-loop μ-loop
 loop-again c = let k = c .before .before in value (here k) _ _ (tagged k) _ (c .before .quick-value .ensures (c .if1 .taken)) .1
 
+-- a group: what is said of the rest
 returns-2 : tie.Need-returns-2 Inv-loop μ-loop
-returns-2 c = let k = c .before .before .before .before in too-many (here k) _ _ (tagged k) (c .before .match2 .keys1) (omega arith)
-
-cast-numbers : tie.Need-cast-numbers Inv-loop μ-loop
-cast-numbers c = let k = c .before .before .before .before in omega (arith, bounds (here k) _ _ (tagged k))
-
-mul-numbers : tie.Need-mul-numbers Inv-loop μ-loop
-mul-numbers c = omega arith
-
-array-write-numbers : tie.Need-array-write-numbers Inv-loop μ-loop
-array-write-numbers c = omega arith
-
-add-n : tie.Need-add-n Inv-loop μ-loop
-add-n c = omega arith
-
-loop-less-2 : tie.Need-loop-less-2 Inv-loop μ-loop
-loop-less-2 c = let k = c .before .before .before .before in omega (arith, bounds (here k) _ _ (tagged k))
-
-loop-again-2 : tie.Need-loop-again-2 Inv-loop μ-loop
-loop-again-2 c = let k = c .before .before .before .before in opens (here k) _ _ (tagged k) (c .before .match2 .keys1) (omega arith)
-
-returns-3 : tie.Need-returns-3 Inv-loop μ-loop
-returns-3 c = let k = c .before .before .before .before in none-open (here k) _ _ (tagged k) (c .before .match2 .keys2) (omega arith)
-
-sub-n : tie.Need-sub-n Inv-loop μ-loop
-sub-n c = omega arith
-
-loop-less-3 : tie.Need-loop-less-3 Inv-loop μ-loop
-loop-less-3 c = let k = c .before .before .before .before in omega (arith, bounds (here k) _ _ (tagged k))
-
-loop-again-3 : tie.Need-loop-again-3 Inv-loop μ-loop
-loop-again-3 c = let k = c .before .before .before .before in closes (here k) _ _ (tagged k) (c .before .match2 .keys2) (c .if3 .left)
+returns-2 c = c .is-run-from .ensures ∙ sym (here (c .before .before .before .before) .rest)
 
 past-plain-requires : tie.Need-past-plain-requires Inv-loop μ-loop
 past-plain-requires c κs = let k = c .before .before .before in bounds (here k) _ _ (tagged k) .inside
 
-returns-4 : tie.Need-returns-4 Inv-loop μ-loop
-returns-4 c =
+returns-3 : tie.Need-returns-3 Inv-loop μ-loop
+returns-3 c =
     let p = c .before .before in
     let k = p .before .before .before .before in
-    let r = p .before .match2 .rest in
-    lost (here k) _ _ (tagged k) _ (r .0 .1) (r .1) (sym (c .enum-told2 .given .1) ∙ p .past-plain .ensures)
+    lost-outside (here k) _ _ (tagged k) _ refl (p .before .if2 .left) (sym (c .enum-told2 .given .1) ∙ p .past-plain .ensures)
 
 -- after a value
 beyond : (c : tie.After-known-told2 Inv-loop μ-loop) →
     let k = c .before .before .before .before .before .before .before in
     let b = k .before .before .before .before .before in
+    let s = b .before .before .args .s .now in
     let q = c .before .e .given .0 .0 in
-    (k .before .value .given .0 .1 .0 ≤ q) × Here (b .before .before .args .s .now) (b .loop .numbers) (b .loop .n) q
+    (k .before .value .given .0 .1 .0 ≤ q) × From (run s) s [] q
 beyond c =
     let p = c .before .before .before in
     let k = p .before .before .before .before in
     value (here k) _ _ (tagged k) _ (sym (c .before .e .given .1) ∙ p .past-plain .ensures)
 
-loop-less-4 : tie.Need-loop-less-4 Inv-loop μ-loop
-loop-less-4 c = let k = c .before .before .before .before .before .before .before in omega (arith, beyond c .0, bounds (here k) _ _ (tagged k))
+loop-less-2 : tie.Need-loop-less-2 Inv-loop μ-loop
+loop-less-2 c = let k = c .before .before .before .before .before .before .before in omega (arith, beyond c .0, bounds (here k) _ _ (tagged k))
 
-loop-again-4 : tie.Need-loop-again-4 Inv-loop μ-loop
-loop-again-4 c = beyond c .1
+loop-again-2 : tie.Need-loop-again-2 Inv-loop μ-loop
+loop-again-2 c = beyond c .1
 
-returns-5 : tie.Need-returns-5 Inv-loop μ-loop
-returns-5 c = finish (c .before .loop .inv) (c .loop-test .left)
+returns-4 : tie.Need-returns-4 Inv-loop μ-loop
+returns-4 c = no-more (c .before .loop .inv) (c .loop-test .left)
 
 pub is-run-spec : {M : Type 1} → statement M
 is-run-spec =
@@ -113,7 +83,7 @@ is-run-spec =
     (tie.spec
     Inv-loop
     μ-loop
-    loop-holds
+    (λ c. record { rest = refl })
     (λ c κs. search needs)
     (λ c. search needs)
     (λ c. search needs)
@@ -121,21 +91,12 @@ is-run-spec =
     quick-value-requires
     loop-less
     loop-again
+    (λ c κs. search needs)
     returns-2
-    cast-numbers
-    mul-numbers
-    array-write-numbers
-    add-n
-    loop-less-2
-    loop-again-2
-    returns-3
-    sub-n
-    loop-less-3
-    loop-again-3
     past-plain-requires
     (λ c. search needs)
     (λ c. search needs)
-    returns-4
-    loop-less-4
-    loop-again-4
-    returns-5)
+    returns-3
+    loop-less-2
+    loop-again-2
+    returns-4)
