@@ -1,4 +1,4 @@
--- One iteration of the document check, in plain values. Assumes nothing.
+-- One iteration of the two loops of the document check, in plain values. Assumes nothing.
 use Prim.Native.Nat.{ℕ, zero, suc, _+_, _-_, _/_, _%_, _≤_, _<_}
 use native.Mathlib.Omega.{arith}
 use native.Mathlib.Numerals.{add-one}
@@ -53,18 +53,18 @@ abbrev pub run : List ℕ → Bool
 run s = walk [] s
 
 pub record From (said : Bool) (s o : List ℕ) (at : ℕ) : Type 0 where
-  pub rest : said ≡ walk o (drop at s)
+  pub says : said ≡ walk o (drop at s)
 
 module _ {said : Bool} {s o : List ℕ} {at : ℕ} (h : From said s o at) where
   -- no byte is left
   pub no-more : length s ≤ at → isNil o ≡ said
   unfolding isRun
-  no-more l = sym (h .rest ∙ ap (walk o) (drop-of-length-le s l))
+  no-more l = sym (h .says ∙ ap (walk o) (drop-of-length-le s l))
 
   -- no tag
   pub bad-tag : (k : ℕ) → at < length s → No k ≡ tag (drop at s) → false ≡ said
   unfolding isRun step goOn
-  bad-tag k l r = sym (h .rest ∙ go (drop at s) (rw length-drop (omega arith)) (sym r))
+  bad-tag k l r = sym (h .says ∙ go (drop at s) (rw length-drop (omega arith)) (sym r))
     where
       go : (u : List ℕ) → 0 < length u → tag u ≡ No k → walk o u ≡ false
       go [] l e = absurd (omega arith)
@@ -79,32 +79,32 @@ module _ {said : Bool} {s o : List ℕ} {at : ℕ} (h : From said s o at) where
     behind-tag = let b = bounds in drop-to at next s (omega arith)
 
     turned : (x : Step) → step o (drop at s) (Took t (next - at)) ≡ x → said ≡ goOn x (λ p m. walk p (drop m (drop at s)))
-    turned x e = h .rest ∙ walk-step o (drop at s) t (next - at) (sym r) ∙ ap (λ (y : Step). goOn y (λ p m. walk p (drop m (drop at s)))) e
+    turned x e = h .says ∙ walk-step o (drop at s) t (next - at) (sym r) ∙ ap (λ (y : Step). goOn y (λ p m. walk p (drop m (drop at s)))) e
 
     stopped : step o (drop at s) (Took t (next - at)) ≡ Stop → false ≡ said
     unfolding goOn
     stopped e = sym (turned Stop e)
 
     -- a start-group tag: it opens a group, where fewer than `mostLevels` are open
-    pub opens : t % 8 ≡ startGroupWire → length o < mostLevels → From said s (t / 8 ∷ o) next
+    opens : t % 8 ≡ startGroupWire → length o < mostLevels → From said s (t / 8 ∷ o) next
     unfolding goOn
-    opens w l = record { rest = turned _ (step-start o [] (drop at s) t (next - at) w l) ∙ ap (walk (t / 8 ∷ o)) behind-tag }
+    opens w l = record { says = turned _ (step-start o [] (drop at s) t (next - at) w l) ∙ ap (walk (t / 8 ∷ o)) behind-tag }
 
-    pub too-many : t % 8 ≡ startGroupWire → mostLevels ≤ length o → false ≡ said
+    too-many : t % 8 ≡ startGroupWire → mostLevels ≤ length o → false ≡ said
     unfolding step
     too-many w l = stopped (rw (eq-eqb (t % 8) startGroupWire w, le-ltb (length o) mostLevels l) refl)
 
     -- an end-group tag: it closes the innermost group, where one is open and has its number
     module _ (w : t % 8 ≡ endGroupWire) where
-      pub none-open : o ≡ [] → false ≡ said
+      none-open : o ≡ [] → false ≡ said
       none-open z = stopped (rw z (step-none [] [] (drop at s) t (next - at) w))
 
       module _ (y : ℕ) (p : List ℕ) (inner : o ≡ y ∷ p) where
-        pub closes : t / 8 ≡ y → From said s p next
+        closes : t / 8 ≡ y → From said s p next
         unfolding goOn
-        closes same = record { rest = turned (Go p (next - at)) (rw inner (step-end p [] (drop at s) y t (next - at) w same)) ∙ ap (walk p) behind-tag }
+        closes same = record { says = turned (Go p (next - at)) (rw inner (step-end p [] (drop at s) y t (next - at) w same)) ∙ ap (walk p) behind-tag }
 
-        pub other-number : (t / 8 ≡ y → ⊥) → false ≡ said
+        other-number : (t / 8 ≡ y → ⊥) → false ≡ said
         other-number differs = stopped (rw inner (step-other p [] (drop at s) y t (next - at) w differs))
 
     -- a value that is no group's
@@ -125,7 +125,7 @@ module _ {said : Bool} {s o : List ℕ} {at : ℕ} (h : From said s o at) where
             let p′ : next - at + m ≡ q - at = omega arith in (
               omega arith,
               record {
-                rest = turned _ (valued (Took v m) (λ w. no-value next q (t % 8) (drop next s) (inl w) f) (λ w. no-value next q (t % 8) (drop next s) (inr w) f) e)
+                says = turned _ (valued (Took v m) (λ w. no-value next q (t % 8) (drop next s) (inl w) f) (λ w. no-value next q (t % 8) (drop next s) (inr w) f) e)
                     ∙ rw (p′, drop-to at q s (omega arith));
               },
             )
@@ -151,7 +151,7 @@ pub record Here (said : Bool) (s numbers : List ℕ) (n at : ℕ) : Type 0 where
 
 pub start : (s numbers : List ℕ) (from : ℕ) → length numbers ≡ mostLevels → Here (walk [] (drop from s)) s numbers 0 from
 unfolding opened
-start s numbers from r = record { room = r; few = omega arith; rest = record { rest = refl } }
+start s numbers from r = record { room = r; few = omega arith; rest = record { says = refl } }
 
 module _ {said : Bool} {s numbers : List ℕ} {n at : ℕ} (h : Here said s numbers n at) where
   pub finish : length s ≤ at → eqb n 0 ≡ said

@@ -45,7 +45,7 @@ loop-again c = let k = c .before .before in value (here k) _ _ (tagged k) _ (c .
 
 -- a group: what is said of the rest
 returns-2 : tie.Need-returns-2 Inv-loop μ-loop
-returns-2 c = c .is-run-from .ensures ∙ sym (here (c .before .before .before .before) .rest)
+returns-2 c = c .is-run-from .ensures ∙ sym (here (c .before .before .before .before) .says)
 
 past-plain-requires : tie.Need-past-plain-requires Inv-loop μ-loop
 past-plain-requires c κs = let k = c .before .before .before in bounds (here k) _ _ (tagged k) .inside
@@ -83,7 +83,7 @@ is-run-spec =
     (tie.spec
     Inv-loop
     μ-loop
-    (λ c. record { rest = refl })
+    (λ c. record { says = refl })
     (λ c κs. search needs)
     (λ c. search needs)
     (λ c. search needs)
