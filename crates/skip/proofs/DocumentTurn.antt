@@ -4,24 +4,26 @@ use native.Mathlib.Omega.{arith}
 use native.Mathlib.Numerals.{add-one}
 use mathlib.Core.Path.{_≡_, refl, sym, ap, ap₂, _∙_, subst}
 use mathlib.Core.Bool.{Bool, true, false}
-use mathlib.Core.Logic.{inl, inr}
+use native.Mathlib.Decide.{decLe}
 use mathlib.Core.List.{List, [], _∷_}
 use lib.ListN.{length, drop, getD, set, length-drop, length-set, drop-of-length-le}
 use lib.Seq.{getD-set-same, getD-set-other}
 use lib.Dec.{eqb}
 use borrow.Author.Tests.{le-leb, lt-leb, le-ltb, eq-eqb, ne-eqb, eqb-true, eqb-false}
-use Rattle.spec.specs.Names.{endGroupWire, mostLevels, startGroupWire}
+use Rattle.spec.specs.Names.{badTag, delimitedWire, endGroupWire, fixed32Wire, mostLevels, startGroupWire}
 use Rattle.spec.specs.Base.{limit, Read, Took, No, longer}
-use Rattle.spec.specs.Varint.{tag}
+use Rattle.spec.specs.Varint.{varint32, goodTag, tag}
 use Rattle.spec.specs.Skip.{plain}
 use Rattle.spec.specs.Document.{Step, Go, Stop, passed, step, goOn, isNil, isRun, isDocument}
 use Rattle.spec.proofs.VarintLaws.{top}
+use Rattle.spec.proofs.SkipLaws.{good-tag, bad-wire, bad-number}
 use Rattle.spec.proofs.DocumentLaws.{walk, walk-step, step-start, step-end, step-other, step-none, step-value}
-use Rattle.wire.proofs.FoundLaws.{Placed}
+use Rattle.wire.specs.declared.found.Found.the-variants.{Value}
+use Rattle.wire.proofs.FoundLaws.{Placed, varint-placed}
 use Rattle.skip.specs.declared.field.Past.the-variants.{To, Refused}
 use Rattle.skip.specs.Passed.{behind}
 use Rattle.skip.specs.Opened.{opened}
-use Rattle.skip.proofs.PastLaws.{Behind, stands, behind-of, refused-of, tag-placed, drop-to}
+use Rattle.skip.proofs.PastLaws.{Behind, stands, behind-of, refused-of, tag-refused, tag-good, tag-bad, tag-placed, drop-to}
 use Rattle.skip.proofs.GroupTurn.{no-value}
 
 -- ---- the open groups
@@ -62,21 +64,21 @@ module _ {said : Bool} {s o : List ℕ} {at : ℕ} (h : From said s o at) where
   no-more l = sym (h .says ∙ ap (walk o) (drop-of-length-le s l))
 
   -- no tag
-  pub bad-tag : (k : ℕ) → at < length s → No k ≡ tag (drop at s) → false ≡ said
+  no-tag : (k : ℕ) → at < length s → tag (drop at s) ≡ No k → false ≡ said
   unfolding isRun step goOn
-  bad-tag k l r = sym (h .says ∙ go (drop at s) (rw length-drop (omega arith)) (sym r))
+  no-tag k l e = sym (h .says ∙ go (drop at s) (rw length-drop (omega arith)) e)
     where
       go : (u : List ℕ) → 0 < length u → tag u ≡ No k → walk o u ≡ false
       go [] l e = absurd (omega arith)
       go (b ∷ u) l e = rw e refl
 
+  pub bad-varint : (k : ℕ) → at < length s → No k ≡ varint32 (drop at s) → false ≡ said
+  bad-varint k l r = no-tag k l (tag-refused (drop at s) (sym r))
+
   -- a tag, and the position after it
   module _ (t next : ℕ) (r : Took t (next - at) ≡ tag (drop at s)) where
-    pub bounds : Placed (top 4 15) s at t next
-    bounds = tag-placed s at t next r
-
     behind-tag : drop (next - at) (drop at s) ≡ drop next s
-    behind-tag = let b = bounds in drop-to at next s (omega arith)
+    behind-tag = let b = tag-placed s at t next r in drop-to at next s (omega arith)
 
     turned : (x : Step) → step o (drop at s) (Took t (next - at)) ≡ x → said ≡ goOn x (λ p m. walk p (drop m (drop at s)))
     turned x e = h .says ∙ walk-step o (drop at s) t (next - at) (sym r) ∙ ap (λ (y : Step). goOn y (λ p m. walk p (drop m (drop at s)))) e
@@ -86,7 +88,7 @@ module _ {said : Bool} {s o : List ℕ} {at : ℕ} (h : From said s o at) where
     stopped e = sym (turned Stop e)
 
     -- a start-group tag: it opens a group, where fewer than `mostLevels` are open
-    opens : t % 8 ≡ startGroupWire → length o < mostLevels → From said s (t / 8 ∷ o) next
+    pub opens : t % 8 ≡ startGroupWire → length o < mostLevels → From said s (t / 8 ∷ o) next
     unfolding goOn
     opens w l = record { says = turned _ (step-start o [] (drop at s) t (next - at) w l) ∙ ap (walk (t / 8 ∷ o)) behind-tag }
 
@@ -115,32 +117,65 @@ module _ {said : Bool} {s o : List ℕ} {at : ℕ} (h : From said s o at) where
         ∙ ap (λ (u : List ℕ). passed o (longer (next - at) (plain (t % 8) u))) behind-tag
         ∙ ap (λ (y : Read). passed o (longer (next - at) y)) e
 
-    pub value : (q : ℕ) → To q ≡ behind next (plain (t % 8) (drop next s)) → (next ≤ q) × From said s o q
+    value : (q : ℕ) → To q ≡ behind next (plain (t % 8) (drop next s)) → (next ≤ q) × From said s o q
     unfolding passed longer goOn
     value q f = go (plain (t % 8) (drop next s)) refl (behind-of next q _ f)
       where
+        never : delimitedWire < t % 8 → (t % 8 ≡ fixed32Wire → ⊥) → ⊥
+        never a b = no-value next q (t % 8) (drop next s) a b f
+
         go : (x : Read) → plain (t % 8) (drop next s) ≡ x → Behind next q x → (next ≤ q) × From said s o q
         go (Took v m) e (stands p) =
-            let b = bounds in
+            let b = tag-placed s at t next r in
             let p′ : next - at + m ≡ q - at = omega arith in (
               omega arith,
               record {
-                says = turned _ (valued (Took v m) (λ w. no-value next q (t % 8) (drop next s) (inl w) f) (λ w. no-value next q (t % 8) (drop next s) (inr w) f) e)
+                says = turned _ (valued (Took v m) (λ w. never (omega arith) (λ x. omega arith)) (λ w. never (omega arith) (λ x. omega arith)) e)
                     ∙ rw (p′, drop-to at q s (omega arith));
               },
             )
 
-    pub lost : (k : ℕ) → (t % 8 ≡ startGroupWire → ⊥) → (t % 8 ≡ endGroupWire → ⊥) → Refused k ≡ behind next (plain (t % 8) (drop next s)) → false ≡ said
+    lost : (k : ℕ) → (t % 8 ≡ startGroupWire → ⊥) → (t % 8 ≡ endGroupWire → ⊥) → Refused k ≡ behind next (plain (t % 8) (drop next s)) → false ≡ said
     unfolding passed longer
     lost k a b f = stopped (valued (No k) a b (refused-of next k _ f))
 
-    -- the same where no group is open: an end-group tag is no value either
-    pub lost-outside : (k : ℕ) → o ≡ [] → (t % 8 ≡ startGroupWire → ⊥) → Refused k ≡ behind next (plain (t % 8) (drop next s)) → false ≡ said
-    lost-outside k z a f = go (eqb (t % 8) endGroupWire) refl
-      where
-        go : (b : Bool) → eqb (t % 8) endGroupWire ≡ b → false ≡ said
-        go true e = none-open (eqb-true (t % 8) endGroupWire e) z
-        go false e = lost k a (eqb-false (t % 8) endGroupWire e) f
+  -- a tag as it stands, of which number and wire type are still to be judged
+  module _ (t next : ℕ) (r : Took t (next - at) ≡ varint32 (drop at s)) where
+    pub bounds : Placed (top 4 15) s at t next
+    bounds = varint-placed 4 15 s at {f = Value t next} r refl
+
+    unfit : goodTag t ≡ false → false ≡ said
+    unfit g = let b = bounds in no-tag badTag (omega arith) (tag-bad (drop at s) (sym r) g)
+
+    pub no-number : t < 8 → false ≡ said
+    no-number l = unfit (bad-number t (omega arith))
+
+    module _ (numbered : 8 ≤ t) where
+      pub judged : t % 8 ≤ fixed32Wire → Took t (next - at) ≡ tag (drop at s)
+      judged w = sym (tag-good (drop at s) (sym r) (good-tag t w (omega arith)))
+
+      -- a wire type above those that there are has no value, and a value that is not found is refused as the tag is
+      pub value-of : (q : ℕ) → To q ≡ behind next (plain (t % 8) (drop next s)) → (next ≤ q) × From said s o q
+      value-of q f =
+          elim (decLe (t % 8) fixed32Wire) [
+            | yes w ↦ value t next (judged w) q f
+            | no w ↦ absurd (no-value next q (t % 8) (drop next s) (omega arith) (λ x. omega arith) f)
+          ]
+
+      pub no-value-of : (k : ℕ) → (t % 8 ≡ startGroupWire → ⊥) → (t % 8 ≡ endGroupWire → ⊥) → Refused k ≡ behind next (plain (t % 8) (drop next s)) → false ≡ said
+      no-value-of k a b f =
+          elim (decLe (t % 8) fixed32Wire) [
+            | yes w ↦ lost t next (judged w) k a b f
+            | no w ↦ unfit (bad-wire t (omega arith))
+          ]
+
+      -- the same where no group is open: an end-group tag is no value either
+      pub none-outside : (k : ℕ) → o ≡ [] → (t % 8 ≡ startGroupWire → ⊥) → Refused k ≡ behind next (plain (t % 8) (drop next s)) → false ≡ said
+      none-outside k z a f = go (eqb (t % 8) endGroupWire) refl
+        where
+          go : (b : Bool) → eqb (t % 8) endGroupWire ≡ b → false ≡ said
+          go true e = let w : t % 8 ≡ endGroupWire = eqb-true (t % 8) endGroupWire e in none-open t next (judged (omega arith)) w z
+          go false e = no-value-of k a (eqb-false (t % 8) endGroupWire e) f
 
 -- ---- the loop with groups: the first n of the numbers are those of the open groups
 
@@ -149,9 +184,14 @@ pub record Here (said : Bool) (s numbers : List ℕ) (n at : ℕ) : Type 0 where
   pub few : n ≤ mostLevels
   pub rest : From said s (opened numbers n) at
 
-pub start : (s numbers : List ℕ) (from : ℕ) → length numbers ≡ mostLevels → Here (walk [] (drop from s)) s numbers 0 from
+-- one group is open, of the number `first`
+pub start : (s numbers : List ℕ) (from first : ℕ) → length numbers ≡ mostLevels → Here (walk (first ∷ []) (drop from s)) s (set numbers 0 first) 1 from
 unfolding opened
-start s numbers from r = record { room = r; few = omega arith; rest = record { says = refl } }
+start s numbers from first r = record {
+  room = length-set numbers 0 first ∙ r;
+  few = omega arith;
+  rest = record { says = ap (λ (o : List ℕ). walk o (drop from s)) (sym (opened-more numbers first 0 (omega (arith, r)))) };
+}
 
 module _ {said : Bool} {s numbers : List ℕ} {n at : ℕ} (h : Here said s numbers n at) where
   pub finish : length s ≤ at → eqb n 0 ≡ said
@@ -162,34 +202,37 @@ module _ {said : Bool} {s numbers : List ℕ} {n at : ℕ} (h : Here said s numb
       go zero = refl
       go (suc k) = ne-eqb (suc k) 0 (λ e. omega arith)
 
-  module _ (t next : ℕ) (r : Took t (next - at) ≡ tag (drop at s)) where
+  module _ (t next : ℕ) (raw : Took t (next - at) ≡ varint32 (drop at s)) (numbered : 8 ≤ t) where
+    good : t % 8 ≤ fixed32Wire → Took t (next - at) ≡ tag (drop at s)
+    good = judged (h .rest) t next raw numbered
+
     pub stores : t % 8 ≡ startGroupWire → n < mostLevels → Here said s (set numbers n (t / 8)) (n + 1) next
     stores w l = record {
       room = length-set numbers n (t / 8) ∙ h .room;
       few = omega arith;
       rest = subst (λ (o : List ℕ). From said s o next) (sym (opened-more numbers (t / 8) n (omega (arith, h .room))))
-          (opens (h .rest) t next r w (rw (length-opened numbers n) l));
+          (opens (h .rest) t next (good (omega arith)) w (rw (length-opened numbers n) l));
     }
 
     pub full : t % 8 ≡ startGroupWire → mostLevels ≤ n → false ≡ said
-    full w l = too-many (h .rest) t next r w (rw (length-opened numbers n) l)
+    full w l = too-many (h .rest) t next (good (omega arith)) w (rw (length-opened numbers n) l)
 
     pub nothing-open : t % 8 ≡ endGroupWire → n ≡ 0 → false ≡ said
     unfolding opened
-    nothing-open w z = none-open (h .rest) t next r w (rw z refl)
+    nothing-open w z = none-open (h .rest) t next (good (omega arith)) w (rw z refl)
 
     pub takes-off : t % 8 ≡ endGroupWire → (n ≡ 0 → ⊥) → t / 8 ≡ getD numbers (n - 1) 0 → Here said s numbers (n - 1) next
     takes-off w l same = record {
       room = h .room;
       few = omega (arith, h .few);
-      rest = closes (h .rest) t next r w _ _ (opened-less numbers n l) same;
+      rest = closes (h .rest) t next (good (omega arith)) w _ _ (opened-less numbers n l) same;
     }
 
     pub other-stored : t % 8 ≡ endGroupWire → (n ≡ 0 → ⊥) → (t / 8 ≡ getD numbers (n - 1) 0 → ⊥) → false ≡ said
-    other-stored w l differs = other-number (h .rest) t next r w _ _ (opened-less numbers n l) differs
+    other-stored w l differs = other-number (h .rest) t next (good (omega arith)) w _ _ (opened-less numbers n l) differs
 
     pub goes-on : (q : ℕ) → To q ≡ behind next (plain (t % 8) (drop next s)) → (next ≤ q) × Here said s numbers n q
-    goes-on q f = let v = value (h .rest) t next r q f in (v .0, record { room = h .room; few = h .few; rest = v .1 })
+    goes-on q f = let v = value-of (h .rest) t next raw numbered q f in (v .0, record { room = h .room; few = h .few; rest = v .1 })
 
 -- ---- the check is the run, of input that is not above the size limit
 

@@ -3,10 +3,9 @@ use Prim.Native.Nat.{ℕ, _+_, _-_, _%_, _≤_, _<_}
 use native.Mathlib.Omega.{arith}
 use mathlib.Core.Path.{_≡_, refl, sym, ap, _∙_}
 use mathlib.Core.Bool.{Bool, true, false}
-use mathlib.Core.Logic.{_⊎_, inl, inr, ⊎-elim}
 use mathlib.Core.List.{List, [], _∷_}
 use lib.ListN.{length, drop, length-drop, drop-of-length-le}
-use Rattle.spec.specs.Names.{endGroupWire, endsEarly, startGroupWire}
+use Rattle.spec.specs.Names.{delimitedWire, endGroupWire, endsEarly, fixed32Wire, startGroupWire}
 use Rattle.spec.specs.Base.{Read, Took, No}
 use Rattle.spec.specs.Varint.{tag}
 use Rattle.spec.specs.Skip.{plain, skipField, skipGroup, innerGroup}
@@ -27,11 +26,10 @@ pub record Here (e : Read) (level : ℕ) (s : List ℕ) (from at : ℕ) : Type 0
   pub ahead : from ≤ at
   pub rest : groupFrom e level s from ≡ groupFrom e level s at
 
--- a value was skipped, so it is no group's and no end of one
-pub no-value : (at q w : ℕ) (u : List ℕ) → (w ≡ startGroupWire) ⊎ (w ≡ endGroupWire) → To q ≡ behind at (plain w u) → ⊥
-no-value at q w u g f =
-    let o = plain-other u w (λ e. ⊎-elim (λ x. omega arith) (λ x. omega arith) g) (λ e. ⊎-elim (λ x. omega arith) (λ x. omega arith) g)
-    (λ e. ⊎-elim (λ x. omega arith) (λ x. omega arith) g) (λ e. ⊎-elim (λ x. omega arith) (λ x. omega arith) g) in
+-- a value was skipped, so its wire type has values: it is no group's, no end of one, and not above those that there are
+pub no-value : (at q w : ℕ) (u : List ℕ) → delimitedWire < w → (w ≡ fixed32Wire → ⊥) → To q ≡ behind at (plain w u) → ⊥
+no-value at q w u above other f =
+    let o = plain-other u w (λ e. omega arith) (λ e. omega arith) (λ e. omega arith) other in
     let z : _≡_ {A = ℕ} 0 1 = cc (refused-behind at o) in
     omega arith
 
@@ -97,8 +95,9 @@ module _ {e : Read} {level : ℕ} {s : List ℕ} {from at : ℕ} (h : Here e lev
 
       pub value : (q : ℕ) → p ≡ To q → (next ≤ q) × Here e level s from q
       value q z =
-          let never : (t % 8 ≡ startGroupWire) ⊎ (t % 8 ≡ endGroupWire) → ⊥ = λ w. no-value next q (t % 8) (drop next s) w (sym z ∙ f) in
-          onward (λ w. never (inr w)) p (f ∙ ap (behind next) (sym (no-group innerGroup level (drop next s) (t % 8) (λ w. never (inl w))))) q z
+          let never : delimitedWire < t % 8 → (t % 8 ≡ fixed32Wire → ⊥) → ⊥ = λ a b. no-value next q (t % 8) (drop next s) a b (sym z ∙ f) in
+          onward (λ w. never (omega arith) (λ e. omega arith)) p
+          (f ∙ ap (behind next) (sym (no-group innerGroup level (drop next s) (t % 8) (λ w. never (omega arith) (λ e. omega arith))))) q z
 
 -- the end of the bytes, in the outermost group of an unknown field and in any other
 module _ {level : ℕ} {s : List ℕ} {from at : ℕ} {outer : Bool} (h : Here (atEnd outer) level s from at) (l : length s ≤ at) where

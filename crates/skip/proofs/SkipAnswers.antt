@@ -105,7 +105,7 @@ module _ (t : ℕ) (s : List ℕ) {k : ℕ} (c : k ≡ refusal (checked t s (Too
 pub value-answer : (t level q : ℕ) (s : List ℕ) → length s ≤ limit → goodTag t ≡ true → To q ≡ behind 0 (plain (t % 8) s)
     → (0 ≡ refusal (skipFieldForTag t level s)) × (q ≡ taken (skipFieldForTag t level s))
 value-answer t level q s h g e =
-    answer-to q (skipFieldForTag t level s) (e ∙ ap (behind 0) (sym (skip-plain t level s h g (λ w. no-value 0 q (t % 8) s (inl w) e))))
+    answer-to q (skipFieldForTag t level s) (e ∙ ap (behind 0) (sym (skip-plain t level s h g (λ w. no-value 0 q (t % 8) s (omega arith) (λ x. omega arith) e))))
 
 -- ---- any two answers are equal
 

@@ -1,30 +1,60 @@
 // The document check: whether bytes are a run of fields in which every group is closed under its own number.
 ghost use mathlib.Core.Path.{_≡_};
-ghost use mathlib.Core.List.{[]};
+ghost use mathlib.Core.List.{[], _∷_};
+ghost use Prim.Native.Nat.{_<_};
 ghost use lib.ListN.{length, drop};
+ghost use Rattle.spec.specs.Varint.{varint32};
 ghost use Rattle.spec.specs.Document.{isRun, isDocument};
+ghost use Rattle.wire.specs.Answers.{asRead};
 use crate::field::Past;
 use crate::field::past_plain;
 use crate::field::quick_value;
-use crate::field::tag_at;
 use crate::wire_types64;
 use spec::limits;
 use wire::found::Found;
+use wire::varint::decode::decode_varint32;
 
 // The most groups that are open.
 const MOST_LEVELS: usize = limits::MOST_LEVELS as usize;
 
-// Whether the bytes from a position on are a run of fields. The numbers of the groups that are open are kept in the order in which they were opened.
-fn is_run_from(s: &[u8], from: usize) -> bool
-    ensures { λ r. ⌜ r ≡ isRun (length (drop from (now (s .entry)))) [] (drop from (now (s .entry))) ⌝ }
+// A tag as it stands: neither its number nor its wire type is judged. Most have one byte: those are read in place. The others are read by a function of their
+// own, as the slice is then stored for the call where one is made, and not for every tag.
+fn raw_tag_at(s: &[u8], at: usize) -> Found
+    requires { ⌜ at < length (now s) ⌝ }
+    ensures { λ r. ⌜ asRead at r ≡ varint32 (drop at (now (s .entry))) ⌝ }
+{
+    let b = s[at] as u64;
+    if 128 <= b {
+        return long_raw_tag(s, at);
+    }
+    let next = at + 1;
+    Found::Value { value: b, next }
+}
+
+fn long_raw_tag(s: &[u8], at: usize) -> Found
+    ensures { λ r. ⌜ asRead at r ≡ varint32 (drop at (now (s .entry))) ⌝ }
+{
+    decode_varint32(s, at)
+}
+
+// The two loops judge a tag's number; its wire type is judged with the value, as the types 6 and 7 have none.
+
+// Whether the bytes from a position on are the rest of a run, where one group is open, of the number `first`. The numbers of the groups that are open are kept
+// in the order in which they were opened.
+fn is_rest(s: &[u8], from: usize, first: u32) -> bool
+    ensures { λ r. ⌜ r ≡ isRun (length (drop from (now (s .entry)))) (first ∷ []) (drop from (now (s .entry))) ⌝ }
 {
     let mut numbers: [u32; MOST_LEVELS] = [0; MOST_LEVELS];
-    let mut n: usize = 0;
+    numbers[0] = first;
+    let mut n: usize = 1;
     let mut at = from;
     while at < s.len() {
-        let Found::Value { value, next } = tag_at(s, at) else {
+        let Found::Value { value, next } = raw_tag_at(s, at) else {
             return false;
         };
+        if value < 8 {
+            return false;
+        }
         let w = value % 8;
         let q = quick_value(s, next, w);
         if next < q {
@@ -69,16 +99,20 @@ fn is_run(s: &[u8]) -> bool
 {
     let mut at: usize = 0;
     while at < s.len() {
-        let Found::Value { value, next } = tag_at(s, at) else {
+        let Found::Value { value, next } = raw_tag_at(s, at) else {
             return false;
         };
+        if value < 8 {
+            return false;
+        }
         let w = value % 8;
         let q = quick_value(s, next, w);
         if next < q {
             at = q;
         } else {
             if w == wire_types64::START_GROUP {
-                return is_run_from(s, at);
+                let number = (value / 8) as u32;
+                return is_rest(s, next, number);
             }
             let Past::To(e) = past_plain(s, next, w) else {
                 return false;
