@@ -1,29 +1,29 @@
--- Laws for the functions of `utf8`: the followers of a lead byte at a place of the bytes, and what a run has passed.
+-- Laws for the functions of `utf8`: the followers of a lead byte at a place of the bytes, what a run has passed, and where the valid bytes end.
 -- Assumes nothing.
 use Prim.Native.Nat.{ℕ, zero, suc, _+_, _-_, _≤_, _<_}
 use native.Mathlib.Omega.{arith}
 use native.Mathlib.Numerals.{add-one}
 use mathlib.Core.Path.{_≡_, refl, sym, ap, _∙_}
-use mathlib.Core.Bool.{Bool, true, false, and-true, and-false, and-eq-true-iff}
+use mathlib.Core.Bool.{Bool, true, false, _&&_, and-true, and-false, and-eq-true-iff}
 use mathlib.Core.List.{List, [], _∷_}
 use lib.ListN.{length, drop, getD, length-drop}
 use lib.Seq.{drop-cons, drop-drop, getD-drop}
 use lib.Dec.{leb}
-use borrow.Author.Tests.{le-leb, lt-leb, leb-true}
-use Rattle.spec.specs.Base.{between}
+use borrow.Author.Tests.{le-leb, lt-leb, ne-eqb, leb-true}
+use Rattle.spec.specs.Base.{if_then_else_, between}
 use Rattle.spec.specs.Utf8.{Follow, NoLead, lead, followers, behind, char, validPrefix, utf8}
 use Rattle.spec.proofs.Utf8Laws.{char-le, valid-le, prefix-stop, prefix-step, prefix-ascii}
-use Rattle.utf8.specs.Text.{Low, Passed}
+use Rattle.utf8.specs.Text.{mostFollowers, leadOf, Low, Passed, Ends}
 
--- a test of two bounds, from the bounds
-pub inside : (lo hi b : ℕ) → lo ≤ b → b ≤ hi → between lo hi b ≡ true
-inside lo hi b l h = simp (le-leb _ _ l, le-leb _ _ h)
+-- the character after a lead byte that three numbers tell of
+by-count : (few : Bool) (n lo hi : ℕ) (s : List ℕ) → behind (if few then Follow n lo hi else NoLead) s ≡ (if few && followers n lo hi s then n + 1 else 0)
+unfolding behind
+by-count true n lo hi s = refl
+by-count false n lo hi s = refl
 
-pub below : (lo hi b : ℕ) → b < lo → between lo hi b ≡ false
-below lo hi b l = simp (lt-leb _ _ l)
-
-pub above : (lo hi b : ℕ) → hi < b → between lo hi b ≡ false
-above lo hi b h = simp (lt-leb _ _ h) (and-false (leb lo b))
+told : (n lo hi : ℕ) (s : List ℕ) → behind (leadOf n lo hi) s ≡ (if leb n mostFollowers && followers n lo hi s then n + 1 else 0)
+unfolding leadOf
+told n lo hi s = by-count (leb n mostFollowers) n lo hi s
 
 -- the bytes end before the followers
 short : (n lo hi : ℕ) (s : List ℕ) → length s < n → followers n lo hi s ≡ false
@@ -56,30 +56,36 @@ module _ (s : List ℕ) (at : ℕ) (h : at < length s) where
   unfolding char
   char-at = rw front
 
-  -- the character at a place, by what its lead byte says
-  module _ {n lo hi : ℕ} (e : lead (getD s at 0) ≡ Follow n lo hi) where
-    pub stands : followers n lo hi (drop (at + 1) s) ≡ true → n + 1 ≡ char (drop at s)
-    unfolding behind
-    stands f = rw (char-at, e, f)
+  -- the character at a place, by what is said of its lead byte
+  pub said : (n lo hi : ℕ) → leadOf n lo hi ≡ lead (getD s at 0) → (if leb n mostFollowers && followers n lo hi (drop (at + 1) s) then n + 1 else 0) ≡ char (drop at s)
+  said n lo hi e = sym (told n lo hi (drop (at + 1) s)) ∙ rw (char-at, e)
 
-    pub broken : followers n lo hi (drop (at + 1) s) ≡ false → 0 ≡ char (drop at s)
-    unfolding behind
-    broken f = rw (char-at, e, f)
-
-  pub no-lead : lead (getD s at 0) ≡ NoLead → 0 ≡ char (drop at s)
+  stands : {n lo hi : ℕ} → lead (getD s at 0) ≡ Follow n lo hi → followers n lo hi (drop (at + 1) s) ≡ true → n + 1 ≡ char (drop at s)
   unfolding behind
-  no-lead e = rw (char-at, e)
+  stands e f = rw (char-at, e, f)
 
--- a character of two bytes
-pub lead-pair : (b : ℕ) → 0xc2 ≤ b → b ≤ 0xdf → lead b ≡ Follow 1 0x80 0xbf
+-- the lead bytes of quick runs: of all their followers the bounds are 80 and bf
+lead-pair : (b : ℕ) → between 0xc2 0xdf b ≡ true → lead b ≡ Follow 1 0x80 0xbf
 unfolding lead
-lead-pair b l h = simp (lt-leb b 0x7f (omega arith), le-leb 0xc2 b l, le-leb b 0xdf h)
+lead-pair b e =
+    let (l, h) = and-eq-true-iff (leb 0xc2 b) (leb b 0xdf) .0 e in
+    simp (lt-leb b 0x7f (omega (arith, leb-true 0xc2 b l)), l, h)
 
-char-pair : (s : List ℕ) (j : ℕ) → j + 2 ≤ length s → between 0xc2 0xdf (getD s j 0) ≡ true → between 0x80 0xbf (getD s (j + 1) 0) ≡ true → 2 ≡ char (drop j s)
-char-pair s j h e f =
-    let b = getD s j 0 in
-    let (l, u) = and-eq-true-iff (leb 0xc2 b) (leb b 0xdf) .0 e in
-    stands s j (omega arith) (lead-pair b (leb-true 0xc2 b l) (leb-true b 0xdf u)) (sym (last s (j + 1) (omega arith) 0x80 0xbf) ∙ f)
+lead-triple : (b : ℕ) → between 0xe1 0xec b ≡ true → lead b ≡ Follow 2 0x80 0xbf
+unfolding lead
+lead-triple b e =
+    let (l, h) = and-eq-true-iff (leb 0xe1 b) (leb b 0xec) .0 e in
+    let low = leb-true 0xe1 b l in
+    simp (lt-leb b 0x7f (omega arith), le-leb 0xc2 b (omega arith), lt-leb b 0xdf (omega arith), ne-eqb b 0xe0 (λ x. omega arith), l, h)
+
+module _ (s : List ℕ) (j : ℕ) where
+  char-pair : j + 2 ≤ length s → between 0xc2 0xdf (getD s j 0) ≡ true → between 0x80 0xbf (getD s (j + 1) 0) ≡ true → 2 ≡ char (drop j s)
+  char-pair h e f = stands s j (omega arith) (lead-pair _ e) (sym (last s (j + 1) (omega arith) 0x80 0xbf) ∙ f)
+
+  char-triple : j + 3 ≤ length s → between 0xe1 0xec (getD s j 0) ≡ true → between 0x80 0xbf (getD s (j + 1) 0) ≡ true → between 0x80 0xbf (getD s (j + 2) 0) ≡ true → 3 ≡ char (drop j s)
+  char-triple h e f g =
+      let there : getD s (j + 1 + 1) 0 ≡ getD s (j + 2) 0 = ap (λ (i : ℕ). getD s i 0) (omega arith) in
+      stands s j (omega arith) (lead-triple _ e) (good s (j + 1) (omega arith) 0x80 0xbf 1 f ∙ sym (last s (j + 1 + 1) (omega arith) 0x80 0xbf) ∙ rw there g)
 
 -- a run that has passed nothing
 pub stay : {s : List ℕ} (i : ℕ) → i ≤ length s → Passed s i i
@@ -103,9 +109,22 @@ module _ {s : List ℕ} {i j : ℕ} (p : Passed s i j) where
   pub ascii-byte : j < length s → getD s j 0 < 128 → Passed s i (j + 1)
   ascii-byte h low = ascii 1 (omega arith) (λ k l. let e : j + k ≡ j = omega arith in rw e low)
 
-  -- a character of two bytes more
+  -- a character of two bytes more, and of three
   pub pair : j + 2 ≤ length s → between 0xc2 0xdf (getD s j 0) ≡ true → between 0x80 0xbf (getD s (j + 1) 0) ≡ true → Passed s i (j + 2)
   pair h e f = character 2 (char-pair s j h e f) (omega arith)
+
+  pub triple : j + 3 ≤ length s → between 0xe1 0xec (getD s j 0) ≡ true → between 0x80 0xbf (getD s (j + 1) 0) ≡ true → between 0x80 0xbf (getD s (j + 2) 0) ≡ true → Passed s i (j + 3)
+  triple h e f g = character 3 (char-triple s j h e f g) (omega arith)
+
+  -- what is valid from i on ends where it ends from j on; at j, if the bytes end there or no character stands there
+  pub ends : {r : ℕ} → Ends s j r → Ends s i r
+  ends e = e ∙ sym (p .same)
+
+  pub whole : length s ≤ j → Ends s i j
+  whole h = omega (arith, valid-le (drop j s), length-drop j s, p .same)
+
+  pub stopped : 0 ≡ char (drop j s) → Ends s i j
+  stopped e = omega (arith, prefix-stop (drop j s) (sym e), p .same)
 
 -- at most eight bytes are left, and the last eight are ASCII
 pub ascii-last : (s : List ℕ) (i : ℕ) → i ≤ length s → length s ≤ i + 8 → Low 8 s (length s - 8) → Passed s i (length s)
@@ -114,13 +133,6 @@ ascii-last s i h l low =
     let rest : Low (length s - i) s i = λ k b. rw (there k) at (low (i + k - (length s - 8)) (omega arith)) in
     let end : i + (length s - i) ≡ length s = omega arith in
     rw end at (ascii {s = s} (stay i h) (length s - i) (omega arith) rest)
-
--- where the bytes end, or no character stands, the run has passed all that is valid
-pub whole : {s : List ℕ} {i : ℕ} → Passed s 0 i → length s ≤ i → i ≡ validPrefix s
-whole {s} {i} p h = omega (arith, valid-le (drop i s), length-drop i s, p .same)
-
-pub stopped : {s : List ℕ} {i : ℕ} → Passed s 0 i → 0 ≡ char (drop i s) → i ≡ validPrefix s
-stopped {s} {i} p e = omega (arith, prefix-stop (drop i s) (sym e), p .same)
 
 -- each promise allows one answer
 pub one-prefix : (s : List ℕ) {x y : ℕ} → x ≡ validPrefix s → y ≡ validPrefix s → x ≡ y

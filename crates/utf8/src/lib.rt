@@ -1,11 +1,19 @@
 // UTF-8, by the table of RFC 3629: how much of some bytes is valid, and whether all is.
 ghost use mathlib.Core.Path.{_≡_};
-ghost use mathlib.Core.Bool.{true};
+ghost use mathlib.Core.Bool.{true, _&&_};
 ghost use Prim.Native.Nat.{_+_, _^_, _<_, _≤_};
 ghost use lib.ListN.{length, drop};
+ghost use lib.Dec.{leb};
 ghost use Rattle.spec.specs.Base.{between};
-ghost use Rattle.spec.specs.Utf8.{lead, followers, char, validPrefix, utf8};
-ghost use Rattle.utf8.specs.Text.{leadOf, countOf, word, Low, Passed};
+ghost use Rattle.spec.specs.Utf8.{followers, validPrefix, utf8};
+ghost use Rattle.utf8.specs.Text.{mostFollowers, Leads, word, Low, Passed, Ends};
+
+mod leads;
+
+use leads::FOLLOWERS;
+use leads::HIGHEST;
+use leads::LOWEST;
+use leads::MOST_FOLLOWERS;
 
 // The high bit of each byte of a word.
 const HIGH_BITS: u64 = 0x8080_8080_8080_8080;
@@ -126,37 +134,52 @@ fn pair_run(s: &[u8], i: usize) -> usize
     j
 }
 
-// Past characters of n bytes from i on, where a run of them is quick; else no further than i.
-fn same_run(s: &[u8], i: usize, n: usize) -> usize
+// Past all characters of three bytes from i on that begin with e1 to ec: their followers have no bounds of their own.
+fn triple_run(s: &[u8], i: usize) -> usize
     requires { ⌜ i ≤ length (now s) ⌝ }
     ensures { λ r. ⌜ Passed (now (s .entry)) i r ⌝ }
 {
-    match n {
-        1 => ascii_run(s, i),
-        2 => pair_run(s, i),
-        _ => i,
+    let mut j = i;
+    while 3 <= s.len() - j {
+        if !within(s[j], 0xe1, 0xec) {
+            return j;
+        }
+        if !within(s[j + 1], 0x80, 0xbf) {
+            return j;
+        }
+        if !within(s[j + 2], 0x80, 0xbf) {
+            return j;
+        }
+        j += 3;
     }
+    j
 }
 
-// What a lead byte says: how many bytes follow, and the bounds of the first of them; or that it is none.
-enum Lead {
-    Follow(usize, u8, u8),
-    NoLead,
-}
-
-fn lead_of(b: u8) -> Lead
-    ensures { λ r. ⌜ (leadOf r ≡ lead b) × (countOf r ≤ 3) ⌝ }
+// Past characters of the sort that may stand at i, where a run of them is quick; else no further than i.
+fn quick_run(s: &[u8], i: usize) -> usize
+    requires { ⌜ i < length (now s) ⌝ }
+    ensures { λ r. ⌜ Passed (now (s .entry)) i r ⌝ }
 {
-    match b {
-        0x00..=0x7f => Lead::Follow(0, 0x80, 0xbf),
-        0xc2..=0xdf => Lead::Follow(1, 0x80, 0xbf),
-        0xe0 => Lead::Follow(2, 0xa0, 0xbf),
-        0xe1..=0xec | 0xee..=0xef => Lead::Follow(2, 0x80, 0xbf),
-        0xed => Lead::Follow(2, 0x80, 0x9f),
-        0xf0 => Lead::Follow(3, 0x90, 0xbf),
-        0xf1..=0xf3 => Lead::Follow(3, 0x80, 0xbf),
-        0xf4 => Lead::Follow(3, 0x80, 0x8f),
-        _ => Lead::NoLead,
+    let b = s[i];
+    if b < 0x80 {
+        return ascii_run(s, i + 1);
+    }
+    if b < 0xe0 {
+        return pair_run(s, i);
+    }
+    triple_run(s, i)
+}
+
+// Past characters with so many followers from i on, where a run of them is quick; else no further than i.
+fn same_run(s: &[u8], i: usize, count: u8) -> usize
+    requires { ⌜ i ≤ length (now s) ⌝ }
+    ensures { λ r. ⌜ Passed (now (s .entry)) i r ⌝ }
+{
+    match count {
+        0 => ascii_run(s, i),
+        1 => pair_run(s, i),
+        2 => triple_run(s, i),
+        _ => i,
     }
 }
 
@@ -198,49 +221,78 @@ fn three(s: &[u8], at: usize, low: u8, high: u8) -> bool
     within(s[at + 2], 0x80, 0xbf)
 }
 
-// Whether the bytes that a lead byte needs are there from `at` on, a branch for each count.
-fn follows(s: &[u8], at: usize, count: usize, low: u8, high: u8) -> bool
-    requires { ⌜ (at ≤ length (now s)) × (count ≤ 3) ⌝ }
-    ensures { λ r. ⌜ r ≡ followers count low high (drop at (now (s .entry))) ⌝ }
+// Whether the bytes that a lead byte needs are there from `at` on, a branch for each count; no for a byte that leads nothing.
+fn follows(s: &[u8], at: usize, count: u8, low: u8, high: u8) -> bool
+    requires { ⌜ at ≤ length (now s) ⌝ }
+    ensures { λ r. ⌜ r ≡ (leb count mostFollowers && followers count low high (drop at (now (s .entry)))) ⌝ }
 {
     match count {
         0 => true,
         1 => one(s, at, low, high),
         2 => two(s, at, low, high),
-        _ => three(s, at, low, high),
+        MOST_FOLLOWERS => three(s, at, low, high),
+        _ => false,
     }
 }
 
-// The length of the character at a place, 0 if there is none.
-fn char_at(s: &[u8], at: usize) -> usize
-    requires { ⌜ at < length (now s) ⌝ }
-    ensures { λ r. ⌜ r ≡ char (drop at (now (s .entry))) ⌝ }
+// A byte as a place in the tables, or as a number of bytes.
+fn number(b: u8) -> usize
+    ensures { λ r. ⌜ (r ≡ b) × (r < 256) ⌝ }
 {
-    match lead_of(s[at]) {
-        Lead::Follow(count, low, high) => {
-            if follows(s, at + 1, count, low, high) {
-                count + 1
-            } else {
-                0
-            }
+    b as usize
+}
+
+// The end of the valid characters from i on, each by the tables of lead bytes, or in a run with the one before it.
+fn lent_end(s: &[u8], i: usize, counts: &[u8; 256], lows: &[u8; 256], highs: &[u8; 256]) -> usize
+    requires { ⌜ (i ≤ length (now s)) × Leads (now counts) (now lows) (now highs) ⌝ }
+    ensures { λ r. ⌜ Ends (now (s .entry)) i r ⌝ }
+{
+    let mut j = i;
+    while j < s.len() {
+        let b = number(s[j]);
+        let count = counts[b];
+        if !follows(s, j + 1, count, lows[b], highs[b]) {
+            return j;
         }
-        Lead::NoLead => 0,
+        let n = number(count) + 1;
+        j = same_run(s, j + n, count);
     }
+    j
+}
+
+// The same, with the tables: a call builds them here, once, and lends them.
+fn table_end(s: &[u8], i: usize) -> usize
+    requires { ⌜ i ≤ length (now s) ⌝ }
+    ensures { λ r. ⌜ Ends (now (s .entry)) i r ⌝ }
+{
+    let counts = FOLLOWERS;
+    let lows = LOWEST;
+    let highs = HIGHEST;
+    lent_end(s, i, &counts, &lows, &highs)
+}
+
+// The end of the valid characters from i on: quick runs as far as they go, then the tables.
+fn valid_end(s: &[u8], i: usize) -> usize
+    requires { ⌜ i ≤ length (now s) ⌝ }
+    ensures { λ r. ⌜ Ends (now (s .entry)) i r ⌝ }
+{
+    let mut j = i;
+    while j < s.len() {
+        let k = quick_run(s, j);
+        if k == j {
+            return table_end(s, j);
+        }
+        j = k;
+    }
+    j
 }
 
 // The length of the longest prefix that is UTF-8.
 pub fn utf8_prefix(s: &[u8]) -> usize
     ensures { λ r. ⌜ r ≡ validPrefix (now (s .entry)) ⌝ }
 {
-    let mut i = ascii_run(s, 0);
-    while i < s.len() {
-        let n = char_at(s, i);
-        if n == 0 {
-            return i;
-        }
-        i = same_run(s, i + n, n);
-    }
-    i
+    let i = ascii_run(s, 0);
+    valid_end(s, i)
 }
 
 // Whether all is UTF-8.

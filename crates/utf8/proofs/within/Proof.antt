@@ -1,13 +1,11 @@
 -- `utf8::within` meets its contract.
 -- Assumes nothing.
-use Rattle.utf8.proofs.TextLaws.{below}
-use mathlib.Core.Path.{sym}
-use borrow.Author.Tests.{le-leb}
+use borrow.Author.Tests.{le-leb, lt-leb}
 use Rattle.utf8.proofs.within.Statement.{statement}
 use Rattle.utf8.proofs.within.Tie as tie
 
 returns : tie.Need-returns
-returns c = sym (below _ _ _ (c .if1 .taken))
+returns c = simp (lt-leb _ _ (c .if1 .taken))
 
 returns-2 : tie.Need-returns-2
 returns-2 c = simp (le-leb _ _ (c .if1 .left))
