@@ -1,7 +1,7 @@
 #!/usr/bin/env python3
 """gen.py LINES SEED [GROUP]: writes so many case lines. First short inputs, all of them where LINES is 1,000,000 or more (else every so-many-th); then lines of every
 verb, valid, damaged and adversarial, by a seeded random choice. GROUP is `segments` for the lines of segment files, `documents` for those of groups that end under
-their own number or another, `messages` for all others; without it there are lines of each."""
+their own number or another, `letters` for those of texts, `messages` for all others; without it there are lines of each."""
 import itertools
 import random
 import sys
@@ -754,7 +754,55 @@ class Documents(Maker):
         return [line for some in (ends, other, ends[::-1]) for line in self.asked(starts + some)]
 
 
+# the rows of RFC 3629's table: the first and last lead byte, the lowest and highest first follower, and how many follow that one; ASCII has no follower
+ROWS = [(0x00, 0x7f, 0, 0, -1), (0xc2, 0xdf, 0x80, 0xbf, 0), (0xe0, 0xe0, 0xa0, 0xbf, 1), (0xe1, 0xec, 0x80, 0xbf, 1), (0xed, 0xed, 0x80, 0x9f, 1),
+        (0xee, 0xef, 0x80, 0xbf, 1), (0xf0, 0xf0, 0x90, 0xbf, 2), (0xf1, 0xf3, 0x80, 0xbf, 2), (0xf4, 0xf4, 0x80, 0x8f, 2)]
+
+
+class Letters(Maker):
+    """Lines of texts that have letters of every row of the table, in runs of one row, and of the same texts with a byte that is wrong, missing or too many."""
+
+    def letter(self, row):
+        """A letter of the row, most often at its bounds."""
+        first, last, low, high, more = row
+        between = lambda a, b: self.r.choice([a, b, self.r.randrange(a, b + 1)])
+        return bytes([between(first, last)] + [between(low, high)] * (more >= 0) + [between(0x80, 0xbf) for _ in range(more)])
+
+    def text(self):
+        """Runs of letters, as long as makes a run end at and around eight and sixteen bytes."""
+        r = self.r
+        runs = [(r.choice(ROWS), r.choice([0, 1, 1, 2, 3, 4, 5, 7, 8, 9, 15, 16, 17])) for _ in range(r.choice([1, 1, 2, 3, 4]))]
+        return b''.join(self.letter(row) for row, n in runs for _ in range(n))
+
+    def spoilt(self, b):
+        """One byte of another value, next to it or at a bound, one left out, or one too many."""
+        r = self.r
+        if not b:
+            return bytes([r.choice(LEADS)])
+        i = r.randrange(len(b))
+        other = r.choice([b[i] + 1, b[i] - 1, b[i] ^ 1 << r.randrange(8), r.choice(LEADS)]) % 256
+        return r.choice([b[:i] + bytes([other]) + b[i + 1:], b[:i] + bytes([other]) + b[i + 1:], b[:i] + b[i + 1:], b[:i] + bytes([other]) + b[i:]])
+
+    def asked(self, b):
+        """The check; now and then reading, writing and pulling a string of these bytes."""
+        lines = ['utf8 ' + hexed(b)]
+        if self.r.random() < .3:
+            content = varint(len(b)) + b
+            lines += ['read %s 9 %s' % (A, hexed(tag(2, 2) + content)), 'write %s 0,2,9,0,0,%d %s %d' % (A, len(b), hexed(b), len(b) + 9), 'pull 0 string,tag ' + hexed(content)]
+        return lines
+
+    def texts(self):
+        b = self.text()
+        return [line for some in (b, self.spoilt(b), self.spoilt(b)) for line in self.asked(some)]
+
+    def cuts(self):
+        """Every cut of a text, from its front and from its end."""
+        b = self.text()[:40]
+        return ['utf8 ' + hexed(some) for i in range(len(b) + 1) for some in (b[:i], b[i:])]
+
+
 # the families of each group, each as often as it says
+LETTERS = [('texts', 20), ('cuts', 1)]
 DOCUMENTS = [('nests', 90), ('cuts', 5), ('depths', 5)]
 SEGMENTS = [('reads', 300), ('cuts', 20), ('writes', 400), ('no_case', 40), ('long', 1)]
 FAMILIES = [('leaf', 6), ('utf8', 5), ('groups', 8), ('schemas', 6), ('reads', 22), ('cuts', 3), ('rooms', 4), ('packed', 8), ('deep', 2), ('lists', 18), ('exact', 3), ('pulls', 14), ('no_case', 1)]
@@ -795,6 +843,12 @@ def short_documents():
         yield from ('document ' + hexed(b''.join(some)) for some in itertools.product(tags, repeat=count))
 
 
+def short_letters():
+    """Every lead byte with every first follower, and after these up to two that any lead byte may have."""
+    for more in range(3):
+        yield from ('utf8 ' + hexed(bytes([a, b]) + b'\x80' * more) for a in range(256) for b in range(256))
+
+
 def families(make, weights):
     """One family after the other, by the choice of the maker's own random numbers."""
     names = [n for n, w in weights for _ in range(w)]
@@ -808,14 +862,15 @@ def main():
     out = sys.stdout
     every = 1 if count >= 1000000 else 1000000 // max(count, 1) + 1
     given = 0
-    starts = {'messages': [short()], 'segments': [short_segments()], 'documents': [short_documents()], '': [short(), short_segments(), short_documents()]}[group]
-    for i, line in enumerate(line for start in starts for line in start):
+    starts = {'messages': [short()], 'segments': [short_segments()], 'documents': [short_documents()], 'letters': [short_letters()]}
+    starts[''] = [start for some in starts.values() for start in some]
+    for i, line in enumerate(line for start in starts[group] for line in start):
         if i % every == seed % every:
             out.write(line + '\n')
             given += 1
-    groups = {'messages': families(Lines(seed), FAMILIES), 'segments': families(Segments(seed), SEGMENTS), 'documents': families(Documents(seed), DOCUMENTS)}
+    groups = {'messages': families(Lines(seed), FAMILIES), 'segments': families(Segments(seed), SEGMENTS), 'documents': families(Documents(seed), DOCUMENTS), 'letters': families(Letters(seed), LETTERS)}
     which = random.Random(seed)
-    mixed = ['segments'] * 3 + ['documents'] + ['messages'] * 16
+    mixed = ['segments'] * 3 + ['documents'] + ['letters'] + ['messages'] * 15
     while given < count:
         lines = next(groups[group or which.choice(mixed)])
         for line in lines[:count - given]:

@@ -1,6 +1,7 @@
 #!/usr/bin/env python3
 """mutants.py: puts one fault after another into the model, and shows that the recorded lines alone find each: some answer differs from the recorded one.
-Exit status 1 where one is not found. A fault is a piece of text of model.py, which stands there exactly once, and what is put in its place."""
+Exit status 1 where one is not found. A fault is a piece of text of model.py, which stands there exactly once, and what is put in its place. The faults in the
+entries of single lead bytes are many, and printed only where they are missed."""
 import sys
 
 FAULTS = [
@@ -28,6 +29,19 @@ FAULTS = [
     ('overlong f0', '{0xf0: (0x90, 0xbf), 0xf4', '{0xf4'),
     ('above 10ffff', '0xf4: (0x80, 0x8f)', '0xf4: (0x80, 0xbf)'),
     ('f5 taken', 'elif 0xf0 <= lead <= 0xf4:', 'elif 0xf0 <= lead <= 0xf5:'),
+    ('f4 not taken', 'elif 0xf0 <= lead <= 0xf4:', 'elif 0xf0 <= lead <= 0xf3:'),
+    ('df not taken', 'elif 0xc2 <= lead <= 0xdf:', 'elif 0xc2 <= lead <= 0xde:'),
+    ('9f after e0', '0xe0: (0xa0, 0xbf)', '0xe0: (0x9f, 0xbf)'),
+    ('no a0 after e0', '0xe0: (0xa0, 0xbf)', '0xe0: (0xa1, 0xbf)'),
+    ('a0 after ed', '0xed: (0x80, 0x9f)', '0xed: (0x80, 0xa0)'),
+    ('no 9f after ed', '0xed: (0x80, 0x9f)', '0xed: (0x80, 0x9e)'),
+    ('8f after f0', '0xf0: (0x90, 0xbf)', '0xf0: (0x8f, 0xbf)'),
+    ('no 90 after f0', '0xf0: (0x90, 0xbf)', '0xf0: (0x91, 0xbf)'),
+    ('90 after f4', '0xf4: (0x80, 0x8f)', '0xf4: (0x80, 0x90)'),
+    ('no 8f after f4', '0xf4: (0x80, 0x8f)', '0xf4: (0x80, 0x8e)'),
+    ('one follower of ec', 'low, high = {0xe0', 'more -= lead == 0xec\n            low, high = {0xe0'),
+    ('two followers of f3', 'low, high = {0xf0', 'more -= lead == 0xf3\n            low, high = {0xf0'),
+    ('two followers of d9', 'more = 1\n', 'more = 1 + (lead == 0xd9)\n'),
     ('a string length as wide as a message length', 'start, stop = content(b, at, end, varint32)\n            if kind == 9', 'start, stop = content(b, at, end, varint64)\n            if kind == 9'),
     ('a message length as narrow as a string length', 'start, stop = content(self.b, at, end, varint64)\n        self.put(depth, num, 11', 'start, stop = content(self.b, at, end, varint32)\n        self.put(depth, num, 11'),
     ('a packed length as narrow as a string length', 'start, stop = content(self.b, at, end, varint64)\n        if start < stop', 'start, stop = content(self.b, at, end, varint32)\n        if start < stop'),
@@ -109,6 +123,14 @@ FAULTS = [
 RULE = 'return (max(v.bit_length(), 1) + 6) // 7'
 FAULTS += [('128 ^ %d takes one byte less' % k, RULE, '%s - (v == 128**%d)' % (RULE, k)) for k in range(1, 10)]
 
+# what the table of RFC 3629 says of one lead byte, wrong in one number; and a byte that begins no letter, taken with so many followers
+SAID = 'if i + more >= len(b):'
+ENTRIES = [('%s of %02x %+d' % (name, lead, by), SAID, '%s += %d * (lead == %d)\n        %s' % (name, by, lead, SAID))
+           for lead in range(0xc2, 0xf5) for name in ('more', 'low', 'high') for by in (-1, 1)]
+NONE = 'else:\n            return False\n        ' + SAID
+ENTRIES += [('%02x with %d followers' % (lead, more), NONE, 'elif lead == %d:\n            more = %d\n        %s' % (lead, more, NONE))
+            for lead in [*range(0x80, 0xc2), *range(0xf5, 0x100)] for more in range(4)]
+
 
 def found(source, lines, answers):
     """The first recorded line that the faulty model answers otherwise; none where there is no such line."""
@@ -131,12 +153,13 @@ def main():
     source = open('model.py', encoding='utf-8').read()
     missed = 0
     assert found(source, lines, answers) is None, 'the model itself differs from what is recorded'
-    for name, old, new in FAULTS:
+    for name, old, new in FAULTS + ENTRIES:
         assert source.count(old) == 1, '%s: its text stands %d times in the model' % (name, source.count(old))
         by = found(source.replace(old, new), lines, answers)
         missed += by is None
-        print('%-48s %s' % (name, 'MISSED' if by is None else 'found by: ' + by[0][-70:] + ('' if by[1] == 'another answer' else ' (%s)' % by[1])))
-    print('%d faults, %d missed' % (len(FAULTS), missed))
+        if by is None or (name, old, new) in FAULTS:
+            print('%-48s %s' % (name, 'MISSED' if by is None else 'found by: ' + by[0][-70:] + ('' if by[1] == 'another answer' else ' (%s)' % by[1])))
+    print('%d faults, and %d in the entry of one lead byte: %d missed' % (len(FAULTS), len(ENTRIES), missed))
     sys.exit(1 if missed else 0)
 
 
