@@ -9,6 +9,7 @@ intmix100k, packed100k: 100,000 values like those of intmix and packed. A proces
 
 v1, vmix, v10: varints of one byte; mostly one and two bytes, some of four and ten; of ten bytes
 ascii, german, russian, mixed: words; a letter of two bytes in a third of them; words of two-byte letters; words of one to four bytes a letter
+twos, threes, fours: any letters of so many bytes; chinese: letters of three bytes, of one script
 fields: varints, strings, fixed values and groups nested ten deep, which end under any number; groups: the same sorts, in which each group ends under its own; f-*: fields of one sort
 seg20, segstation, seg1k: segments of 1,000 messages of 20 bytes, of station messages, of 1,024 bytes; seg20k: of 50 messages of 20,000 bytes; seglong: seg20 with lengths of five bytes
 """
@@ -250,3 +251,14 @@ for name, n, one in (("seg20", 1000, lambda: some(20)), ("segstation", 1000, sta
 
 # after all others, which it must not change: the wire type of an end tag is one more than the start's
 put("groups", lambda: field(1, lambda start: bytes([start[0] + 1]) + start[1:]))
+
+# letters of two, three and four bytes; those of three without the surrogates, which are none
+def three():
+    c = 0x800 + rnd(0xf000)
+    return chr(c if c < 0xd800 else c + 0x800).encode()
+
+
+put("twos", lambda: chr(0x80 + rnd(0x780)).encode())
+put("threes", three)
+put("fours", lambda: chr(0x10000 + rnd(0x100000)).encode())
+put("chinese", lambda: chr(0x4e00 + rnd(0x5200)).encode())
