@@ -170,15 +170,21 @@ fn quick_run(s: &[u8], i: usize) -> usize
     triple_run(s, i)
 }
 
-// Past characters with so many followers from i on, where a run of them is quick; else no further than i.
-fn same_run(s: &[u8], i: usize, count: u8) -> usize
+// Past characters like the one before i, where a run of them is quick; else no further than i. The tables say of that one how many followers it has, and the lowest that the first may be.
+fn same_run(s: &[u8], i: usize, count: u8, low: u8) -> usize
     requires { ⌜ i ≤ length (now s) ⌝ }
     ensures { λ r. ⌜ Passed (now (s .entry)) i r ⌝ }
 {
     match count {
         0 => ascii_run(s, i),
         1 => pair_run(s, i),
-        2 => triple_run(s, i),
+        2 => {
+            // after e0, which is not so low, comes e0 most often
+            if low == 0x80 {
+                return triple_run(s, i);
+            }
+            i
+        }
         _ => i,
     }
 }
@@ -221,18 +227,25 @@ fn three(s: &[u8], at: usize, low: u8, high: u8) -> bool
     within(s[at + 2], 0x80, 0xbf)
 }
 
-// Whether the bytes that a lead byte needs are there from `at` on, a branch for each count; no for a byte that leads nothing.
+// Whether the bytes that a lead byte needs are there from `at` on; no for a byte that leads nothing. It compares, since a match of five ways is compiled to a jump
+// through a table, which takes up to twice the time on texts whose characters have several lengths.
 fn follows(s: &[u8], at: usize, count: u8, low: u8, high: u8) -> bool
     requires { ⌜ at ≤ length (now s) ⌝ }
     ensures { λ r. ⌜ r ≡ (leb count mostFollowers && followers count low high (drop at (now (s .entry)))) ⌝ }
 {
-    match count {
-        0 => true,
-        1 => one(s, at, low, high),
-        2 => two(s, at, low, high),
-        MOST_FOLLOWERS => three(s, at, low, high),
-        _ => false,
+    if count == 2 {
+        return two(s, at, low, high);
     }
+    if count < 2 {
+        if count == 0 {
+            return true;
+        }
+        return one(s, at, low, high);
+    }
+    if count == MOST_FOLLOWERS {
+        return three(s, at, low, high);
+    }
+    false
 }
 
 // A byte as a place in the tables, or as a number of bytes.
@@ -251,11 +264,12 @@ fn lent_end(s: &[u8], i: usize, counts: &[u8; 256], lows: &[u8; 256], highs: &[u
     while j < s.len() {
         let b = number(s[j]);
         let count = counts[b];
-        if !follows(s, j + 1, count, lows[b], highs[b]) {
+        let low = lows[b];
+        if !follows(s, j + 1, count, low, highs[b]) {
             return j;
         }
         let n = number(count) + 1;
-        j = same_run(s, j + n, count);
+        j = same_run(s, j + n, count, low);
     }
     j
 }
@@ -292,6 +306,9 @@ pub fn utf8_prefix(s: &[u8]) -> usize
     ensures { λ r. ⌜ r ≡ validPrefix (now (s .entry)) ⌝ }
 {
     let i = ascii_run(s, 0);
+    if i == s.len() {
+        return i;
+    }
     valid_end(s, i)
 }
 
