@@ -264,6 +264,7 @@ static const struct { const char *input, *name, *peer; call *here, *there; } lea
     { "threes", "utf8", "std", ours_utf8, driver_utf8 },
     { "fours", "utf8", "std", ours_utf8, driver_utf8 },
     { "chinese", "utf8", "std", ours_utf8, driver_utf8 },
+    { "hindi", "utf8", "std", ours_utf8, driver_utf8 },
     { "fields", "skip", "crate", ours_skip, driver_skip },
     { "f-varint1", "skip", "crate", ours_skip, driver_skip },
     { "f-varint10", "skip", "crate", ours_skip, driver_skip },

@@ -9,7 +9,7 @@ intmix100k, packed100k: 100,000 values like those of intmix and packed. A proces
 
 v1, vmix, v10: varints of one byte; mostly one and two bytes, some of four and ten; of ten bytes
 ascii, german, russian, mixed: words; a letter of two bytes in a third of them; words of two-byte letters; words of one to four bytes a letter
-twos, threes, fours: any letters of so many bytes; chinese: letters of three bytes, of one script
+twos, threes, fours: any letters of so many bytes; chinese, hindi: letters of three bytes of one script, hindi with spaces
 fields: varints, strings, fixed values and groups nested ten deep, which end under any number; groups: the same sorts, in which each group ends under its own; f-*: fields of one sort
 seg20, segstation, seg1k: segments of 1,000 messages of 20 bytes, of station messages, of 1,024 bytes; seg20k: of 50 messages of 20,000 bytes; seglong: seg20 with lengths of five bytes
 """
@@ -262,3 +262,4 @@ put("twos", lambda: chr(0x80 + rnd(0x780)).encode())
 put("threes", three)
 put("fours", lambda: chr(0x10000 + rnd(0x100000)).encode())
 put("chinese", lambda: chr(0x4e00 + rnd(0x5200)).encode())
+put("hindi", lambda: (chr(0x904 + rnd(74)) if rnd(6) else " ").encode())
