@@ -1,6 +1,6 @@
 // The lead bytes of UTF-8: what each of the 256 bytes says where a character begins, by the table of RFC 3629, section 4.
 // A byte's entry is three numbers, each in an array whose index is the byte: how many bytes follow, and the lowest and the highest that the first of them may be.
-// The rows of the RFC's table are set off by their ranges, and the byte stands beside each number.
+// So after e0 come two bytes, the first from a0 to bf. The rows of the RFC's table are set off by their ranges, and the byte stands beside each number.
 
 // The most bytes that follow a lead byte.
 pub(crate) const MOST_FOLLOWERS: u8 = 3;

@@ -179,7 +179,7 @@ fn same_run(s: &[u8], i: usize, count: u8, low: u8) -> usize
         0 => ascii_run(s, i),
         1 => pair_run(s, i),
         2 => {
-            // after e0, which is not so low, comes e0 most often
+            // not after e0, the one with a higher bound: most often e0 comes again, which no quick run passes
             if low == 0x80 {
                 return triple_run(s, i);
             }
