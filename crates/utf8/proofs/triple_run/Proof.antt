@@ -31,11 +31,10 @@ returns-3 c = c .before .before .before .before .before .before .before .before 
 
 loop-again : tie.Need-loop-again Inv-loop μ-loop
 loop-again c =
-    let third = c .before .within3 .ensures in
     triple (c .before .before .before .before .before .before .before .before .before .before .loop .inv) (omega arith)
     (sym (c .before .before .before .before .before .before .before .within .ensures) ∙ not-false _ (c .before .before .before .before .before .before .if1 .left))
     (sym (c .before .before .before .before .within2 .ensures) ∙ not-false _ (c .before .before .before .if2 .left))
-    (sym third ∙ not-false _ (c .if3 .left))
+    (sym (c .before .within3 .ensures) ∙ not-false _ (c .if3 .left))
 
 returns-4 : tie.Need-returns-4 Inv-loop μ-loop
 returns-4 c = c .before .loop .inv
