@@ -1,6 +1,21 @@
 // The lead bytes of UTF-8: what each of the 256 bytes says where a character begins, by the table of RFC 3629, section 4.
 // A byte's entry is three numbers, each in an array whose index is the byte: how many bytes follow, and the lowest and the highest that the first of them may be.
-// So after e0 come two bytes, the first from a0 to bf. The rows of the RFC's table are set off by their ranges, and the byte stands beside each number.
+// So after e0 come two bytes, the first from a0 to bf. Row by row, as in the RFC:
+//
+//     lead byte   followers   first follower   later followers
+//     00..7f      0
+//     80..c1      no lead byte
+//     c2..df      1           80..bf
+//     e0          2           a0..bf           80..bf
+//     e1..ec      2           80..bf           80..bf
+//     ed          2           80..9f           80..bf
+//     ee..ef      2           80..bf           80..bf
+//     f0          3           90..bf           80..bf
+//     f1..f3      3           80..bf           80..bf
+//     f4          3           80..8f           80..bf
+//     f5..ff      no lead byte
+//
+// The arrays have these rows in this order, each after its range, and the byte stands beside each number: the formatter gives every number a line of its own.
 
 // The most bytes that follow a lead byte.
 pub(crate) const MOST_FOLLOWERS: u8 = 3;
