@@ -65,27 +65,31 @@ module _ (s : List ℕ) (at : ℕ) (h : at < length s) where
   stands e f = rw (char-at, e, f)
 
 -- the lead bytes of quick runs: of all their followers the bounds are 80 and bf
-lead-pair : (b : ℕ) → between 0xc2 0xdf b ≡ true → lead b ≡ Follow 1 0x80 0xbf
+lead-pair : (b : ℕ) → 0xc2 ≤ b → b ≤ 0xdf → lead b ≡ Follow 1 0x80 0xbf
 unfolding lead
-lead-pair b e =
-    let (l, h) = and-eq-true-iff (leb 0xc2 b) (leb b 0xdf) .0 e in
-    simp (lt-leb b 0x7f (omega (arith, leb-true 0xc2 b l)), l, h)
+lead-pair b l h = simp (lt-leb b 0x7f (omega arith), le-leb 0xc2 b l, le-leb b 0xdf h)
 
-lead-triple : (b : ℕ) → between 0xe1 0xec b ≡ true → lead b ≡ Follow 2 0x80 0xbf
+lead-triple : (b : ℕ) → 0xe1 ≤ b → b ≤ 0xec → lead b ≡ Follow 2 0x80 0xbf
 unfolding lead
-lead-triple b e =
-    let (l, h) = and-eq-true-iff (leb 0xe1 b) (leb b 0xec) .0 e in
-    let low = leb-true 0xe1 b l in
-    simp (lt-leb b 0x7f (omega arith), le-leb 0xc2 b (omega arith), lt-leb b 0xdf (omega arith), ne-eqb b 0xe0 (λ x. omega arith), l, h)
+lead-triple b l h =
+    simp (lt-leb b 0x7f (omega arith), le-leb 0xc2 b (omega arith), lt-leb b 0xdf (omega arith), ne-eqb b 0xe0 (λ x. omega arith), le-leb 0xe1 b l, le-leb b 0xec h)
 
-module _ (s : List ℕ) (j : ℕ) where
-  char-pair : j + 2 ≤ length s → between 0xc2 0xdf (getD s j 0) ≡ true → between 0x80 0xbf (getD s (j + 1) 0) ≡ true → 2 ≡ char (drop j s)
-  char-pair h e f = stands s j (omega arith) (lead-pair _ e) (sym (last s (j + 1) (omega arith) 0x80 0xbf) ∙ f)
+-- a byte that is within its bounds
+bounded : (lo hi b : ℕ) → between lo hi b ≡ true → (lo ≤ b) × (b ≤ hi)
+bounded lo hi b e = let (l, h) = and-eq-true-iff (leb lo b) (leb b hi) .0 e in (leb-true lo b l, leb-true b hi h)
 
-  char-triple : j + 3 ≤ length s → between 0xe1 0xec (getD s j 0) ≡ true → between 0x80 0xbf (getD s (j + 1) 0) ≡ true → between 0x80 0xbf (getD s (j + 2) 0) ≡ true → 3 ≡ char (drop j s)
-  char-triple h e f g =
+-- a run may test its lead bytes by any bounds that lie within the row
+module _ (s : List ℕ) (j lo hi : ℕ) (e : between lo hi (getD s j 0) ≡ true) (f : between 0x80 0xbf (getD s (j + 1) 0) ≡ true) where
+  char-pair : 0xc2 ≤ lo → hi ≤ 0xdf → j + 2 ≤ length s → 2 ≡ char (drop j s)
+  char-pair l u h =
+      let (a, b) = bounded lo hi (getD s j 0) e in
+      stands s j (omega arith) (lead-pair _ (omega arith) (omega arith)) (sym (last s (j + 1) (omega arith) 0x80 0xbf) ∙ f)
+
+  char-triple : 0xe1 ≤ lo → hi ≤ 0xec → j + 3 ≤ length s → between 0x80 0xbf (getD s (j + 2) 0) ≡ true → 3 ≡ char (drop j s)
+  char-triple l u h g =
+      let (a, b) = bounded lo hi (getD s j 0) e in
       let there : getD s (j + 1 + 1) 0 ≡ getD s (j + 2) 0 = ap (λ (i : ℕ). getD s i 0) (omega arith) in
-      stands s j (omega arith) (lead-triple _ e) (good s (j + 1) (omega arith) 0x80 0xbf 1 f ∙ sym (last s (j + 1 + 1) (omega arith) 0x80 0xbf) ∙ rw there g)
+      stands s j (omega arith) (lead-triple _ (omega arith) (omega arith)) (good s (j + 1) (omega arith) 0x80 0xbf 1 f ∙ sym (last s (j + 1 + 1) (omega arith) 0x80 0xbf) ∙ rw there g)
 
 -- a run that has passed nothing
 pub stay : {s : List ℕ} (i : ℕ) → i ≤ length s → Passed s i i
@@ -110,11 +114,12 @@ module _ {s : List ℕ} {i j : ℕ} (p : Passed s i j) where
   ascii-byte h low = ascii 1 (omega arith) (λ k l. let e : j + k ≡ j = omega arith in rw e low)
 
   -- a character of two bytes more, and of three
-  pub pair : j + 2 ≤ length s → between 0xc2 0xdf (getD s j 0) ≡ true → between 0x80 0xbf (getD s (j + 1) 0) ≡ true → Passed s i (j + 2)
-  pair h e f = character 2 (char-pair s j h e f) (omega arith)
+  module _ (lo hi : ℕ) (e : between lo hi (getD s j 0) ≡ true) (f : between 0x80 0xbf (getD s (j + 1) 0) ≡ true) where
+    pub pair : 0xc2 ≤ lo → hi ≤ 0xdf → j + 2 ≤ length s → Passed s i (j + 2)
+    pair l u h = character 2 (char-pair s j lo hi e f l u h) (omega arith)
 
-  pub triple : j + 3 ≤ length s → between 0xe1 0xec (getD s j 0) ≡ true → between 0x80 0xbf (getD s (j + 1) 0) ≡ true → between 0x80 0xbf (getD s (j + 2) 0) ≡ true → Passed s i (j + 3)
-  triple h e f g = character 3 (char-triple s j h e f g) (omega arith)
+    pub triple : 0xe1 ≤ lo → hi ≤ 0xec → j + 3 ≤ length s → between 0x80 0xbf (getD s (j + 2) 0) ≡ true → Passed s i (j + 3)
+    triple l u h g = character 3 (char-triple s j lo hi e f l u h g) (omega arith)
 
   -- what is valid from i on ends where it ends from j on; at j, if the bytes end there or no character stands there
   pub ends : {r : ℕ} → Ends s j r → Ends s i r

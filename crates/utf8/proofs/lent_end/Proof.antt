@@ -2,8 +2,8 @@
 -- Assumes nothing.
 use Prim.Native.Nat.{ℕ, _+_, _-_, _<_}
 use native.Mathlib.Omega.{arith}
-use mathlib.Core.Path.{_≡_, sym, ap, _∙_}
-use mathlib.Core.Bool.{Bool, true, false, _&&_}
+use mathlib.Core.Path.{_≡_, ap, _∙_}
+use mathlib.Core.Bool.{Bool, _&&_}
 use mathlib.Core.List.{List}
 use borrow.Author.Needs.{needs}
 use borrow.Author.Tests.{not-true, not-false}
@@ -27,16 +27,17 @@ loop-holds : tie.Need-loop-holds Inv-loop μ-loop
 loop-holds c = stay _ (c .before .pre .0)
 
 -- what the tables say of the byte at j is what the definition says of it
-judged : {s counts lows highs : List ℕ} {i j b : ℕ} (v : Bool) → Passed s i j → Leads counts lows highs → j < length s → (b ≡ getD s j 0) × (b < 256) →
-    v ≡ (leb (getD counts b 0) mostFollowers && followers (getD counts b 0) (getD lows b 0) (getD highs b 0) (drop (j + 1) s)) →
+judged : {s counts lows highs : List ℕ} {i j b : ℕ} {v w : Bool} → Passed s i j → Leads counts lows highs → j < length s → (b ≡ getD s j 0) × (b < 256) → w ≡ v →
+    w ≡ (leb (getD counts b 0) mostFollowers && followers (getD counts b 0) (getD lows b 0) (getD highs b 0) (drop (j + 1) s)) →
     (if v then getD counts b 0 + 1 else 0) ≡ char (drop j s)
-judged {s} {counts} {lows} {highs} {j = j} {b = b} v p leads h at e = rw e (said s j h (getD counts b 0) (getD lows b 0) (getD highs b 0) (leads .right b (at .1) ∙ ap lead (at .0)))
+judged {s} {counts} {lows} {highs} {j = j} {b = b} p leads h at e f =
+    rw (← e, f) (said s j h (getD counts b 0) (getD lows b 0) (getD highs b 0) (leads .right b (at .1) ∙ ap lead (at .0)))
 
 returns : tie.Need-returns Inv-loop μ-loop
 returns c =
     let at-loop = c .before .before .before .before .before .before .before .before in
     let at = c .before .before .before .before .before .number .ensures in
-    stopped (at-loop .loop .inv) (judged false (at-loop .loop .inv) (at-loop .before .before .pre .1) (omega arith) at (sym (not-true _ (c .if1 .taken)) ∙ c .before .follows .ensures))
+    stopped (at-loop .loop .inv) (judged (at-loop .loop .inv) (at-loop .before .before .pre .1) (omega arith) at (not-true _ (c .if1 .taken)) (c .before .follows .ensures))
 
 passed : (c : tie.After-number2 Inv-loop μ-loop) →
     let at-loop = c .before .before .before .before .before .before .before .before .before in
@@ -44,7 +45,7 @@ passed : (c : tie.After-number2 Inv-loop μ-loop) →
 passed c =
     let at-loop = c .before .before .before .before .before .before .before .before .before in
     let at = c .before .before .before .before .before .before .number .ensures in
-    let e = judged true (at-loop .loop .inv) (at-loop .before .before .pre .1) (omega arith) at (sym (not-false _ (c .before .if1 .left)) ∙ c .before .before .follows .ensures) in
+    let e = judged (at-loop .loop .inv) (at-loop .before .before .pre .1) (omega arith) at (not-false _ (c .before .if1 .left)) (c .before .before .follows .ensures) in
     character (at-loop .loop .inv) _ (ap (λ (n : ℕ). n + 1) (c .number2 .ensures .0) ∙ e) (omega arith)
 
 add-same-run : tie.Need-add-same-run Inv-loop μ-loop

@@ -28,7 +28,12 @@ returns-2 c = c .before .before .before .before .before .before .before .loop .i
 
 loop-again : tie.Need-loop-again Inv-loop μ-loop
 loop-again c =
-    pair (c .before .before .before .before .before .before .before .loop .inv) (omega arith) (sym (c .before .before .before .before .within .ensures) ∙ not-false _ (c .before .before .before .if1 .left)) (sym (c .before .within2 .ensures) ∙ not-false _ (c .if2 .left))
+    pair (c .before .before .before .before .before .before .before .loop .inv) _ _
+    (sym (c .before .before .before .before .within .ensures) ∙ not-false _ (c .before .before .before .if1 .left))
+    (sym (c .before .within2 .ensures) ∙ not-false _ (c .if2 .left))
+    (omega arith)
+    (omega arith)
+    (omega arith)
 
 returns-3 : tie.Need-returns-3 Inv-loop μ-loop
 returns-3 c = c .before .loop .inv

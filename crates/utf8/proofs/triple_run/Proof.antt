@@ -31,9 +31,12 @@ returns-3 c = c .before .before .before .before .before .before .before .before 
 
 loop-again : tie.Need-loop-again Inv-loop μ-loop
 loop-again c =
-    triple (c .before .before .before .before .before .before .before .before .before .before .loop .inv) (omega arith)
+    triple (c .before .before .before .before .before .before .before .before .before .before .loop .inv) _ _
     (sym (c .before .before .before .before .before .before .before .within .ensures) ∙ not-false _ (c .before .before .before .before .before .before .if1 .left))
     (sym (c .before .before .before .before .within2 .ensures) ∙ not-false _ (c .before .before .before .if2 .left))
+    (omega arith)
+    (omega arith)
+    (omega arith)
     (sym (c .before .within3 .ensures) ∙ not-false _ (c .if3 .left))
 
 returns-4 : tie.Need-returns-4 Inv-loop μ-loop
