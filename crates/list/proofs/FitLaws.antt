@@ -16,7 +16,7 @@ use Rattle.spec.specs.Writing.{recorded}
 use Rattle.spec.proofs.ListLaws.{recorded-small}
 use Rattle.spec.proofs.Laws.{either-way, by-test}
 use Rattle.spec.proofs.KindLaws.{wireOne, wireOf, wire-shape}
-use Rattle.wire.proofs.Below.{equal-below}
+use Rattle.spec.proofs.Below.{equal-below}
 use Rattle.list.specs.Checking.{signed32Kind, unsigned32Kind}
 
 -- ---- wire types and shapes

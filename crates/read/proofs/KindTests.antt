@@ -15,7 +15,7 @@ use Rattle.spec.specs.Varint.{varint32, varint64, unzigzag}
 use Rattle.spec.specs.Kind.{int32, uint32, uint64, bool, sint32, sint64, fixed32, sfixed32, fixed64, Shape, one, other, string, bytes, message, packed, startGroup, endGroup, nothing, shape, shapes, scalar, signed32}
 use Rattle.spec.specs.Schema.{bit}
 use Rattle.wire.specs.Reached.{varintOf}
-use Rattle.wire.proofs.Below.{agree, equal-below}
+use Rattle.spec.proofs.Below.{agree, equal-below}
 use Rattle.read.specs.Answers.{hasLength, scalarOf, meantAs, meantBy, isInt, mustFit32, isVarint32, intBy, sizeOne, sizeOf}
 use Rattle.read.specs.declared.scalar.Meant.{Meant}
 use Rattle.read.specs.declared.scalar.Meant.the-variants.{Is, Other}

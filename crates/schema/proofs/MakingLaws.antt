@@ -16,7 +16,7 @@ use Rattle.spec.specs.Schema.{badSchema, noEntry, schemaOf, entryStride}
 use Rattle.spec.proofs.Laws.{by-test}
 use Rattle.spec.proofs.SchemaLaws.{length-entries, Good}
 use Rattle.spec.specs.declared.Entry.{Entry}
-use Rattle.wire.proofs.Below.{equal-below}
+use Rattle.spec.proofs.Below.{equal-below}
 use Rattle.schema.specs.Layout.{keyCount}
 use Rattle.schema.specs.declared.Five.{Five}
 use Rattle.schema.specs.Tables.{counted, upTo, soundOf, rank, nextKey, keyOf, innerIn, noted, storing, putKey, putInfo, keysWith, infoWith}

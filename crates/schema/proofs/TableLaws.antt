@@ -18,7 +18,7 @@ use Rattle.spec.proofs.FieldLaws.{kind-typed, kind-packed, kind-unknown, kind-l
 use Rattle.spec.proofs.ListLaws.{scalar-shape}
 use Rattle.spec.proofs.SchemaLaws.{schema-kinds, Is, Before, type-before, number-before, Good, good-entry, at, place-found, place-none, valid-types, valid-count, valid-good, valid-found}
 use Rattle.spec.specs.declared.Entry.{Entry}
-use Rattle.wire.proofs.Below.{equal-below}
+use Rattle.spec.proofs.Below.{equal-below}
 use Rattle.schema.specs.Layout.{infoLength, innersAt, keyCount, kindsAt, mayPack, notFound, ownerUnit, noKey}
 use Rattle.schema.proofs.SearchLaws.{Keyed, placedOr, search-place}
 use Rattle.schema.proofs.MakingLaws.{wire-below}

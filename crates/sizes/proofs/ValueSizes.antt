@@ -15,7 +15,7 @@ use Rattle.spec.specs.Kind.{int32, uint32, uint64, bool, sint32, sint64, fixed3
 use Rattle.spec.specs.Sizes.{scalarSize, prefixedSize, valueSize, fieldSize}
 use Rattle.spec.proofs.KindLaws.{wireOne, wireOf, wire-shape}
 use Rattle.sizes.specs.SizeParts.{capped, coded}
-use Rattle.wire.proofs.Below.{equal-below}
+use Rattle.spec.proofs.Below.{equal-below}
 
 pub size-most : (v : ℕ) → size v ≤ 10
 unfolding size

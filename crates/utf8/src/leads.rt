@@ -1,6 +1,6 @@
 // The lead bytes of UTF-8: what each of the 256 bytes says where a character begins, by the table of RFC 3629, section 4.
 // A byte's entry is three numbers, each in an array whose index is the byte: how many bytes follow, and the lowest and the highest that the first of them may be.
-// So after e0 come two bytes, the first from a0 to bf. Row by row, as in the RFC:
+// So after e0 come two bytes, the first from a0 to bf. These are the rows of the RFC, and the bytes that it leaves out:
 //
 //     lead byte   followers   first follower   later followers
 //     00..7f      0
@@ -15,7 +15,7 @@
 //     f4          3           80..8f           80..bf
 //     f5..ff      no lead byte
 //
-// The arrays have these rows in this order, each after its range, and the byte stands beside each number: the formatter gives every number a line of its own.
+// Each array has these rows in this order, each row under its range. The formatter gives every number a line of its own; the byte stands beside it.
 
 // The most bytes that follow a lead byte.
 pub(crate) const MOST_FOLLOWERS: u8 = 3;

@@ -1,4 +1,3 @@
-pub mod Below
 pub mod FixedLaws
 pub mod FormatLaws
 pub mod FoundLaws

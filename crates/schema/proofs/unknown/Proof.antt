@@ -7,7 +7,7 @@ use mathlib.Core.List.{[], _∷_}
 use lib.ListN.{getD}
 use Rattle.spec.specs.Names.{groupEnd, groupStart, unknownBytes, unknownFixed32, unknownFixed64, unknownVarint}
 use Rattle.spec.specs.Schema.{unknownKind}
-use Rattle.wire.proofs.Below.{equal-below}
+use Rattle.spec.proofs.Below.{equal-below}
 use Rattle.schema.proofs.unknown.Statement.{statement}
 use Rattle.schema.proofs.unknown.Tie as tie
 

@@ -6,7 +6,7 @@ use borrow.Author.Needs.{needs}
 use lib.ListN.{length, getD, List·getD-eq-default}
 use Rattle.spec.specs.Names.{allKinds, noWire, ownKinds}
 use Rattle.spec.specs.Kind.{kindWires, ownWires, wires, wire}
-use Rattle.wire.proofs.Below.{equal-below}
+use Rattle.spec.proofs.Below.{equal-below}
 use Rattle.wire.proofs.wire_format.wire_of.Statement.{statement}
 use Rattle.wire.proofs.wire_format.wire_of.Tie as tie
 

@@ -8,7 +8,7 @@ use lib.ListN.{length, getD, List·getD-eq-default}
 use Rattle.spec.specs.Names.{fixed32Wire, noWire, ownKinds}
 use Rattle.spec.specs.Base.{if_then_else_}
 use Rattle.spec.specs.Kind.{kindWires}
-use Rattle.wire.proofs.Below.{equal-below}
+use Rattle.spec.proofs.Below.{equal-below}
 use Rattle.wire.proofs.wire_format.WireType.for_type.Statement.{statement}
 use Rattle.wire.proofs.wire_format.WireType.for_type.Tie as tie
 
