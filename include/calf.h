@@ -61,7 +61,8 @@ uint32_t calf_prepare(uint32_t types, const uint32_t *numbers, size_t numbers_le
 
 /* ---- reading */
 
-/* Reads the message s to records in room: answer = { count of the records in room, place of the refusal }. Room after the records is untouched. */
+/* Reads the message s to records in room: answer = { count of the records in room, place of the refusal }. Room after the records is untouched.
+ * For 6, a string that is not UTF-8, the place is the first byte of its broken letter. */
 uint32_t calf_read(uint32_t types, const uint32_t *numbers, size_t numbers_len, const uint8_t *s, size_t s_len, uint64_t *room, size_t room_len, uint64_t answer[2]);
 
 /* The same under the tables of a valid schema, for a caller with many messages. Any arrays are tables: what reading gives is defined for all. */
@@ -103,7 +104,7 @@ uint32_t calf_segment_write(const uint64_t *ranges, size_t ranges_len, const uin
 uint32_t calf_pull_open(const uint8_t *s, size_t s_len);
 
 /* A step at a position and a level: answer = { what, a, b, position then }. what is 0 at the end, 1 for a number, a; 2 for a content from a to b; 3 for a refusal at a, which leaves
- * the position. kind is 0 for the raw tag, a kind of descriptor.proto for a value of it, and 10 to skip the field after `tag`, where a is how many bytes; else tag is ignored. */
+ * the position: a is the position too, and for 6 the first byte of the broken letter. kind is 0 for the raw tag, a kind of descriptor.proto for a value of it, and 10 to skip the field after `tag`, where a is how many bytes; else tag is ignored. */
 uint32_t calf_pull_step(const uint8_t *s, size_t s_len, size_t at, uint32_t level, uint32_t kind, uint32_t tag, uint64_t answer[4]);
 
 /* A message at a position: the answer is its content (2), which a caller reads as a slice of its own at level + 1, and the position after it. 7 at level 100. */

@@ -11,7 +11,7 @@ RULES = {
     'list': '6, 7, 10 of the writers: the crate writes objects, not lists or ranges',
     'front': '13, 14: the crate knows no segments, and is asked only where the front is right',
     'room': '8: the crate has no room; the records, or ranges, before it are compared',
-    'place': 'the place of a refused reading; all else of the answer is compared',
+    'place': 'the place of a refused reading, other than that of 6; all else of the answer is compared',
     'enum': 'a packed negative enum, which the crate counts as five bytes',
     'long': 'the size of a content of more than 1,048,576 bytes: the crate asks for the bytes themselves, and judges no limit',
     'group': 'kind 10, which the crate gives the wire type of a message',

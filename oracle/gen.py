@@ -783,11 +783,23 @@ class Letters(Maker):
         other = r.choice([b[i] + 1, b[i] - 1, b[i] ^ 1 << r.randrange(8), r.choice(LEADS)]) % 256
         return r.choice([b[:i] + bytes([other]) + b[i + 1:], b[:i] + bytes([other]) + b[i + 1:], b[:i] + b[i + 1:], b[:i] + bytes([other]) + b[i:]])
 
+    def inside(self, b):
+        """A message that has this text as a string some messages deep, other fields before and after it, tags and lengths now and then longer than needed."""
+        r = self.r
+        others = lambda: b''.join(self.unknown(r.choice([0, 1, 2, 5]), r.choice([1, 16, 2048])) for _ in range(r.randrange(3)))
+        number = lambda v: longer(v, r.randrange(len(varint(v)), 6)) if r.random() < .2 else varint(v)
+        field = lambda n, content: others() + number(n * 8 + 2) + number(len(content)) + content + others()
+        out = field(2, b)
+        for _ in range(r.choice([99, 100, 101]) if r.random() < .02 else r.choice([0, 1, 1, 2, 2, 3])):
+            out = field(3, out)
+        return out
+
     def asked(self, b):
-        """The check; now and then reading, writing and pulling a string of these bytes."""
-        lines = ['utf8 ' + hexed(b)]
+        """The check and the longest valid front; now and then reading, writing and pulling a string of these bytes."""
+        lines = ['utf8 ' + hexed(b), 'utf8prefix ' + hexed(b)]
         if self.r.random() < .3:
             content = varint(len(b)) + b
+            lines += ['read %s %d %s' % (NEST, self.r.choice([400, 400, 2]), hexed(self.inside(b))), 'records %s %s' % (NEST, hexed(self.inside(b)))]
             lines += ['read %s 9 %s' % (A, hexed(tag(2, 2) + content)), 'write %s 0,2,9,0,0,%d %s %d' % (A, len(b), hexed(b), len(b) + 9), 'pull 0 string,tag ' + hexed(content)]
         return lines
 
@@ -798,7 +810,7 @@ class Letters(Maker):
     def cuts(self):
         """Every cut of a text, from its front and from its end."""
         b = self.text()[:40]
-        return ['utf8 ' + hexed(some) for i in range(len(b) + 1) for some in (b[:i], b[i:])]
+        return [verb + hexed(some) for i in range(len(b) + 1) for some in (b[:i], b[i:]) for verb in ('utf8 ', 'utf8prefix ')]
 
 
 # the families of each group, each as often as it says
@@ -809,6 +821,7 @@ FAMILIES = [('leaf', 6), ('utf8', 5), ('groups', 8), ('schemas', 6), ('reads', 2
 MATTER = bytes.fromhex('00 01 02 05 06 07 08 09 0a 0b 0c 0d 0e 0f 10 12 13 1a 1c 20 22 24 25 2d 38 7f 80 81 ff')
 LEADS = bytes.fromhex('00 7f 80 8f 90 9f a0 bf c0 c1 c2 df e0 e1 ec ed ee ef f0 f1 f3 f4 f5 ff')
 P = '1|0,1,5,1,0;0,4,13,1,0;0,5,7,1,0'
+NEST = '1|0,2,9,0,0;0,3,11,0,0'  # a string, and a message of the same type
 
 
 def short():
@@ -844,9 +857,9 @@ def short_documents():
 
 
 def short_letters():
-    """Every lead byte with every first follower, and after these up to two that any lead byte may have."""
+    """Every lead byte with every first follower, and after these up to two that any lead byte may have: the longest valid front, which answers the check too."""
     for more in range(3):
-        yield from ('utf8 ' + hexed(bytes([a, b]) + b'\x80' * more) for a in range(256) for b in range(256))
+        yield from ('utf8prefix ' + hexed(bytes([a, b]) + b'\x80' * more) for a in range(256) for b in range(256))
 
 
 def families(make, weights):

@@ -145,7 +145,8 @@ def fits(kind, v):
 
 # ---- UTF-8
 
-def utf8(b):
+def utf8_prefix(b):
+    """The length of the longest front that is whole letters: where the first broken letter begins, or all."""
     i = 0
     while i < len(b):
         lead = b[i]
@@ -161,15 +162,19 @@ def utf8(b):
             more = 3
             low, high = {0xf0: (0x90, 0xbf), 0xf4: (0x80, 0x8f)}.get(lead, (low, high))
         else:
-            return False
+            return i
         if i + more >= len(b):
-            return False
+            return i
         for j in range(1, more + 1):
             if not low <= b[i + j] <= high:
-                return False
+                return i
             low, high = 0x80, 0xbf
         i += more + 1
-    return True
+    return i
+
+
+def utf8(b):
+    return utf8_prefix(b) == len(b)
 
 
 # ---- skipping
@@ -349,6 +354,7 @@ class Reading:
         if kind in (9, 12, 23):
             start, stop = content(b, at, end, varint32)
             if kind == 9 and not utf8(b[start:stop]):
+                self.place = start + utf8_prefix(b[start:stop])
                 raise Refused(6)
             self.put(depth, num, kind, 0, start, stop)
             return stop
@@ -690,6 +696,7 @@ VERBS = {
     'packedsize': (3, lambda k, n, vs: packed_size(number(k, U32), number(n, U32), [number(v) for v in vs.split(',')] if vs != '-' else [])),
     'wire': (1, lambda k: str(WIRE.get(number(k, U32), 'none'))),
     'utf8': (1, lambda h: 'ok' if utf8(data(h)) else 'refused 6'),
+    'utf8prefix': (1, lambda h: str(utf8_prefix(data(h)))),
     'skip': (3, lambda l, t, h: skip_verb(number(l, U32), number(t, U32), data(h), True)),
     'group': (3, lambda l, t, h: skip_verb(number(l, U32), number(t, U32), data(h), False)),
     'document': (1, lambda h: 'yes' if document(data(h)) else 'no'),

@@ -4,6 +4,7 @@ Exit status 1 where one is not found. A fault is a piece of text of model.py, wh
 entries of single lead bytes are many, and printed only where they are missed."""
 import sys
 
+SAID = 'if i + more >= len(b):'  # before this the table has said what the lead byte needs
 FAULTS = [
     ('a varint64 of eleven bytes', 'return varint(b, at, end, 10, 1)', 'return varint(b, at, end, 11, 1)'),
     ('the tenth byte not judged', 'return varint(b, at, end, 10, 1)', 'return varint(b, at, end, 10, 127)'),
@@ -42,6 +43,13 @@ FAULTS = [
     ('one follower of ec', 'low, high = {0xe0', 'more -= lead == 0xec\n            low, high = {0xe0'),
     ('two followers of f3', 'low, high = {0xf0', 'more -= lead == 0xf3\n            low, high = {0xf0'),
     ('two followers of d9', 'more = 1\n', 'more = 1 + (lead == 0xd9)\n'),
+    ('6 at the tag', 'self.place = start + utf8_prefix(b[start:stop])', 'pass'),
+    ('6 at a place counted in the content', 'self.place = start + utf8_prefix(b[start:stop])', 'self.place = utf8_prefix(b[start:stop])'),
+    ('6 at a place counted in the message', 'self.message(start, stop, child, depth + 1)\n        return stop', 'try:\n            self.message(start, stop, child, depth + 1)\n        except Refused as r:\n            self.place -= start * (r.number == 6)\n            raise\n        return stop'),
+    ('6 at the first byte of the content', 'self.place = start + utf8_prefix(b[start:stop])', 'self.place = start'),
+    ('6 after the broken letter\'s lead byte', 'self.place = start + utf8_prefix(b[start:stop])', 'self.place = start + utf8_prefix(b[start:stop]) + 1'),
+    ('6 at the byte that is no follower', 'if not low <= b[i + j] <= high:\n                return i', 'if not low <= b[i + j] <= high:\n                return i + j'),
+    ('6 at the last byte of a letter that is cut', SAID + '\n            return i', SAID + '\n            return len(b) - 1'),
     ('a string length as wide as a message length', 'start, stop = content(b, at, end, varint32)\n            if kind == 9', 'start, stop = content(b, at, end, varint64)\n            if kind == 9'),
     ('a message length as narrow as a string length', 'start, stop = content(self.b, at, end, varint64)\n        self.put(depth, num, 11', 'start, stop = content(self.b, at, end, varint32)\n        self.put(depth, num, 11'),
     ('a packed length as narrow as a string length', 'start, stop = content(self.b, at, end, varint64)\n        if start < stop', 'start, stop = content(self.b, at, end, varint32)\n        if start < stop'),
@@ -124,10 +132,9 @@ RULE = 'return (max(v.bit_length(), 1) + 6) // 7'
 FAULTS += [('128 ^ %d takes one byte less' % k, RULE, '%s - (v == 128**%d)' % (RULE, k)) for k in range(1, 10)]
 
 # what the table of RFC 3629 says of one lead byte, wrong in one number; and a byte that begins no letter, taken with so many followers
-SAID = 'if i + more >= len(b):'
 ENTRIES = [('%s of %02x %+d' % (name, lead, by), SAID, '%s += %d * (lead == %d)\n        %s' % (name, by, lead, SAID))
            for lead in range(0xc2, 0xf5) for name in ('more', 'low', 'high') for by in (-1, 1)]
-NONE = 'else:\n            return False\n        ' + SAID
+NONE = 'else:\n            return i\n        ' + SAID
 ENTRIES += [('%02x with %d followers' % (lead, more), NONE, 'elif lead == %d:\n            more = %d\n        %s' % (lead, more, NONE))
             for lead in [*range(0x80, 0xc2), *range(0xf5, 0x100)] for more in range(4)]
 

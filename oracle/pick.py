@@ -40,6 +40,8 @@ def signature(line, crate, model):
         return verb, int(words[1]) % 8, len(words[1]) // 3
     if verb.startswith('varint'):
         return verb, first, model.split(' ')[-1], len(words[1]) // 2
+    if verb == 'utf8prefix':
+        return verb, words[1][2 * int(first):][:1], min(int(first), 9)
     if verb in ('utf8', 'document'):
         return verb, first, words[1][:1], len(words[1]) // 4
     return verb, first if verb not in ('encode', 'zdec64', 'zenc64', 'zdec32', 'zenc32', 'lookup') else len(first), len(words[-1]) // 4

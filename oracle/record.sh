@@ -2,7 +2,7 @@
 # record.sh: writes ../crates/replay/stdin and stdout: lines that cover every verb, kind and refusal, and their answers by the crate, or by the model where the
 # crate has none. The program `replay` is run over them by the gate, with no Rust at hand. The lines are own/lines.txt, and some of gen.py's; then those of segment
 # files: own/segments.txt, every cut of three segments, and some of gen.py's; then own/sizes.txt; then those of documents: own/documents.txt, and some of gen.py's;
-# then those of letters: own/letters.txt, and some of gen.py's.
+# then those of letters: own/letters.txt, own/broken.txt, and some of gen.py's.
 # After setup.sh. Nothing of ours takes part: the answers are the crate's and the model's, which must agree wherever both answer.
 set -eu
 cd "$(dirname "$0")"
@@ -22,7 +22,7 @@ python3 gen.py 20000 7 segments | awk 'length($0) < 1000' >$W/mixed
 grep -v '^#' own/sizes.txt >$W/sizes
 grep -v '^#' own/documents.txt >$W/documents
 python3 gen.py 20000 7 documents | awk 'length($0) < 1000' >$W/groups
-grep -v '^#' own/letters.txt >$W/letters
+grep -hv '^#' own/letters.txt own/broken.txt >$W/letters
 python3 gen.py 20000 7 letters | awk 'length($0) < 300' >$W/texts
 answer $W/own
 answer $W/some
@@ -41,7 +41,7 @@ cat $W/sizes >>$W/stdin; cat $W/sizes.model >>$W/stdout
 cat $W/documents >>$W/stdin; cat $W/documents.model >>$W/stdout
 python3 pick.py $W/groups $W/groups.oracle $W/groups.model 200 $W/stdin $W/stdout
 cat $W/letters >>$W/stdin; cat $W/letters.model >>$W/stdout
-python3 pick.py $W/texts $W/texts.oracle $W/texts.model 100 $W/stdin $W/stdout
+python3 pick.py $W/texts $W/texts.oracle $W/texts.model 200 $W/stdin $W/stdout
 answer $W/stdin
 cmp $W/stdin.model $W/stdout
 cat $W/stdin.table

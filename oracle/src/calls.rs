@@ -28,6 +28,7 @@ pub fn call(line: &Line) -> Parsed<String> {
         "packedsize" => packed_size(line.words(3)?)?,
         "wire" => wire(number(one()?)?),
         "utf8" => utf8(&bytes(one()?)?),
+        "utf8prefix" => utf8_prefix(&bytes(one()?)?).to_string(),
         "skip" => skip(line.words(3)?, |tag, is| rt::skip_field_for_tag(tag, is))?,
         "group" => skip(line.words(3)?, |tag, is| rt::read_unknown_or_skip_group(tag, is, &mut UnknownFields::new()))?,
         _ => return None,
@@ -162,6 +163,11 @@ fn utf8(content: &[u8]) -> String {
         }
         Err(e) => format!("refused {}", refusal(&e)),
     })
+}
+
+/// The length of the longest front that the crate takes as a string. It has no call for that: every front is asked, the longest first.
+pub fn utf8_prefix(content: &[u8]) -> usize {
+    (0..=content.len()).rev().find(|n| utf8(&content[..*n]) == "ok").expect("no bytes are a string")
 }
 
 fn skip(w: &[&str], by: impl Fn(u32, &mut CodedInputStream) -> Result<()>) -> Parsed<String> {

@@ -6,6 +6,7 @@ use protobuf::descriptor::field_descriptor_proto::Type;
 use protobuf::rt::{self, WireType};
 use protobuf::{CodedInputStream, CodedOutputStream, Enum, Message, MessageField, Result, SpecialFields, UnknownFields, UnknownValueRef};
 
+use crate::calls::utf8_prefix;
 use crate::scalars;
 use crate::words::{both, bytes, number, refusal, schema, show, stream, Entry, Line, Parsed, Record};
 
@@ -17,6 +18,8 @@ struct Notes {
     records: Vec<Record>,
     /// the crate let a message's or packed field's length run past the slice
     past: bool,
+    /// where a string that was refused is broken
+    broken: Option<u64>,
     /// what the next message to be made is
     next: Node,
 }
@@ -46,9 +49,35 @@ fn put(depth: u64, number: u32, kind: u64, value: u64, start: u64, end: u64) {
     note(|n| n.records.push(Record { depth, number: u64::from(number), kind, value, start, end }));
 }
 
+/// A second stream, which has come as far as the first.
+fn again(bytes: &[u8], from: u64) -> CodedInputStream<'_> {
+    let mut is = CodedInputStream::from_bytes(bytes);
+    is.skip_raw_bytes(from as u32).expect("as far as the first stream was");
+    is
+}
+
+/// A string that the crate refused, its length at this place: read again as bytes, it is broken after the longest front that the crate takes.
+fn broken(from: u64) {
+    let bytes = note(|n| n.bytes.clone());
+    let mut is = again(&bytes, from);
+    let content = is.read_bytes().expect("the first stream had them");
+    let start = is.pos() - content.len() as u64;
+    note(|n| n.broken = Some(start + utf8_prefix(&content) as u64));
+}
+
 /// A length that the crate has taken, up to this place.
 fn taken(end: u64) {
     note(|n| n.past |= end > n.bytes.len() as u64);
+}
+
+/// A string; where the crate refuses it for a broken letter, the place is noted.
+fn text(is: &mut CodedInputStream) -> Result<String> {
+    let from = is.pos();
+    is.read_string().inspect_err(|e| {
+        if refusal(e) == 6 {
+            broken(from);
+        }
+    })
 }
 
 fn wire_of(kind: u32) -> u32 {
@@ -71,7 +100,7 @@ impl Read {
         let depth = self.node.depth;
         match e.kind {
             9 | 12 => {
-                let length = if e.kind == 9 { is.read_string()?.len() } else { is.read_bytes()?.len() } as u64;
+                let length = if e.kind == 9 { text(is)?.len() } else { is.read_bytes()?.len() } as u64;
                 put(depth, e.number, u64::from(e.kind), 0, is.pos() - length, is.pos());
             }
             11 => {
@@ -97,8 +126,7 @@ impl Read {
         let (from, left) = (is.pos(), is.bytes_until_limit());
         let mut values = Vec::new();
         let answer = scalars::read_packed(e.kind, is, &mut values);
-        let mut again = CodedInputStream::from_bytes(&bytes);
-        again.skip_raw_bytes(from as u32).expect("as far as the first stream was");
+        let mut again = again(&bytes, from);
         if left != u64::MAX {
             again.push_limit(left).expect("as the first stream has it");
         }
@@ -185,6 +213,7 @@ impl Message for Read {
 
 struct Outcome {
     refused: u32,
+    broken: Option<u64>,
     records: Vec<Record>,
     past: bool,
 }
@@ -193,7 +222,14 @@ fn outcome(schema: &Rc<Vec<Entry>>, bytes: &Rc<Vec<u8>>, limited: bool) -> Outco
     note(|n| *n = Notes { schema: schema.clone(), bytes: bytes.clone(), ..Notes::default() });
     let answer = Read::new().merge_from(&mut stream(bytes, limited, 0));
     let notes = note(std::mem::take);
-    Outcome { refused: answer.map_or_else(|e| refusal(&e), |()| 0), records: notes.records, past: notes.past }
+    Outcome { refused: answer.map_or_else(|e| refusal(&e), |()| 0), broken: notes.broken, records: notes.records, past: notes.past }
+}
+
+impl Outcome {
+    /// The crate gives no places; that of a broken letter is found by asking it again.
+    fn place(&self) -> String {
+        self.broken.map_or("?".to_string(), |p| p.to_string())
+    }
 }
 
 /// Both streams' answers, shown in the verb's way.
@@ -203,7 +239,7 @@ fn shown(schema: Vec<Entry>, bytes: Vec<u8>, show: impl Fn(&Outcome) -> String) 
     both(show(&limited), show(&bare), bare.past)
 }
 
-/// The crate has no room: where there are more records than that, only the first ones are given. It gives no places.
+/// The crate has no room: where there are more records than that, only the first ones are given.
 pub fn read(line: &Line) -> Parsed<String> {
     let w = line.words(3)?;
     let room: usize = number(w[1])?;
@@ -213,7 +249,7 @@ pub fn read(line: &Line) -> Parsed<String> {
         match (o.records.len() > room, o.refused) {
             (true, _) => format!("? {} ? {}", kept.len(), list),
             (false, 0) => format!("0 {} 0 {}", kept.len(), list),
-            (false, no) => format!("{} {} ? {}", no, kept.len(), list),
+            (false, no) => format!("{} {} {} {}", no, kept.len(), o.place(), list),
         }
     }))
 }
@@ -230,7 +266,7 @@ pub fn records(line: &Line) -> Parsed<String> {
         text + &match (o.records.len() > kept.len(), o.refused) {
             (true, _) => "refused ? at ?".to_string(),
             (false, 0) => format!("ok {}", kept.len()),
-            (false, no) => format!("refused {} at ?", no),
+            (false, no) => format!("refused {} at {}", no, o.place()),
         }
     }))
 }

@@ -2,13 +2,15 @@
 // the sizes of packed fields by type and of unknown fields, the trip through an older schema, the size of a segment, the segment that is written, cut and
 // read, and the records of one message of a segment. Others have one, but a case line has only whole records, ranges and entries: here lists, rooms and
 // schema numbers also end within one. An entry with `repeated` 2 is tried too, since the case lines make all calls but the schema check through lent
-// entries, where `repeated` is yes or no. The sizes of segments reach the limit, for which no case line is long enough.
+// entries, where `repeated` is yes or no. The sizes of segments reach the limit, for which no case line is long enough. Of a string step that the pull reader
+// refuses, a case line shows the position, and not the place of the broken letter.
 // What must be printed stands in the file stdout, derived by hand from the rules. A remainder after whole records is a broken record: 10 at its index, or at
 // the index of a packed head right before it. An earlier fault comes first. Room is as many records, or ranges, as fit whole. A remainder after whole entries
 // is a wrong entry count, 9 at 0, before any entry is judged; a search passes over it, and a size counts nothing for it. A remainder after whole ranges is a
 // range outside the payload: 10 at its index.
 mod copies;
 mod finds;
+mod letters;
 mod lists;
 mod packed;
 mod parts;
@@ -42,6 +44,7 @@ fn main() {
     let packed = packed::packed(tagged, &mut out);
     let sized = unknowns::unknowns(packed, &mut out);
     let copied = copies::copies(sized, &mut out);
-    let size = segments::segments(copied, &mut out);
+    let cut = segments::segments(copied, &mut out);
+    let size = letters::letters(cut, &mut out);
     write_front(&out, size);
 }

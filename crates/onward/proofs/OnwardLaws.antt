@@ -405,8 +405,8 @@ pub onward-trip : (mode : Mode) (old new : Schema) (payload : List ℕ) (rs : Li
 unfolding onward
 onward-trip mode old new payload rs room space older vold vnew fine small some-room some-space =
     let s : List ℕ = written payload rs in
-    let p = project old new payload s (older-has old new older vnew) (valid-tree new payload (schema-kinds new vnew) rs fine) 0 (stands-self old payload s s) in
-    let q = back old s s mode (p .1) 0 (stands-self old s s s) small in
+    let p = project old new payload s (older-has old new older vnew) (valid-tree new payload (schema-kinds new vnew) rs fine) 0 (stands-self s) in
+    let q = back old s s mode (p .1) 0 (stands-self s) small in
     let shows : map (seen s) (q .0) ≡ onward old payload rs = alike-seen (q .2) ∙ p .2 in
     let few : length (q .0) ≤ length rs = omega (arith, ap length shows, length-map (q .0) (seen s), onward-count (length rs) old payload 0 rs) in
     record {

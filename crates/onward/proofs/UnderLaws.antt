@@ -173,7 +173,7 @@ module _ (mode : Mode) (sch : Schema) (payload : List ℕ) (r : Record) (under :
       ap (λ (k : ℕ). held (shape k) payload r (bytesIn (not (eqb k packedHead)) payload under)) kin
       ∙ ap (λ (x : Shape). held x payload r (bytesIn true payload under)) shape-message ∙ tree-bytes sch payload tr in
       let out : r .depth + 1 ≡ r .depth + 1 + 0 = omega arith in
-      let q = back sch payload i mode (lift sch payload tr (r .depth + 1) 0 out) 0 (stands-self sch payload i i) small in
+      let q = back sch payload i mode (lift sch payload tr (r .depth + 1) 0 out) 0 (stands-self i) small in
       subst (Opens mode sch payload r under inside) (sym is) (record {
         list = q .0;
         reads = ap (λ (k : ℕ). if eqb k packedHead then contents (shape inside) 0 (r .number) inside 0 0 i else read (looking mode sch) 0 inside 0 i) kin ∙ q .1;

@@ -5,12 +5,10 @@ use native.Mathlib.Omega.{arith}
 use mathlib.Core.Path.{_≡_, refl, sym, ap, ap₂, _∙_}
 use mathlib.Core.Bool.{Bool, true, false}
 use mathlib.Core.List.{List}
-use lib.ListN.{length, take, drop, getD}
-use lib.Seq.{drop-drop}
+use lib.ListN.{length, drop, getD}
 use Rattle.spec.specs.Names.{mostLevels, notUtf8, tooDeep}
-use Rattle.spec.specs.Base.{if_then_else_, part, Read, Took, No}
+use Rattle.spec.specs.Base.{Read, Took, No}
 use Rattle.spec.specs.Varint.{varint, varint64}
-use Rattle.spec.specs.Utf8.{utf8}
 use Rattle.spec.specs.Skip.{content}
 use Rattle.spec.specs.Pull as spec
 use Rattle.spec.specs.Pull.{says, moved, numbered, bounded, spelled, innerOf, enterAt}
@@ -23,7 +21,7 @@ use Rattle.wire.specs.declared.found.Found.{Found}
 use Rattle.wire.specs.declared.found.Found.the-variants as found
 use Rattle.skip.specs.declared.content.Span.the-variants as span
 use Rattle.skip.specs.Spans.{spanAt}
-use Rattle.skip.proofs.SpanLaws.{span-in}
+use Rattle.skip.proofs.SpanLaws.{span-in, Checked}
 use Rattle.pull.specs.declared.step.Said.{Said}
 use Rattle.pull.specs.declared.step.Said.the-variants as said
 use Rattle.pull.specs.declared.step.Moved.{Moved}
@@ -61,18 +59,16 @@ unfolding spanAt moved
 content-told at (Took a z) = refl
 content-told at (No k) = refl
 
--- a string, by what the check said of it
+-- a string, by how much of it is valid
 module _ (at : ℕ) (s : List ℕ) where
-  pub text-told : (r : Read) {a e : ℕ} → span.Of a e ≡ spanAt at r → (b : Bool) → b ≡ utf8 (take (e - a) (drop a s))
-      → (if b then says (spec.Content a e) e else says (spec.Refused notUtf8 at) at) ≡ spelled at (drop at s) r
-  unfolding spanAt spelled moved
-  text-told (Took m n) {a} {e} q b u =
-      let x : a ≡ at + m = cc in
-      let y : e ≡ at + n = cc in
-      let w : e - a ≡ n - m = omega arith in
-      let same : take (e - a) (drop a s) ≡ part m n (drop at s) = rw (w, x, ← drop-drop m at s) refl in
-      rw (u, same, x, y) refl
-  text-told (No k) q b u = let z : _≡_ {A = ℕ} 0 1 = cc in absurd (omega arith)
+  module _ (r : Read) {a e n : ℕ} (c : Checked at s r a e n) where
+    pub text-told : e ≤ a + n → says (spec.Content a e) e ≡ spelled at (drop at s) r
+    unfolding spelled moved
+    text-told h = rw (c .reads, c .whole h, c .starts, c .stops) refl
+
+    pub text-broken : a + n < e → says (spec.Refused notUtf8 (a + n)) at ≡ spelled at (drop at s) r
+    unfolding spelled moved
+    text-broken h = rw (c .reads, c .broken h) (ap (λ (p : ℕ). says (spec.Refused notUtf8 p) at) (c .valid-to))
 
   pub text-refused : (r : Read) {k : ℕ} → span.Bad k ≡ spanAt at r → says (spec.Refused k at) at ≡ spelled at (drop at s) r
   unfolding spanAt spelled moved

@@ -16,7 +16,7 @@ use skip::content::Span;
 use skip::unknown_or_group::skip_field_for_tag;
 use spec::limits;
 use spec::refusals;
-use utf8::is_utf8;
+use utf8::utf8_prefix;
 use wire::fixed::decode_fixed32;
 use wire::fixed::decode_fixed64;
 use wire::found::Found;
@@ -72,7 +72,7 @@ fn number_of(f: Found, at: usize) -> Moved
     }
 }
 
-// A refused step stays.
+// A refused step stays, and its place is the position, unless a letter is broken.
 fn refused(number: u32, at: usize) -> Moved
     ensures { λ r. ⌜ r ≡ refusedAt number at ⌝ }
 {
@@ -170,14 +170,22 @@ pub fn bytes_at(s: &[u8], at: usize) -> Moved
     content_of(span_at(s, at, true), at)
 }
 
-// A content that is no UTF-8 is refused.
+// A content that is no UTF-8 is refused, at the first byte of its broken letter.
 pub fn string_at(s: &[u8], at: usize) -> Moved
     ensures { λ r. ⌜ asMoved r ≡ stepAt (now (s .entry)) at 0 string ⌝ }
 {
     match span_at(s, at, true) {
         Span::Of { start, end } => {
-            if !is_utf8(&s[start..end]) {
-                return refused(refusals::NOT_UTF8, at);
+            let n = utf8_prefix(&s[start..end]);
+            let valid = start + n;
+            if valid < end {
+                return Moved {
+                    said: Said::Refused {
+                        number: refusals::NOT_UTF8,
+                        place: valid,
+                    },
+                    at,
+                };
             }
             Moved {
                 said: Said::Content { start, end },

@@ -8,16 +8,17 @@ use lib.ListN.{length, drop, length-drop}
 use lib.Seq.{drop-drop}
 use lib.Dec.{leb, eqb}
 use borrow.Author.Tests.{ne-eqb, leb-false}
-use Rattle.spec.specs.Names.{messageKind, mostLevels, notUtf8, packedHead, tooDeep}
-use Rattle.spec.specs.Base.{if_then_else_, part, Read, Took, No}
-use Rattle.spec.specs.Varint.{varint32, varint64, tag}
-use Rattle.spec.specs.Utf8.{utf8}
+use Rattle.spec.specs.Names.{badTag, messageKind, mostLevels, noGroupOpen, notUtf8, packedHead, tooDeep}
+use Rattle.spec.specs.Base.{if_then_else_, part, Read, Took, No, require}
+use Rattle.spec.specs.Varint.{varint32, varint64, goodTag, tag}
+use Rattle.spec.specs.Utf8.{utf8, validEnd}
 use Rattle.spec.specs.Kind.{Shape, one, other, string, bytes, message, packed, startGroup, endGroup, nothing, shape, scalar}
 use Rattle.spec.specs.Skip.{content, outerGroup}
 use Rattle.spec.specs.Reading as spec
 use Rattle.spec.proofs.Laws.{chosen, either-way, Takes, took, none, takes-tag}
 use Rattle.spec.proofs.ReadingLaws.{In, Sound, is-value, is-message, is-packed, field-sound}
-use Rattle.read.specs.Answers.{valued, ranged, texted, bodied, tagAt, fromBody, fromTag, asked, asField, rowField, resolved, Held}
+use Rattle.spec.proofs.RefusalLaws.{isOrdinary, Ordinary, was-read, refused-by, not-ordinary, ordinary-tag, ordinary-scalar, ordinary-content}
+use Rattle.read.specs.Answers.{valued, ranged, texted, bodied, tagAt, fromBody, fromTag, asked, letterAfter, letterIn, refusedIn, asField, rowField, resolved, Held}
 use Rattle.read.specs.declared.classify.Row.{Row}
 use Rattle.read.specs.declared.classify.Field.{Field}
 use Rattle.read.specs.declared.classify.Field.the-variants as field
@@ -25,6 +26,44 @@ use Rattle.read.specs.declared.classify.Tag.the-variants as tagged
 use Rattle.read.specs.declared.classify.Body.{Body}
 use Rattle.read.specs.declared.classify.Body.the-variants as body
 use Rattle.read.proofs.KindTests.{headOf, headTest, head-kind, head-one}
+
+-- ---- where it is refused
+
+pub at-tag : (k : ℕ) (u : List ℕ) → (k ≡ notUtf8 → ⊥) → refusedIn k u ≡ 0
+at-tag k u h = rw (ne-eqb k notUtf8 h)
+
+pub without-tag : (u : List ℕ) {k : ℕ} → varint32 u ≡ No k → refusedIn notUtf8 u ≡ 0
+unfolding letterIn
+without-tag u e = ap (letterIn u) e
+
+-- after its tag, which ends at `next`
+module _ (at next : ℕ) (s : List ℕ) (h : at ≤ next) {t : ℕ} (e : varint32 (drop at s) ≡ Took t (next - at)) where
+  after-tag : refusedIn notUtf8 (drop at s) ≡ letterAfter (next - at) (drop next s) (content varint32 (drop next s))
+  unfolding letterIn
+  after-tag =
+      let n : at + (next - at) ≡ next = omega arith in
+      ap (letterIn (drop at s)) e ∙ ap (λ (u : List ℕ). letterAfter (next - at) u (content varint32 u)) (drop-drop (next - at) at s ∙ ap (λ (i : ℕ). drop i s) n)
+
+  pub without-content : {k : ℕ} → content varint32 (drop next s) ≡ No k → refusedIn notUtf8 (drop at s) ≡ 0
+  unfolding letterAfter
+  without-content c = after-tag ∙ ap (letterAfter (next - at) (drop next s)) c
+
+  pub at-letter : {a z : ℕ} → content varint32 (drop next s) ≡ Took a z → refusedIn notUtf8 (drop at s) ≡ next - at + validEnd a z (drop next s)
+  unfolding letterAfter
+  at-letter c = after-tag ∙ ap (letterAfter (next - at) (drop next s)) c
+
+-- a tag is the varint that it is
+tag-varint : (w : List ℕ) {t n : ℕ} → tag w ≡ Took t n → varint32 w ≡ Took t n
+unfolding tag require
+tag-varint w {t} {n} e = go (varint32 w) e
+  where
+    taken : (b : Bool) {v m : ℕ} → (if b then Took v m else No badTag) ≡ Took t n → Took v m ≡ Took t n
+    taken true e = e
+    taken false e = let z : _≡_ {A = ℕ} 0 1 = cc in absurd (omega arith)
+
+    go : (r : Read) → require badTag goodTag r ≡ Took t n → r ≡ Took t n
+    go (Took v m) e = taken (goodTag v) e
+    go (No k) e = e
 
 -- ---- it is the definition's field
 
@@ -54,50 +93,59 @@ module _ (depth at n m kind inner : ℕ) (s : List ℕ) where
   unfolding resolved fromBody
   there-is v a e = ap₂ (asField m kind inner v) (omega arith) (omega arith)
 
-  there-valued : 0 ≡ headTest kind → (r : Read) → there (valued (at + n) r) ≡ spec.given r (λ v l. spec.Value m kind v n (n + l))
-  unfolding resolved fromBody valued spec.given
-  there-valued h (Took v l) = ap₂ (asField m kind inner v) (omega arith) (omega arith) ∙ as-value m kind inner v n (n + l) h
-  there-valued h (No k) = refl
+  there-bad : (k : ℕ) → isOrdinary k ≡ true → there (body.Bad k) ≡ spec.Fault k 0
+  unfolding resolved fromBody
+  there-bad k o = ap (spec.Fault k) (at-tag k (drop at s) (not-ordinary o))
 
-  there-ranged : (f : ℕ → ℕ → spec.Field) → ((a e : ℕ) → asField m kind inner 0 (n + a) (n + e) ≡ f a e) → (r : Read) → there (ranged (at + n) r) ≡ spec.given r f
+  there-valued : 0 ≡ headTest kind → {r : Read} → Ordinary r → there (valued (at + n) r) ≡ spec.given r (λ v l. spec.Value m kind v n (n + l))
+  unfolding resolved fromBody valued spec.given
+  there-valued h (was-read {v} {n = l}) = ap₂ (asField m kind inner v) (omega arith) (omega arith) ∙ as-value m kind inner v n (n + l) h
+  there-valued h (refused-by {k} o) = there-bad k o
+
+  there-ranged : (f : ℕ → ℕ → spec.Field) → ((a e : ℕ) → asField m kind inner 0 (n + a) (n + e) ≡ f a e) → {r : Read} → Ordinary r → there (ranged (at + n) r) ≡ spec.given r f
   unfolding resolved fromBody ranged spec.given
-  there-ranged f h (Took a z) = there-is 0 a z ∙ h a z
-  there-ranged f h (No k) = refl
+  there-ranged f h (was-read {v = a} {n = z}) = there-is 0 a z ∙ h a z
+  there-ranged f h (refused-by {k} o) = there-bad k o
 
   there-either : (b : Bool) (x y : Body) {x′ y′ : spec.Field} → there x ≡ x′ → there y ≡ y′ → there (if b then x else y) ≡ (if b then x′ else y′)
   there-either true x y e f = e
   there-either false x y e f = f
 
-  there-texted : 0 ≡ headTest kind → (r : Read)
-      → there (texted (at + n) behind r) ≡ spec.given r (λ a z. if utf8 (part a z behind) then spec.Value m kind 0 (n + a) (n + z) else spec.Fault notUtf8 0)
-  unfolding resolved fromBody texted spec.given
-  there-texted h (Took a z) = there-either (utf8 (part a z behind)) (body.Is 0 (at + n + a) (at + n + z)) (body.Bad notUtf8) (there-is 0 a z ∙ as-value m kind inner 0 (n + a) (n + z) h) refl
-  there-texted h (No k) = refl
+  module _ {t : ℕ} (tagged : varint32 (drop at s) ≡ Took t (at + n - at)) where
+    there-texted : 0 ≡ headTest kind → (r : Read) → content varint32 behind ≡ r → Ordinary r
+        → there (texted (at + n) behind r) ≡ spec.given r (λ a z. if utf8 (part a z behind) then spec.Value m kind 0 (n + a) (n + z) else spec.Fault notUtf8 (n + validEnd a z behind))
+    unfolding resolved fromBody texted spec.given
+    there-texted h (Took a z) c ok =
+        there-either (utf8 (part a z behind)) (body.Is 0 (at + n + a) (at + n + z)) (body.Bad notUtf8) (there-is 0 a z ∙ as-value m kind inner 0 (n + a) (n + z) h)
+        (ap (spec.Fault notUtf8) (omega (arith, at-letter at (at + n) s (omega arith) tagged c)))
+    there-texted h (No k) c (refused-by o) = there-bad k o
 
-  there-bodied : (mode : spec.Mode) (x : Shape) → headOf x ≡ headTest kind → there (bodied x depth (at + n) behind) ≡ spec.shaped mode x depth inner m kind n behind
-  unfolding resolved fromBody bodied spec.shaped headOf
-  there-bodied mode (one c) h = there-valued h (scalar c behind)
-  there-bodied mode (other string) h = there-texted h (content varint32 behind)
-  there-bodied mode (other bytes) h = there-ranged _ (λ a e. as-value m kind inner 0 (n + a) (n + e) h) (content varint32 behind)
-  there-bodied mode (other message) h =
-      there-either (leb mostLevels depth) (body.Bad tooDeep) (ranged (at + n) (content varint64 behind)) refl (there-ranged _ (λ a e. as-message m kind inner 0 (n + a) (n + e) (head-one kind messageKind (omega arith) h)) (content varint64 behind))
-  there-bodied mode (other packed) h = there-ranged _ (λ a e. as-packed m kind inner 0 (n + a) (n + e) (head-one kind packedHead (omega arith) h)) (content varint64 behind)
-  there-bodied mode (other startGroup) h = ap (λ (k : ℕ). spec.given (outerGroup depth behind) λ v l. spec.Dropped m (k + l)) (omega arith)
-  there-bodied mode (other endGroup) h = refl
-  there-bodied mode (other nothing) h = refl
+    there-bodied : (mode : spec.Mode) (x : Shape) → headOf x ≡ headTest kind → there (bodied x depth (at + n) behind) ≡ spec.shaped mode x depth inner m kind n behind
+    unfolding resolved fromBody bodied spec.shaped headOf
+    there-bodied mode (one c) h = there-valued h (ordinary-scalar c behind)
+    there-bodied mode (other string) h = there-texted h (content varint32 behind) refl (ordinary-content _ _ behind)
+    there-bodied mode (other bytes) h = there-ranged _ (λ a e. as-value m kind inner 0 (n + a) (n + e) h) (ordinary-content _ _ behind)
+    there-bodied mode (other message) h =
+        there-either (leb mostLevels depth) (body.Bad tooDeep) (ranged (at + n) (content varint64 behind)) (there-bad tooDeep refl)
+        (there-ranged _ (λ a e. as-message m kind inner 0 (n + a) (n + e) (head-one kind messageKind (omega arith) h)) (ordinary-content _ _ behind))
+    there-bodied mode (other packed) h = there-ranged _ (λ a e. as-packed m kind inner 0 (n + a) (n + e) (head-one kind packedHead (omega arith) h)) (ordinary-content _ _ behind)
+    there-bodied mode (other startGroup) h = ap (λ (k : ℕ). spec.given (outerGroup depth behind) λ v l. spec.Dropped m (k + l)) (omega arith)
+    there-bodied mode (other endGroup) h = there-bad noGroupOpen refl
+    there-bodied mode (other nothing) h = there-bad badTag refl
 
 module _ (look : spec.Look) (depth type at : ℕ) (s : List ℕ) where
-  resolved-tag : (r : Read)
+  resolved-tag : (r : Read) → tag (drop at s) ≡ r → Ordinary r
       → resolved depth at s (fromTag depth s (tagAt (look .says type) at r))
       ≡ spec.given r (λ t n. spec.shaped (look .mode) (shape (look .says type t .kind)) depth (look .says type t .inner) (t / 8) (look .says type t .kind) n (drop n (drop at s)))
   unfolding resolved fromTag tagAt spec.given
-  resolved-tag (Took t n) =
-      rw drop-drop (there-bodied depth at n (t / 8) (look .says type t .kind) (look .says type t .inner) s (look .mode) (shape (look .says type t .kind)) (head-kind (look .says type t .kind)))
-  resolved-tag (No k) = refl
+  resolved-tag (Took t n) e ok =
+      rw drop-drop
+      (there-bodied depth at n (t / 8) (look .says type t .kind) (look .says type t .inner) s (tag-varint (drop at s) e ∙ ap (Took t) (omega arith)) (look .mode) (shape (look .says type t .kind)) (head-kind (look .says type t .kind)))
+  resolved-tag (No k) e (refused-by o) = ap (spec.Fault k) (at-tag k (drop at s) (not-ordinary o))
 
   pub asked-resolved : resolved depth at s (asked look depth type at s) ≡ spec.field look depth type (drop at s)
   unfolding asked spec.field
-  asked-resolved = resolved-tag (tag (drop at s))
+  asked-resolved = resolved-tag (tag (drop at s)) refl (ordinary-tag (drop at s))
 
   -- the answer, step by step
 
@@ -112,9 +160,9 @@ module _ (look : spec.Look) (depth type at : ℕ) (s : List ℕ) where
   unfolding asked fromTag
   field-answer r {m} {kind} {inner} {next} t e f = answered r (f ∙ ap (fromBody m kind inner next) e ∙ ap (fromTag depth s) t)
 
-  pub fault-answer : {k : ℕ} → tagged.Bad k ≡ tagAt (look .says type) at (tag (drop at s)) → Answered (field.Bad k 0)
+  pub fault-answer : {k : ℕ} → tagged.Bad k ≡ tagAt (look .says type) at (tag (drop at s)) → Answered (field.Bad k)
   unfolding asked fromTag
-  fault-answer {k} t = answered (field.Bad k 0) (ap (fromTag depth s) t)
+  fault-answer {k} t = answered (field.Bad k) (ap (fromTag depth s) t)
 
 -- ---- what a reader may rely on
 
@@ -122,7 +170,7 @@ module _ (look : spec.Look) (depth type at : ℕ) (s : List ℕ) where
 data Kept (depth : ℕ) : Field → Type 0 where
   of-row : {r : Row} → (r .kind ≡ messageKind → depth < mostLevels) → (r .kind ≡ messageKind → r .value ≡ 0) → (r .kind ≡ packedHead → r .value ≡ 0) → Kept depth (field.Of r)
   of-group : {m n : ℕ} → Kept depth (field.Group m n)
-  of-bad : {k p : ℕ} → Kept depth (field.Bad k p)
+  of-bad : {k : ℕ} → Kept depth (field.Bad k)
 
 not-head : (kind n : ℕ) → n ≡ headTest kind → (k : ℕ) → headTest k ≡ k → (n ≡ k → ⊥) → kind ≡ k → ⊥
 not-head kind n h k i d e = d (h ∙ ap headTest e ∙ i)

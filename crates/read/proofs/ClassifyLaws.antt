@@ -143,21 +143,21 @@ module _ (at : ℕ) (r : Read) where
       go (Took m n) q = cc
       go (No k) q = let z : _≡_ {A = ℕ} 0 1 = cc in absurd (omega arith)
 
-  pub ranged-bad : {k : ℕ} → span.Bad k ≡ spanAt at r → body.Bad k ≡ ranged at r
-  unfolding spanAt ranged
-  ranged-bad {k} h = go r h
+  pub no-content : {k : ℕ} → span.Bad k ≡ spanAt at r → r ≡ No k
+  unfolding spanAt
+  no-content {k} h = go r h
     where
-      go : (r : Read) → span.Bad k ≡ spanAt at r → body.Bad k ≡ ranged at r
+      go : (r : Read) → span.Bad k ≡ spanAt at r → r ≡ No k
       go (Took m n) q = let z : _≡_ {A = ℕ} 0 1 = cc in absurd (omega arith)
       go (No j) q = cc
 
+  pub ranged-bad : {k : ℕ} → span.Bad k ≡ spanAt at r → body.Bad k ≡ ranged at r
+  unfolding ranged
+  ranged-bad h = sym (ap (ranged at) (no-content h))
+
   pub texted-bad : (s : List ℕ) {k : ℕ} → span.Bad k ≡ spanAt at r → body.Bad k ≡ texted at s r
-  unfolding spanAt texted
-  texted-bad s {k} h = go r h
-    where
-      go : (r : Read) → span.Bad k ≡ spanAt at r → body.Bad k ≡ texted at s r
-      go (Took m n) q = let z : _≡_ {A = ℕ} 0 1 = cc in absurd (omega arith)
-      go (No j) q = cc
+  unfolding texted
+  texted-bad s h = sym (ap (texted at s) (no-content h))
 
   pub texted-of : (s : List ℕ) {a e : ℕ} → span.Of a e ≡ spanAt at r → at ≤ a → {b : Bool} → b ≡ utf8 (take (e - a) (drop a s)) → (if b then body.Is 0 a e else body.Bad notUtf8) ≡ texted at (drop at s) r
   unfolding spanAt texted

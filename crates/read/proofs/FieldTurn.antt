@@ -19,12 +19,12 @@ use Rattle.spec.specs.Record.{Record, row, stride, numbers}
 use Rattle.spec.specs.Reading as spec
 use Rattle.spec.specs.Reading.{Look, Reading, Done, Refused, _then_, _followed-by_, contents, records, read, used}
 use Rattle.spec.proofs.Laws.{chosen, by-test}
-use Rattle.spec.proofs.ReadingLaws.{read-nil, read-cons}
+use Rattle.spec.proofs.ReadingLaws.{Sound, is-fault, read-nil, read-cons, field-sound}
 use Rattle.skip.specs.declared.field.Past.{Past}
 use Rattle.skip.specs.declared.field.Past.the-variants as past
 use Rattle.skip.specs.Passed as skip
 use Rattle.skip.proofs.SkipAnswers.{takes-outer}
-use Rattle.read.specs.Answers.{scalarOf, Shortly, meantBy, Tells, tells, tells-not, tagAt, fromBody, fromTag, asked, rowField, resolved, Held}
+use Rattle.read.specs.Answers.{scalarOf, Shortly, meantBy, Tells, tells, tells-not, asked, refusedIn, rowField, resolved, Held}
 use Rattle.read.specs.Emit.{Left, left, placed, emit}
 use Rattle.read.specs.declared.room.Step.{Step}
 use Rattle.read.specs.declared.room.Step.the-variants.{Go, Stop}
@@ -37,8 +37,6 @@ use Rattle.read.specs.declared.scalar.Meant.the-variants as meant
 use Rattle.read.specs.declared.classify.Row.{Row}
 use Rattle.read.specs.declared.classify.Field.{Field}
 use Rattle.read.specs.declared.classify.Field.the-variants as field
-use Rattle.read.specs.declared.classify.Body.{Body}
-use Rattle.read.specs.declared.classify.Body.the-variants as body
 use Rattle.read.proofs.AskedLaws.{asked-group}
 use Rattle.read.proofs.EmitLaws.{call-stop, call-go, emit-room, emit-full, placed-length}
 use Rattle.read.proofs.Turn.{Here, ends, stops, stored, took-in, takes-of, short-scalar}
@@ -135,22 +133,9 @@ pub moved : {f : ℕ → List ℕ → Reading} {s : List ℕ} {off : ℕ} {room�
     → Here f s off room₀ from b room at to → room′ ≡ room → at′ ≡ at → to′ ≡ to → Here f s off room₀ from b room′ at′ to′
 moved h e₁ e₂ e₃ = rw (e₁, e₂, e₃) h
 
--- ---- the place of a refusal is its tag's
-
-body-place : (m kind inner next : ℕ) (b : Body) {k p : ℕ} → fromBody m kind inner next b ≡ field.Bad k p → p ≡ 0
-unfolding fromBody
-body-place m kind inner next (body.Is v a e) h = let z : _≡_ {A = ℕ} 0 1 = cc in absurd (omega arith)
-body-place m kind inner next body.Group h = let z : _≡_ {A = ℕ} 0 1 = cc in absurd (omega arith)
-body-place m kind inner next (body.Bad k) h = cc
-
-tag-place : (say : ℕ → Says) (depth at : ℕ) (s : List ℕ) {k p : ℕ} (r : Read) → fromTag depth s (tagAt say at r) ≡ field.Bad k p → p ≡ 0
-unfolding fromTag tagAt
-tag-place say depth at s (Took t n) e = body-place (t / 8) (say t .kind) (say t .inner) (at + n) _ e
-tag-place say depth at s (No i) e = cc
-
-pub bad-place : (look : Look) (depth ty at : ℕ) (s : List ℕ) {r : Field} {k p : ℕ} → r ≡ asked look depth ty at s → r ≡ field.Bad k p → p ≡ 0
-unfolding asked
-bad-place look depth ty at s asks is = tag-place (look .says ty) depth at s (tag (drop at s)) (sym asks ∙ is)
+-- the place of a fault lies in the bytes
+fault-in : {most k p : ℕ} → Sound most (spec.Fault k p) → p ≤ most
+fault-in (is-fault h) = h
 
 -- ---- the first field
 
@@ -201,9 +186,17 @@ module _ (look : Look) (depth ty : ℕ) {s : List ℕ} {off : ℕ} {room₀ : Li
     is-field : {x : Field} → r ≡ x → resolved depth at s x ≡ spec.field look depth ty (drop at s)
     is-field is = ap (resolved depth at s) (sym is) ∙ e
 
-    pub field-bad : {k p : ℕ} → r ≡ field.Bad k p → left (Stop k to (off + at + p)) room ≡ all
-    unfolding resolved
-    field-bad {k} {p} is = from-first (stops (h .further) (fault look depth ty s off at lt k p (is-field is)))
+    -- a refusal, whose place lies in the slice
+    module _ {k p : ℕ} (is : r ≡ field.Bad k) (there : p ≡ at + refusedIn k (drop at s)) where
+      pub bad-within : p ≤ length s
+      unfolding resolved
+      bad-within = omega (arith, fault-in (subst (Sound (length (drop at s))) (sym (is-field is)) (field-sound look depth ty (drop at s))), length-drop at s)
+
+      pub field-bad : left (Stop k to (off + p)) room ≡ all
+      unfolding resolved
+      field-bad =
+          let q : off + at + refusedIn k (drop at s) ≡ off + p = omega arith in
+          from-first (stops (h .further) (fault look depth ty s off at lt k (refusedIn k (drop at s)) (is-field is) ∙ rw q))
 
     -- a record, which another stores
     module _ {f : Row} (is : r ≡ field.Of f) (held : Held depth at (length s) f) {a : Step} {room′ : List ℕ}

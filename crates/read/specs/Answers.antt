@@ -9,7 +9,7 @@ use lib.Dec.{leb, eqb}
 use Rattle.spec.specs.Names.{bytesKind, enumKind, int32Kind, messageKind, mostLevels, packedHead, sint32Kind, stringKind, uint32Kind, unknownBytes, varintWire, badTag, noGroupOpen, notUtf8, outOfRange, tooDeep}
 use Rattle.spec.specs.Base.{if_then_else_, part, Read, Took, No}
 use Rattle.spec.specs.Varint.{varint, varint32, varint64, unzigzag, tag}
-use Rattle.spec.specs.Utf8.{utf8}
+use Rattle.spec.specs.Utf8.{utf8, validEnd}
 use Rattle.spec.specs.Kind.{Scalar, int32, uint32, uint64, bool, sint32, sint64, fixed32, sfixed32, fixed64, Shape, one, other, string, bytes, message, packed, startGroup, endGroup, nothing, shape, scalar, signed32, headKind}
 use Rattle.spec.specs.Schema.{Says}
 use Rattle.spec.specs.Skip.{content, outerGroup}
@@ -159,15 +159,28 @@ pub data Tells (say : ℕ → Says) (c : ℕ) : Kind → Type 0 where
 unfoldable pub fromBody : (number kind inner next : ℕ) → Body → Field
 fromBody m kind inner next (body.Is v a e) = field.Of (record { number = m; kind = kind; inner = inner; value = v; start = a; end = e })
 fromBody m kind inner next body.Group = field.Group m next
-fromBody m kind inner next (body.Bad k) = field.Bad k 0
+fromBody m kind inner next (body.Bad k) = field.Bad k
 
 unfoldable pub fromTag : ℕ → List ℕ → Tag → Field
 fromTag depth s (tagged.Of m kind inner next) = fromBody m kind inner next (bodied (shape kind) depth next (drop next s))
-fromTag depth s (tagged.Bad k) = field.Bad k 0
+fromTag depth s (tagged.Bad k) = field.Bad k
 
 -- the field at a place of s, as it is asked for
 unfoldable pub asked : spec.Look → (depth type at : ℕ) → List ℕ → Field
 asked look depth type at s = fromTag depth s (tagAt (look .says type) at (tag (drop at s)))
+
+-- where the letter is broken of a string at the front of s, after its tag, and after its length, by what reading them there gives; the place is counted from the tag
+unfoldable pub letterAfter : ℕ → List ℕ → Read → ℕ
+letterAfter n s (Took a z) = n + validEnd a z s
+letterAfter n s (No k) = 0
+
+unfoldable pub letterIn : List ℕ → Read → ℕ
+letterIn s (Took t n) = letterAfter n (drop n s) (content varint32 (drop n s))
+letterIn s (No k) = 0
+
+-- where the field at the front of s is refused with this number: all but a broken letter is refused at the tag
+abbrev pub refusedIn : ℕ → List ℕ → ℕ
+refusedIn k s = if eqb k notUtf8 then letterIn s (varint32 s) else 0
 
 -- the definition's field of a record that is asked for, and of what is asked for at the place `at` of s
 abbrev pub asField : (number kind inner value start end : ℕ) → spec.Field
@@ -182,7 +195,7 @@ rowField at r = asField (r .number) (r .kind) (r .inner) (r .value) (r .start - 
 unfoldable pub resolved : (depth at : ℕ) → List ℕ → Field → spec.Field
 resolved depth at s (field.Of r) = rowField at r
 resolved depth at s (field.Group m next) = spec.given (outerGroup depth (drop next s)) λ v l. spec.Dropped m (next - at + l)
-resolved depth at s (field.Bad k p) = spec.Fault k p
+resolved depth at s (field.Bad k) = spec.Fault k (refusedIn k (drop at s))
 
 -- what a reader may rely on of a record that is asked for at a place, in a message at this depth, of `most` bytes
 pub record Held (depth at most : ℕ) (r : Row) : Type 0 where

@@ -11,7 +11,7 @@ ghost use Rattle.spec.specs.Reading.{plainly, field};
 ghost use Rattle.schema.specs.Layout.{keyCount};
 ghost use Rattle.schema.specs.Tables.{tableSays};
 ghost use Rattle.skip.specs.Spans.{spanAt};
-ghost use Rattle.read.specs.Answers.{tagAt, quickTag, lengthOf, hasLength, bodied, fromBody, asked, resolved};
+ghost use Rattle.read.specs.Answers.{tagAt, quickTag, lengthOf, hasLength, bodied, fromBody, asked, refusedIn, resolved};
 ghost use Rattle.read.specs.Prepared.{prepared};
 use crate::scalar::index;
 use crate::scalar::scalar_at;
@@ -26,6 +26,7 @@ use spec::limits;
 use spec::refusals;
 use spec::wire_types;
 use utf8::is_utf8;
+use utf8::utf8_prefix;
 use wire::found::Found;
 use wire::varint::decode::decode_varint32;
 
@@ -48,11 +49,11 @@ pub struct Row {
     pub end: usize,
 }
 
-// What a reader has to do: store a record; skip a group, whose fields start at `next`; or refuse, at a place that counts from the field's tag.
+// What a reader has to do: store a record; skip a group, whose fields start at `next`; or refuse, with this number.
 pub enum Field {
     Of(Row),
     Group { number: u64, next: usize },
-    Bad { number: u32, place: usize },
+    Bad(u32),
 }
 
 // What a tag says, and the place after it.
@@ -295,10 +296,7 @@ fn with_body(number: u64, kind: u64, inner: u32, next: usize, body: Body) -> Fie
             end,
         }),
         Body::Group => Field::Group { number, next },
-        Body::Bad(k) => Field::Bad {
-            number: k,
-            place: 0,
-        },
+        Body::Bad(k) => Field::Bad(k),
     }
 }
 
@@ -321,9 +319,24 @@ pub fn field_at(
             inner,
             next,
         } => with_body(number, kind, inner, next, body_at(s, next, kind, depth)),
-        Tag::Bad(k) => Field::Bad {
-            number: k,
-            place: 0,
-        },
+        Tag::Bad(k) => Field::Bad(k),
     }
+}
+
+// Where the field at `at` is refused with this number: at its tag, and a string that is not UTF-8 at the first byte of its broken letter. That byte is looked
+// for again: a place that each field carried with it would slow down all reading.
+pub fn refused_at(s: &[u8], at: usize, number: u32) -> usize
+    ensures { λ r. ⌜ r ≡ at + refusedIn number (drop at (now (s .entry))) ⌝ }
+{
+    if number != refusals::NOT_UTF8 {
+        return at;
+    }
+    let Found::Value { value: _, next } = decode_varint32(s, at) else {
+        return at;
+    };
+    let Span::Of { start, end } = span_at(s, next, kinds::STRING) else {
+        return at;
+    };
+    let n = utf8_prefix(&s[start..end]);
+    start + n
 }

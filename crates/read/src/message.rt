@@ -11,6 +11,7 @@ ghost use Rattle.read.specs.Prepared.{prepared};
 use crate::classify::Field;
 use crate::classify::Row;
 use crate::classify::field_at;
+use crate::classify::refused_at;
 use crate::packed::packed;
 use crate::room::Spot;
 use crate::room::Step;
@@ -234,11 +235,11 @@ pub(crate) fn message(
                     }
                 }
             }
-            Field::Bad { number, place } => {
+            Field::Bad(number) => {
                 return Step::Stop {
                     number,
                     to,
-                    place: off + at + place,
+                    place: off + refused_at(s, at, number),
                 };
             }
         }

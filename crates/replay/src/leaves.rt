@@ -111,12 +111,13 @@ fn yes_or_no(is: bool) -> Answer {
     word(NO)
 }
 
-// The verbs on bytes: `varint64 HEX`, `varint32 HEX`, `utf8 HEX`, `document HEX`, `skip LEVEL TAG HEX`, `group LEVEL TAG HEX`.
+// The verbs on bytes: `varint64 HEX`, `varint32 HEX`, `utf8 HEX`, `utf8prefix HEX`, `document HEX`, `skip LEVEL TAG HEX`, `group LEVEL TAG HEX`.
 pub fn on_bytes(verb: usize, level: u32, tag: u32, s: &[u8]) -> Answer {
     match verb {
         verbs::VARINT64 => found(decode_varint64(s, 0)),
         verbs::VARINT32 => found(decode_varint32(s, 0)),
         verbs::UTF8 => ok_or(utf8::is_utf8(s), refusals::NOT_UTF8),
+        verbs::UTF8PREFIX => one(utf8::utf8_prefix(s) as u64),
         verbs::DOCUMENT => yes_or_no(skip::document::is_document(s)),
         verbs::SKIP => skipped(skip_field_for_tag(tag, s, level)),
         verbs::GROUP => skipped(read_unknown_or_skip_group(tag, s, level)),

@@ -36,38 +36,40 @@ pub const VARINT32: usize = 13;
 
 pub const UTF8: usize = 14;
 
-pub const DOCUMENT: usize = 15;
+pub const UTF8PREFIX: usize = 15;
 
-pub const SKIP: usize = 16;
+pub const DOCUMENT: usize = 16;
 
-pub const GROUP: usize = 17;
+pub const SKIP: usize = 17;
+
+pub const GROUP: usize = 18;
 
 // Verbs on lists and schemas, and the pull reader.
-pub const PACKEDSIZE: usize = 18;
+pub const PACKEDSIZE: usize = 19;
 
-pub const SCHEMA: usize = 19;
+pub const SCHEMA: usize = 20;
 
-pub const LOOKUP: usize = 20;
+pub const LOOKUP: usize = 21;
 
-pub const READ: usize = 21;
+pub const READ: usize = 22;
 
-pub const RECORDS: usize = 22;
+pub const RECORDS: usize = 23;
 
-pub const SIZE: usize = 23;
+pub const SIZE: usize = 24;
 
-pub const WRITE: usize = 24;
+pub const WRITE: usize = 25;
 
-pub const PULL: usize = 25;
+pub const PULL: usize = 26;
 
 // Verbs on segment files.
-pub const SEGREAD: usize = 26;
+pub const SEGREAD: usize = 27;
 
-pub const SEGWRITE: usize = 27;
+pub const SEGWRITE: usize = 28;
 
 // The verb that a line begins with.
 pub fn verb_in(line: &[u8]) -> Many {
     name_in(
-        b"vsize zdec64 zenc32 zenc64 msgsize encode tagsize zdec32 tag wire maketag fieldsize varint64 varint32 utf8 document skip group packedsize schema lookup read records size write pull segread segwrite",
+        b"vsize zdec64 zenc32 zenc64 msgsize encode tagsize zdec32 tag wire maketag fieldsize varint64 varint32 utf8 utf8prefix document skip group packedsize schema lookup read records size write pull segread segwrite",
         line,
         0,
     )
@@ -120,7 +122,7 @@ pub fn shape_of(verb: usize) -> Shape {
         TAGSIZE | ZDEC32 | TAG | WIRE => plain(1, false, false),
         MAKETAG => plain(2, false, false),
         FIELDSIZE => plain(2, false, true),
-        VARINT64 | VARINT32 | UTF8 | DOCUMENT => plain(0, true, false),
+        VARINT64 | VARINT32 | UTF8 | UTF8PREFIX | DOCUMENT => plain(0, true, false),
         SKIP | GROUP => plain(2, true, false),
         SEGREAD => plain(1, true, false),
         PACKEDSIZE => bare(2, 1, false, false),

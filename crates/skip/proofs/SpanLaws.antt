@@ -1,14 +1,17 @@
 -- A content at a position, from its length: what the message reader and the pull reader find. Assumes nothing.
-use Prim.Native.Nat.{ℕ, _+_, _≤_, _<_}
+use Prim.Native.Nat.{ℕ, _+_, _-_, _≤_, _<_}
 use native.Mathlib.Omega.{arith}
-use mathlib.Core.Path.{_≡_, refl, ap₂, _∙_}
+use mathlib.Core.Path.{_≡_, refl, sym, ap, ap₂, _∙_}
 use mathlib.Core.Bool.{Bool, true, false}
 use mathlib.Core.List.{List}
-use lib.ListN.{length, drop, length-drop}
+use lib.ListN.{length, take, drop, length-take, length-drop}
+use lib.Seq.{length-take-le, drop-drop}
 use Rattle.spec.specs.Names.{endsEarly}
-use Rattle.spec.specs.Base.{Read, Took, No}
+use Rattle.spec.specs.Base.{part, Read, Took, No}
+use Rattle.spec.specs.Utf8.{validPrefix, utf8, validEnd}
 use Rattle.spec.specs.Skip.{content}
 use Rattle.spec.proofs.Laws.{Takes, takes-varint, Holds, holds, content-holds}
+use Rattle.spec.proofs.Utf8Laws.{valid-le, all-valid, part-valid}
 use Rattle.wire.specs.Answers.{asRead}
 use Rattle.wire.specs.Reached.{varintOf}
 use Rattle.wire.specs.declared.found.Found.the-variants as found
@@ -52,3 +55,42 @@ span-in narrow at s {a} {e} h =
         let y : e ≡ at + n = cc in
         (omega arith, omega arith, omega (arith, length-drop at s))
     go (No k) Holds.none q = let z : _≡_ {A = ℕ} 0 1 = cc in absurd (omega arith)
+
+-- ---- a string's content
+
+-- A content that was found from a up to e, of which the first n bytes are valid, as the definitions say it: all of it is valid, or it is broken at a + n.
+pub record Checked (at : ℕ) (s : List ℕ) (r : Read) (a e n : ℕ) : Type 0 where
+  pub m : ℕ
+  pub z : ℕ
+  pub reads : r ≡ Took m z
+  pub starts : a ≡ at + m
+  pub stops : e ≡ at + z
+  pub valid-to : a + n ≡ at + validEnd m z (drop at s)
+  pub whole : e ≤ a + n → utf8 (part m z (drop at s)) ≡ true
+  pub broken : a + n < e → utf8 (part m z (drop at s)) ≡ false
+
+-- what is valid of it ends in it
+pub valid-inside : (a e : ℕ) (s : List ℕ) {n : ℕ} → n ≡ validPrefix (take (e - a) (drop a s)) → n ≤ e - a
+valid-inside a e s v = omega (arith, valid-le (take (e - a) (drop a s)), length-take (e - a) (drop a s))
+
+pub checked : (at : ℕ) (s : List ℕ) (r : Read) {a e n : ℕ} → Of a e ≡ spanAt at r → a ≤ e → e ≤ length s → n ≡ validPrefix (take (e - a) (drop a s)) → Checked at s r a e n
+unfolding spanAt
+checked at s (Took m z) {a} {e} {n} q i l v =
+    let x : a ≡ at + m = cc in
+    let y : e ≡ at + z = cc in
+    let w : e - a ≡ z - m = omega arith in
+    let c : List ℕ = part m z (drop at s) in
+    let same : take (e - a) (drop a s) ≡ c = rw (w, x, ← drop-drop m at s) refl in
+    let valid : n ≡ validPrefix c = v ∙ ap validPrefix same in
+    let long : length c ≡ e - a = sym (ap length same) ∙ length-take-le (e - a) (drop a s) (omega (arith, length-drop a s)) in
+    record {
+      m = m;
+      z = z;
+      reads = refl;
+      starts = x;
+      stops = y;
+      valid-to = omega arith;
+      whole = λ h. all-valid c (omega arith);
+      broken = λ h. part-valid c (omega arith);
+    }
+checked at s (No k) q i l v = let z : _≡_ {A = ℕ} 0 1 = cc in absurd (omega arith)

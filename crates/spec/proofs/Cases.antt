@@ -1,5 +1,5 @@
 -- The schemas A and B of the user's rules, and the cases that the rules mark to be proved, as one list under one statement; the numbers of the rules' tables; sizes at each rung of the ladder;
--- groups that end under their own number, and under another.
+-- groups that end under their own number, and under another; where letters are broken.
 -- Assumes nothing.
 use Prim.Native.Nat.{ℕ}
 use mathlib.Core.Path.{_≡_, refl}
@@ -16,6 +16,7 @@ use Rattle.spec.specs.Schema.{Schema, goodEntry, badEntry, badSchema, lo
 use Rattle.spec.specs.Skip.{content, plain, skipField, skipGroup, skipFieldForTag, readUnknownOrSkipGroup}
 use Rattle.spec.specs.Document.{passed, closed, step, goOn, isRun, isDocument}
 use Rattle.spec.specs.Record.{numbers}
+use Rattle.spec.specs.Pull as pull
 use Rattle.spec.specs.Reading.{given, shaped, field, used, _followed-by_, element, elements, contents, records, fields, read, within, refusedOr, called, readingBy, readingAs, reading, number, place, listed}
 use Rattle.spec.specs.declared.Entry.{Entry}
 
@@ -83,7 +84,7 @@ cases =
     ∷ (reads schemaA (0x08 ∷ replicate 9 0xff ++ 0x02 ∷ []) gives refused 2 0)
     ∷ (reads schemaA (0x88 ∷ 0x00 ∷ 0x05 ∷ []) gives well (six 0 1 5 5 2 3 ∷ []))
     ∷ (reads schemaA (0x1a ∷ 0x06 ∷ 0x08 ∷ 0x80 ∷ 0x80 ∷ 0x80 ∷ 0x80 ∷ 0x10 ∷ []) gives ((2 ∷ 2 ∷ []) ∷ six 0 3 11 0 2 8 ∷ []))
-    ∷ (reads schemaA (0x12 ∷ 0x01 ∷ 0xff ∷ []) gives refused 6 0)
+    ∷ (reads schemaA (0x12 ∷ 0x01 ∷ 0xff ∷ []) gives refused 6 2)
     ∷ (reads schemaA (0x0b ∷ 0x14 ∷ []) gives well [])
     ∷ (reads schemaA (0x0b ∷ 0x13 ∷ []) gives refused 1 0)
     ∷ (answer (skipFieldForTag 0x0b 0 (0x13 ∷ [])) gives ((0 ∷ 1 ∷ []) ∷ []))
@@ -148,3 +149,30 @@ documents-are = refl
 pub skips-are : skipFieldForTag 0x0b 0 (0x14 ∷ []) ∷ readUnknownOrSkipGroup 0x0b 0 (0x14 ∷ []) ∷ [] ≡ Took 0 1 ∷ Took 0 1 ∷ []
 unfolding skipFieldForTag readUnknownOrSkipGroup skipField skipGroup plain content tag require varint digit longer meaning _>>=_
 skips-are = refl
+
+-- ---- refusal 6 is at the first byte of a broken letter, as the case `12 01 ff` above
+
+-- messages in each other, with strings
+unfoldable pub nested : Schema
+nested = record { types = 1; entries = entry 0 1 11 true 0 ∷ entry 0 2 9 true 0 ∷ [] }
+
+pub letters-are :
+    map (reads nested) (
+    -- a byte that may not stand there; no byte more, as the content ends within the letter
+    (0x12 ∷ 0x03 ∷ 0x4b ∷ 0xe0 ∷ 0x80 ∷ []) ∷ (0x12 ∷ 0x04 ∷ 0x4f ∷ 0xc3 ∷ 0xa9 ∷ 0xe2 ∷ [])
+    -- in the second string; in a message in a message, whose heads stand
+    ∷ (0x12 ∷ 0x01 ∷ 0x4b ∷ 0x12 ∷ 0x02 ∷ 0x4b ∷ 0xff ∷ []) ∷ (0x0a ∷ 0x06 ∷ 0x0a ∷ 0x04 ∷ 0x12 ∷ 0x02 ∷ 0x4b ∷ 0x80 ∷ [])
+    -- the length comes first, and it is refused at the tag; an unknown content is not checked
+    ∷ (0x12 ∷ 0x02 ∷ 0xff ∷ []) ∷ (0x1a ∷ 0x01 ∷ 0xff ∷ []) ∷ [])
+    ≡ refused 6 3 ∷ refused 6 5
+    ∷ ((6 ∷ 6 ∷ []) ∷ six 0 2 9 0 2 3 ∷ []) ∷ ((6 ∷ 7 ∷ []) ∷ six 0 1 11 0 2 8 ∷ six 1 1 11 0 4 8 ∷ [])
+    ∷ refused 1 0 ∷ well (six 0 3 23 0 2 3 ∷ []) ∷ []
+unfolding nested meaning require longer _>>=_ digit varint unzigzag fixed tag lead followers behind char chars validPrefix kindWires ownWires wires wire shapes shape isScalar extend scalar goodEntry badEntry badSchema lookup unknownKind kindOf says saysOf content plain skipField skipGroup skipFieldForTag given shaped field used _followed-by_ element elements contents records fields read within refusedOr called readingBy readingAs reading number place listed numbers
+letters-are = refl
+
+-- the pull reader's place is in its own bytes, and it stays
+pub pulled-are :
+    pull.stepAt (0x01 ∷ 0xff ∷ []) 0 0 pull.string ∷ pull.stepAt (0x12 ∷ 0x04 ∷ 0x4f ∷ 0xc3 ∷ 0xa9 ∷ 0xe2 ∷ []) 1 0 pull.string ∷ []
+    ≡ pull.says (pull.Refused 6 1) 0 ∷ pull.says (pull.Refused 6 5) 1 ∷ []
+unfolding pull.stepAt pull.spelled pull.moved content varint digit lead followers behind char chars validPrefix
+pulled-are = refl

@@ -11,7 +11,7 @@ use borrow.Author.Tests.{leb-true, leb-false, le-leb, eq-eqb, ne-eqb}
 use Rattle.spec.specs.Names.{badVarint, delimitedWire, endGroupWire, endsEarly, fixed32Wire, fixed64Wire, messageKind, mostLevels, noGroupOpen, notUtf8, packedHead, startGroupWire, tooDeep, varintWire, groupEnd, groupStart, unknownBytes, unknownFixed32, unknownFixed64, unknownVarint}
 use Rattle.spec.specs.Base.{if_then_else_, part, Read, Took, No, longer, _>>=_, digit}
 use Rattle.spec.specs.Varint.{varint, varint32, varint64, fixed, tag}
-use Rattle.spec.specs.Utf8.{utf8}
+use Rattle.spec.specs.Utf8.{utf8, validEnd}
 use Rattle.spec.specs.Kind.{int32, uint32, uint64, bool, sint32, sint64, fixed32, sfixed32, fixed64, Shape, one, other, string, bytes, message, packed, wires, wire, shapes, shape, isScalar, scalar}
 use Rattle.spec.specs.Schema.{Schema, lookup, unknownKind, kindOf, insideOf, saysOf, says}
 use Rattle.spec.specs.Skip.{content, skipField, innerGroup, outerGroup}
@@ -87,8 +87,9 @@ module _ (mode : Mode) (depth inner m kind n : ℕ) (s : List ℕ) where
   unfolding shaped
   packed-head = refl
 
-  -- that of a string and of bytes, which an unknown content is too, is a varint32; only a string is checked
-  pub string-value : shaped mode (other string) depth inner m kind n s ≡ given (content varint32 s) λ a z. if utf8 (part a z s) then Value m kind 0 (n + a) (n + z) else Fault notUtf8 0
+  -- that of a string and of bytes, which an unknown content is too, is a varint32; only a string is checked, and refused where a character is broken
+  pub string-value : shaped mode (other string) depth inner m kind n s
+      ≡ given (content varint32 s) λ a z. if utf8 (part a z s) then Value m kind 0 (n + a) (n + z) else Fault notUtf8 (n + validEnd a z s)
   unfolding shaped
   string-value = refl
 

@@ -287,16 +287,16 @@ module _ (n : ℕ) (s u : List ℕ) where
   kept-given p f h (again {v} {n = l} e) = kept l (h v l) (ap (λ (r : Read). given r f) e)
   kept-given p f h not-read = faulty
 
-  kept-string : (p : List ℕ → Read) (good : List ℕ → Bool) (f : ℕ → ℕ → Field) → ((a z : ℕ) → used (f a z) ≡ n + z) → {r : Read} → Found p s r
-      → Kept n (λ x. given (p x) λ a z. if good (part a z x) then f a z else Fault notUtf8 0) s u (given r λ a z. if good (part a z s) then f a z else Fault notUtf8 0)
+  kept-string : (p : List ℕ → Read) (good : List ℕ → Bool) (f : ℕ → ℕ → Field) (bad : List ℕ → ℕ → ℕ → ℕ) → ((a z : ℕ) → used (f a z) ≡ n + z) → {r : Read} → Found p s r
+      → Kept n (λ x. given (p x) λ a z. if good (part a z x) then f a z else Fault notUtf8 (bad x a z)) s u (given r λ a z. if good (part a z s) then f a z else Fault notUtf8 (bad s a z))
   unfolding given
-  kept-string p good f h (found {a} {m} j reads) =
+  kept-string p good f bad h (found {a} {m} j reads) =
       chosen (Kept n _ s u) (good (part a (a + m) s))
       (λ t. kept (a + m) (h a (a + m))
-      (ap (λ (r : Read). given r λ b z. if good (part b z (take (a + m) s ++ u)) then f b z else Fault notUtf8 0) (again-read (again-found p s u (found {a = a} {m = m} j reads)))
-      ∙ ap (λ (b : Bool). if b then f a (a + m) else Fault notUtf8 0) (ap good (part-front a (a + m) (a + m) s u (omega arith) (omega arith) j) ∙ t)))
+      (ap (λ (r : Read). given r λ b z. if good (part b z (take (a + m) s ++ u)) then f b z else Fault notUtf8 (bad (take (a + m) s ++ u) b z)) (again-read (again-found p s u (found {a = a} {m = m} j reads)))
+      ∙ ap (λ (b : Bool). if b then f a (a + m) else Fault notUtf8 (bad (take (a + m) s ++ u) a (a + m))) (ap good (part-front a (a + m) (a + m) s u (omega arith) (omega arith) j) ∙ t)))
       (λ t. faulty)
-  kept-string p good f h not-found = faulty
+  kept-string p good f bad h not-found = faulty
 
   -- of two that read alike
   kept-same : (f g : List ℕ → Field) → ((x : List ℕ) → f x ≡ g x) → Kept n g s u (g s) → Kept n f s u (f s)
@@ -317,7 +317,7 @@ kept-behind f g n s u h faulty some = absurd (omega arith)
 shaped-kept : (mode : Mode) (x : Shape) (depth inner m kind n : ℕ) (s u : List ℕ) → Kept n (shaped mode x depth inner m kind n) s u (shaped mode x depth inner m kind n s)
 unfolding shaped used
 shaped-kept mode (one c) depth inner m kind n s u = kept-given n s u _ _ (λ v l. refl) (again-scalar c s u)
-shaped-kept mode (other string) depth inner m kind n s u = kept-string n s u _ utf8 _ (λ a z. refl) (content-found _ _ s)
+shaped-kept mode (other string) depth inner m kind n s u = kept-string n s u _ utf8 _ _ (λ a z. refl) (content-found _ _ s)
 shaped-kept mode (other bytes) depth inner m kind n s u = kept-given n s u _ _ (λ a z. refl) (again-content _ _ s u)
 shaped-kept mode (other message) depth inner m kind n s u =
     lower-or-not depth mostLevels

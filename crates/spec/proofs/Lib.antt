@@ -23,3 +23,5 @@ pub mod Cases
 pub mod LeastLaws
 pub mod MadeLaws
 pub mod ValidLaws
+pub mod RefusalLaws
+pub mod LetterLaws

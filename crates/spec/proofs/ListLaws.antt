@@ -489,4 +489,4 @@ pub round-trip : (mode : Mode) (sch : Schema) (payload : List ℕ) (rs : List Re
     → length (written payload rs) ≤ limit
     → (qs : List Record) × (read (looking mode sch) 0 0 0 (written payload rs) ≡ after qs Done) × Alike (written payload rs) payload qs rs × Tree sch (written payload rs) 0 0 qs (written payload rs)
 round-trip mode sch payload rs valid fine small =
-    back sch payload (written payload rs) mode (valid-tree sch payload (schema-kinds sch valid) rs fine) 0 (stands-self sch payload (written payload rs) (written payload rs)) small
+    back sch payload (written payload rs) mode (valid-tree sch payload (schema-kinds sch valid) rs fine) 0 (stands-self (written payload rs)) small

@@ -101,7 +101,7 @@ part-behind n a e u = ap₂ take (short n a e) (drop-drop a n u)
     short n a e = omega arith
 
 module _ (s : List ℕ) where
-  stands-inside : {at : ℕ} (a e : ℕ) (u : List ℕ) → a ≤ e → e ≤ length u → Stands s at u → Stands s (at + a) (part a e u)
+  pub stands-inside : {at : ℕ} (a e : ℕ) (u : List ℕ) → a ≤ e → e ≤ length u → Stands s at u → Stands s (at + a) (part a e u)
   stands-inside {at} a e u h j st =
       record {
         before = st .before ++ take a u;
@@ -112,7 +112,7 @@ module _ (s : List ℕ) where
         place = length-append (st .before) (take a u) ∙ ap₂ (_+_) (st .place) (length-take-le a u (omega arith));
       }
 
-  stands-behind : {at : ℕ} (n : ℕ) (u : List ℕ) → n ≤ length u → Stands s at u → Stands s (at + n) (drop n u)
+  pub stands-behind : {at : ℕ} (n : ℕ) (u : List ℕ) → n ≤ length u → Stands s at u → Stands s (at + n) (drop n u)
   stands-behind {at} n u h st =
       record {
         before = st .before ++ take n u;
@@ -120,6 +120,10 @@ module _ (s : List ℕ) where
         is = st .is ∙ ap (λ (x : List ℕ). st .before ++ (x ++ st .behind)) (sym (take-append-drop n u)) ∙ simp append-assoc;
         place = length-append (st .before) (take n u) ∙ ap₂ (_+_) (st .place) (length-take-le n u h);
       }
+
+  -- a content that stands in s, as a range there
+  pub content-is : {at : ℕ} (a e : ℕ) (u : List ℕ) → a ≤ e → e ≤ length u → Stands s at u → part (at + a) (at + e) s ≡ part a e u
+  content-is {at} a e u h j st = stands-part (part a e u) (stands-inside a e u h j st) (at + e) (omega (arith, part-length a e u h j))
 
 -- ---- the field in front, with what is known of it
 
@@ -266,10 +270,6 @@ module _ (mode : Mode) (sch : Schema) (kinds : (t m : ℕ) → lookup (sch .entr
     abbrev Made : (t d : ℕ) → List Record → ℕ → Type 0
     Made t d rs most = (b : List ℕ) × Tree sch s t d rs b × (length b ≤ most)
 
-    -- a content that stands in s, as the range of a record
-    content-is : {at : ℕ} (a e : ℕ) (u : List ℕ) → a ≤ e → e ≤ length u → Stands s at u → part (at + a) (at + e) s ≡ part a e u
-    content-is {at} a e u h j st = stands-part (part a e u) (stands-inside s a e u h j st) (at + e) (omega (arith, part-length a e u h j))
-
     content-lies : {at : ℕ} (a e d m k g : ℕ) (u : List ℕ) → a ≤ e → e ≤ length u → Stands s at u → lies s (row d m k 0 (at + a) (at + e) g) ≡ true
     content-lies {at} a e d m k g u h j st =
         both-true (le-leb (at + a) (at + e) (omega arith))
@@ -297,7 +297,7 @@ module _ (mode : Mode) (sch : Schema) (kinds : (t m : ℕ) → lookup (sch .entr
           let r : Record = row d m k 0 (at + a) (at + e) at in
           let y = first-read r Done xs p in
           let z : xs ≡ r ∷ [] = y .1 ∙ ap (_∷_ r) (nothing-read (y .0) (y .2)) in
-          let c : part (at + a) (at + e) s ≡ part a e u = content-is a e u (f .in-order) (f .inside) st in (
+          let c : part (at + a) (at + e) s ≡ part a e u = content-is s a e u (f .in-order) (f .inside) st in (
             tagBytes r ++ prefixed (part (at + a) (at + e) s) ++ b,
             subst (λ (x : List Record). Tree sch s t d (x ++ ys) (tagBytes r ++ prefixed (part (at + a) (at + e) s) ++ b)) (sym z)
                 (text refl (again known) sh refl (content-lies a e d m k at u (f .in-order) (f .inside) st) (ap utf8 c ∙ q) tree),
@@ -308,7 +308,7 @@ module _ (mode : Mode) (sch : Schema) (kinds : (t m : ℕ) → lookup (sch .entr
           let r : Record = row d m k 0 (at + a) (at + e) at in
           let y = first-read r Done xs p in
           let z : xs ≡ r ∷ [] = y .1 ∙ ap (_∷_ r) (nothing-read (y .0) (y .2)) in
-          let c : part (at + a) (at + e) s ≡ part a e u = content-is a e u (f .in-order) (f .inside) st in (
+          let c : part (at + a) (at + e) s ≡ part a e u = content-is s a e u (f .in-order) (f .inside) st in (
             tagBytes r ++ prefixed (part (at + a) (at + e) s) ++ b,
             subst (λ (x : List Record). Tree sch s t d (x ++ ys) (tagBytes r ++ prefixed (part (at + a) (at + e) s) ++ b)) (sym z)
                 (blob refl (again known) sh refl (content-lies a e d m k at u (f .in-order) (f .inside) st) tree),
@@ -347,7 +347,7 @@ module _ (mode : Mode) (sch : Schema) (kinds : (t m : ℕ) → lookup (sch .entr
       made-one (Dropped m e) a-group (reads.is-dropped i) xs ys p (b, tree, l) =
           let z : xs ≡ [] = nothing-read xs p in
           (b, subst (λ (x : List Record). Tree sch s t d (x ++ ys) b) (sym z) tree, omega arith)
-      made-one (Fault k q) a-fault reads.is-fault xs ys p g = never-refused k (at + q) xs p
+      made-one (Fault k q) a-fault (reads.is-fault h) xs ys p g = never-refused k (at + q) xs p
 
     -- a field that gave records, or none, and no refusal, took some bytes
     some-used : (i : ℕ → ℕ → List ℕ → Reading) (d at most : ℕ) (w : List ℕ) (x : Field) → reads.Sound most x → (xs : List Record) → records mode i d at w x ≡ after xs Done → (1 ≤ used x) × (used x ≤ most)
@@ -356,7 +356,7 @@ module _ (mode : Mode) (sch : Schema) (kinds : (t m : ℕ) → lookup (sch .entr
     some-used i d at most w (Message m c a e) (reads.is-message h) xs p = omega arith
     some-used i d at most w (Packed m k a e) (reads.is-packed h) xs p = omega arith
     some-used i d at most w (Dropped m e) (reads.is-dropped h) xs p = omega arith
-    some-used i d at most w (Fault k q) reads.is-fault xs p = never-refused k (at + q) xs p
+    some-used i d at most w (Fault k q) (reads.is-fault h) xs p = never-refused k (at + q) xs p
 
     pub made : (f : ℕ) (u : List ℕ) → length u ≤ f → (d t at : ℕ) → Stands s at u → Bytes u → (rs : List Record) → read (looking mode sch) d t at u ≡ after rs Done → Made t d rs (length u)
     made zero [] h d t at st bs rs e =

@@ -6,50 +6,56 @@ use native.Mathlib.Omega.{arith}
 use mathlib.Core.Path.{_≡_, refl, sym, ap, _∙_, subst}
 use mathlib.Core.Bool.{Bool, true, false}
 use mathlib.Core.List.{List, [], _∷_}
-use lib.ListN.{length, drop, length-drop}
+use lib.ListN.{length, drop, length-take, length-drop}
 use lib.Dec.{leb, ltb}
 use borrow.Author.Tests.{leb-true, leb-false, le-leb, lt-leb, ltb-true, ltb-false}
-use Rattle.spec.specs.Names.{badTag, mostLevels, tooDeep, tooLarge}
+use Rattle.spec.specs.Names.{badTag, mostLevels, notUtf8, tooDeep, tooLarge}
 use Rattle.spec.specs.Base.{if_then_else_, part, Read, Took, No, refusal, digit, limit}
 use Rattle.spec.specs.Varint.{varint, varint32, varint64}
-use Rattle.spec.specs.Utf8.{utf8}
+use Rattle.spec.specs.Utf8.{utf8, validEnd}
 use Rattle.spec.specs.Skip.{content}
 use Rattle.spec.specs.Pull.{Reader, Ask, rawTag, value, bytes, string, skip, Number, Content, End, Refused, Moved, says, moved, numbered, bounded, spelled, stepAt, enterAt, reader, opened, stepped, innerOf, entered}
-use Rattle.spec.proofs.Laws.{either-way, if-so, if-not, Takes, took, none, takes-varint, takes-scalar, Holds, holds, content-holds}
+use Rattle.spec.proofs.Laws.{either-way, chosen, if-so, if-not, Takes, took, none, takes-varint, takes-scalar, Holds, holds, content-holds}
 use Rattle.spec.proofs.SkipLaws.{takes-skipFieldForTag}
+use Rattle.spec.proofs.Utf8Laws.{prefix-short}
 use Rattle.spec.proofs.VarintLaws.{lower-or-not}
 
 -- ---- what a step may be
 
--- A step from `at`, with `most` bytes there: it is refused, and stays; or it takes at least `least` bytes of them, and a content that it returns ends
+-- A step from `at`, with `most` bytes there: it is refused, and stays, and only a broken character has another place than `at`; or it takes at least `least` bytes of them, and a content that it returns ends
 -- where it stops; or the bytes are at their end.
 pub data Step (at least most : ℕ) : Moved → Type 0 where
   stays : {k : ℕ} → Step at least most (says (Refused k at) at)
+  breaks : {a : ℕ} → a < most → Step at least most (says (Refused notUtf8 (at + a)) at)
   tells : {v n : ℕ} → least ≤ n → n ≤ most → Step at least most (says (Number v) (at + n))
   bounds : {a z : ℕ} → least ≤ 1 → 1 ≤ a → a ≤ z → z ≤ most → Step at least most (says (Content (at + a) (at + z)) (at + z))
   ends : least ≡ 0 → Step at least most (says End at)
 
 module _ {at least most : ℕ} where
-  pub step-refused : {m : Moved} {k p : ℕ} → Step at least most m → m .said ≡ Refused k p → (m .at ≡ at) × (p ≡ at)
-  step-refused stays e = (refl, cc)
+  pub step-refused : {m : Moved} {k p : ℕ} → Step at least most m → m .said ≡ Refused k p → (m .at ≡ at) × ((k ≡ notUtf8 → ⊥) → p ≡ at)
+  step-refused stays e = (refl, λ n. cc)
+  step-refused (breaks h) e = (refl, λ n. absurd (n (cc)))
   step-refused (tells h j) e = let z : _≡_ {A = ℕ} 0 1 = cc in absurd (omega arith)
   step-refused (bounds l h i j) e = let z : _≡_ {A = ℕ} 0 1 = cc in absurd (omega arith)
   step-refused (ends h) e = let z : _≡_ {A = ℕ} 0 1 = cc in absurd (omega arith)
 
   pub step-forward : {m : Moved} → Step at least most m → (at ≤ m .at) × (m .at ≤ at + most)
   step-forward stays = omega arith
+  step-forward (breaks h) = omega arith
   step-forward (tells h j) = omega arith
   step-forward (bounds l h i j) = omega arith
   step-forward (ends h) = omega arith
 
   pub step-takes : {m : Moved} → Step at least most m → ((k p : ℕ) → m .said ≡ Refused k p → ⊥) → at + least ≤ m .at
   step-takes (stays {k}) well = absurd (well k at refl)
+  step-takes (breaks {a} h) well = absurd (well notUtf8 (at + a) refl)
   step-takes (tells h j) well = omega arith
   step-takes (bounds l h i j) well = omega arith
   step-takes (ends h) well = omega arith
 
   pub step-content : {m : Moved} {a z : ℕ} → Step at least most m → m .said ≡ Content a z → (at < a) × (a ≤ z) × (z ≤ at + most) × (m .at ≡ z)
   step-content stays e = let z : _≡_ {A = ℕ} 0 1 = cc in absurd (omega arith)
+  step-content (breaks h) e = let z : _≡_ {A = ℕ} 0 1 = cc in absurd (omega arith)
   step-content (tells h j) e = let z : _≡_ {A = ℕ} 0 1 = cc in absurd (omega arith)
   step-content {a = b} {z = y} (bounds {a} {z} l h i j) e =
       let p : at + a ≡ b = cc in
@@ -104,7 +110,12 @@ module _ (at : ℕ) {least most : ℕ} where
 
   string-step : (s : List ℕ) {r : Read} → least ≤ 1 → Holds most r → Step at least most (spelled at s r)
   unfolding spelled moved
-  string-step s l (holds {a} {e} h i j) = either-way (Step at least most) (utf8 (part a e s)) (bounds l h i j) stays
+  string-step s l (holds {a} {e} h i j) =
+      chosen (Step at least most) (utf8 (part a e s)) (λ t. bounds l h i j)
+      (λ f. broken (validEnd a e s) (omega (arith, prefix-short (part a e s) f, length-take (e - a) (drop a s))))
+    where
+      broken : (p : ℕ) → p < most → Step at least most (says (Refused notUtf8 (at + p)) at)
+      broken p h = breaks h
   string-step s l Holds.none = stays
 
 -- the fewest bytes that a step takes where it is not refused: none at the end, where no tag is read, and for a skip
@@ -161,8 +172,8 @@ module _ (s : List ℕ) (at : ℕ) where
 -- ---- the laws of each step
 
 module _ (s : List ℕ) (at level : ℕ) (ask : Ask) where
-  -- a refused step stays, and its place is the position
-  pub refused-stays : (k p : ℕ) → stepAt s at level ask .said ≡ Refused k p → (stepAt s at level ask .at ≡ at) × (p ≡ at)
+  -- a refused step stays, and its place is the position, except on a broken character
+  pub refused-stays : (k p : ℕ) → stepAt s at level ask .said ≡ Refused k p → (stepAt s at level ask .at ≡ at) × ((k ≡ notUtf8 → ⊥) → p ≡ at)
   refused-stays k p e = step-refused (steps s at level ask) e
 
   -- no step goes back, or past the bytes
@@ -180,7 +191,18 @@ module _ (s : List ℕ) (at level : ℕ) (ask : Ask) where
 -- the same of entering
 module _ (s : List ℕ) (at level : ℕ) where
   pub enter-refused : (k p : ℕ) → enterAt s at level .said ≡ Refused k p → (enterAt s at level .at ≡ at) × (p ≡ at)
-  enter-refused k p e = step-refused (enter-step s at level) e
+  unfolding moved
+  enter-refused k p e =
+      lower-or-not level mostLevels
+      (λ c. let m : enterAt s at level ≡ bounded at (content varint64 (drop at s)) = enter-content s at level c in
+      subst (λ (x : Moved). (x .at ≡ at) × (p ≡ at)) (sym m) (bounded-refused (content varint64 (drop at s)) (ap (λ (x : Moved). x .said) (sym m) ∙ e)))
+      (λ c. let m : enterAt s at level ≡ says (Refused tooDeep at) at = enter-too-deep s at level c in
+      let f : Refused tooDeep at ≡ Refused k p = ap (λ (x : Moved). x .said) (sym m) ∙ e in
+      (ap (λ (x : Moved). x .at) m, cc))
+    where
+      bounded-refused : (r : Read) → bounded at r .said ≡ Refused k p → (bounded at r .at ≡ at) × (p ≡ at)
+      bounded-refused (Took a z) f = let z : _≡_ {A = ℕ} 0 1 = cc in absurd (omega arith)
+      bounded-refused (No j) f = (refl, cc)
 
   pub enter-forward : at ≤ length s → (at ≤ enterAt s at level .at) × (enterAt s at level .at ≤ length s)
   enter-forward h = let f = step-forward (enter-step s at level) in omega arith
@@ -191,7 +213,7 @@ module _ (s : List ℕ) (at level : ℕ) where
 -- ---- the calls on a reader
 
 module _ (r : Reader) where
-  pub stepped-refused : (ask : Ask) (k p : ℕ) → stepped r ask .said ≡ Refused k p → (stepped r ask .reader ≡ r) × (p ≡ r .at)
+  pub stepped-refused : (ask : Ask) (k p : ℕ) → stepped r ask .said ≡ Refused k p → (stepped r ask .reader ≡ r) × ((k ≡ notUtf8 → ⊥) → p ≡ r .at)
   unfolding stepped
   stepped-refused ask k p e =
       let h = refused-stays (r .bytes) (r .at) (r .level) ask k p e in

@@ -14,19 +14,20 @@ use Rattle.spec.specs.Record.{row}
 use Rattle.spec.proofs.Laws.{either-way, Takes, took, none, takes-tag, takes-scalar, takes-varint, Holds, holds, content-holds}
 use Rattle.spec.proofs.VarintLaws.{lower-or-not}
 use Rattle.spec.proofs.SkipLaws.{takes-skipGroup}
+use Rattle.spec.proofs.Utf8Laws.{valid-le}
 use Rattle.spec.proofs.FieldLaws.{message-head, message-too-deep}
 
 -- from a up to e, after at least one byte, and in the first `most`
 abbrev pub In : ℕ → ℕ → ℕ → Type 0
 In a e most = (1 ≤ a) × (a ≤ e) × (e ≤ most)
 
--- A field in the first `most` bytes: its tag takes at least one, and its value or content lies between that and its end.
+-- A field in the first `most` bytes: its tag takes at least one, and its value or content lies between that and its end. The place of a fault lies in them too.
 pub data Sound (most : ℕ) : Field → Type 0 where
   is-value : {m k v a e : ℕ} → In a e most → Sound most (Value m k v a e)
   is-message : {m c a e : ℕ} → In a e most → Sound most (Message m c a e)
   is-packed : {m k a e : ℕ} → In a e most → Sound most (Packed m k a e)
   is-dropped : {m e : ℕ} → In e e most → Sound most (Dropped m e)
-  is-fault : {n p : ℕ} → Sound most (Fault n p)
+  is-fault : {n p : ℕ} → p ≤ most → Sound most (Fault n p)
 
 -- the same as functions, whose arguments are read off what is to be proved
 value-in : {most m k v a e : ℕ} → In a e most → Sound most (Value m k v a e)
@@ -41,17 +42,27 @@ packed-in h = is-packed h
 dropped-in : {most m e : ℕ} → In e e most → Sound most (Dropped m e)
 dropped-in h = is-dropped h
 
+fault-in : {most n p : ℕ} → p ≤ most → Sound most (Fault n p)
+fault-in h = is-fault h
+
+-- at the tag
+fault-first : {most n : ℕ} → Sound most (Fault n 0)
+fault-first = is-fault {p = 0} (omega arith)
+
+length-part : (a e : ℕ) (s : List ℕ) → length (part a e s) ≤ e - a
+length-part a e s = omega (arith, length-take (e - a) (drop a s))
+
 sound-given : {least most all : ℕ} {r : Read} {f : ℕ → ℕ → Field} → Takes least most r
     → ((v n : ℕ) → least ≤ n → n ≤ most → Sound all (f v n)) → Sound all (given r f)
 unfolding given
 sound-given (took {v} {n} h j) g = g v n h j
-sound-given none g = is-fault
+sound-given none g = fault-first
 
 sound-held : {most all : ℕ} {r : Read} {f : ℕ → ℕ → Field} → Holds most r
     → ((a e : ℕ) → 1 ≤ a → a ≤ e → e ≤ most → Sound all (f a e)) → Sound all (given r f)
 unfolding given
 sound-held (holds {a} {e} h i j) g = g a e h i j
-sound-held Holds.none g = is-fault
+sound-held Holds.none g = fault-first
 
 shaped-sound : (mode : Mode) (x : Shape) (depth inner m k n : ℕ) (s : List ℕ) (most : ℕ) → 1 ≤ n → n + length s ≤ most
     → Sound most (shaped mode x depth inner m k n s)
@@ -59,19 +70,19 @@ unfolding shaped
 shaped-sound mode (one c) depth inner m k n s most h j = sound-given (takes-scalar c s) λ v i p q. value-in (omega arith)
 shaped-sound mode (other string) depth inner m k n s most h j =
     sound-held (content-holds _ s (takes-varint _ _ s)) λ a z p o q.
-    either-way (Sound most) (utf8 (part a z s)) (value-in (omega arith)) is-fault
+    either-way (Sound most) (utf8 (part a z s)) (value-in (omega arith)) (fault-in (omega (arith, valid-le (part a z s), length-part a z s)))
 shaped-sound mode (other bytes) depth inner m k n s most h j =
     sound-held (content-holds _ s (takes-varint _ _ s)) λ a z p o q. value-in (omega arith)
 shaped-sound mode (other message) depth inner m k n s most h j =
     lower-or-not depth mostLevels
     (λ c. subst (Sound most) (sym (message-head mode depth inner m k n s c)) (sound-held (content-holds _ s (takes-varint _ _ s)) λ a z p o q. message-in (omega arith)))
-    (λ c. subst (Sound most) (sym (message-too-deep mode depth inner m k n s c)) is-fault)
+    (λ c. subst (Sound most) (sym (message-too-deep mode depth inner m k n s c)) fault-first)
 shaped-sound mode (other packed) depth inner m k n s most h j =
     sound-held (content-holds _ s (takes-varint _ _ s)) λ a z p o q. packed-in (omega arith)
 shaped-sound mode (other startGroup) depth inner m k n s most h j =
     sound-given (takes-skipGroup (length s) (No endsEarly) none depth s) λ v i p q. dropped-in (omega arith)
-shaped-sound mode (other endGroup) depth inner m k n s most h j = is-fault
-shaped-sound mode (other nothing) depth inner m k n s most h j = is-fault
+shaped-sound mode (other endGroup) depth inner m k n s most h j = fault-first
+shaped-sound mode (other nothing) depth inner m k n s most h j = fault-first
 
 pub field-sound : (look : Look) (depth type : ℕ) (s : List ℕ) → Sound (length s) (field look depth type s)
 unfolding field
@@ -81,9 +92,6 @@ field-sound look depth type s =
     shaped-sound (look .mode) (shape (x .kind)) depth (x .inner) (t / 8) (x .kind) n (drop n s) (length s) h (omega (arith, length-drop n s))
 
 -- ---- enough steps are enough
-
-length-part : (a e : ℕ) (s : List ℕ) → length (part a e s) ≤ e - a
-length-part a e s = omega (arith, length-take (e - a) (drop a s))
 
 abbrev Inner : Type 0
 Inner = ℕ → ℕ → List ℕ → Reading
@@ -105,7 +113,7 @@ field-cong mode p q p′ q′ depth at s (Message m c a e) (is-message h) inner 
 field-cong mode p q p′ q′ depth at s (Packed m k a e) (is-packed h) inner rest =
     ap (λ (r : Reading). records mode p depth at s (Packed m k a e) followed-by r) (rest (omega arith) (omega arith))
 field-cong mode p q p′ q′ depth at s (Dropped m e) (is-dropped h) inner rest = ap (λ (r : Reading). Done followed-by r) (rest (omega arith) (omega arith))
-field-cong mode p q p′ q′ depth at s (Fault n i) is-fault inner rest = refused-first n (at + i) p′ ∙ sym (refused-first n (at + i) q′)
+field-cong mode p q p′ q′ depth at s (Fault n i) (is-fault h) inner rest = refused-first n (at + i) p′ ∙ sym (refused-first n (at + i) q′)
 
 pub fields-enough : (f g : ℕ) (look : Look) (depth type at : ℕ) (s : List ℕ) → length s ≤ f → length s ≤ g
     → fields f look depth type at s ≡ fields g look depth type at s

@@ -67,6 +67,9 @@ pub record Stands (s : List ℕ) (at : ℕ) (b : List ℕ) : Type 0 where
   pub is : s ≡ before ++ (b ++ behind)
   pub place : length before ≡ at
 
+pub stands-self : (x : List ℕ) → Stands x 0 x
+stands-self x = record { before = []; behind = []; is = sym (append-nil x); place = refl }
+
 pub stands-right : {s : List ℕ} {at : ℕ} (x y : List ℕ) → Stands s at (x ++ y) → Stands s (at + length x) y
 stands-right x y h = record {
   before = h .before ++ x;
@@ -246,9 +249,6 @@ module _ (sch : Schema) (payload s : List ℕ) where
   values-long {c} (value {r} {rs} {b} dep num kin f rest) h = omega (arith, length-append (encoded c (r .value)) b, encoded-pos c (r .value) f)
 
   -- ---- a head, its content i and the rest
-
-  pub stands-self : (x : List ℕ) → Stands x 0 x
-  stands-self x = record { before = []; behind = []; is = sym (append-nil x); place = refl }
 
   module _ (t d at : ℕ) (r : Record) (i b : List ℕ) where
     abbrev whole : List ℕ

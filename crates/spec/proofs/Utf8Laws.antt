@@ -12,7 +12,7 @@ use lib.Dec.{eqb}
 use borrow.Author.Tests.{eqb-true, eqb-false, ne-eqb, eq-eqb, le-leb}
 use Rattle.spec.specs.Base.{if_then_else_, between}
 use Rattle.spec.specs.Utf8.{Lead, Follow, NoLead, lead, followers, behind, char, chars, validPrefix, utf8}
-use Rattle.spec.proofs.Laws.{both, chosen}
+use Rattle.spec.proofs.Laws.{both, chosen, by-test}
 
 followers-le : (n lo hi : ℕ) (s : List ℕ) → followers n lo hi s ≡ true → n ≤ length s
 unfolding followers
@@ -189,3 +189,18 @@ pub prefix-longest : (n : ℕ) (s : List ℕ) → n ≤ length s → utf8 (take 
 prefix-longest n s h u =
     let p : validPrefix s ≡ length (take n s) + validPrefix (drop n s) = rw (take-append-drop n s) at (prefix-append (take n s) (drop n s) u) in
     omega (arith, length-take-le n s h)
+
+-- bytes are valid where it is all of them
+pub all-valid : (s : List ℕ) → length s ≤ validPrefix s → utf8 s ≡ true
+all-valid s h = eq-eqb (validPrefix s) (length s) (omega (arith, valid-le s))
+
+pub part-valid : (s : List ℕ) → validPrefix s < length s → utf8 s ≡ false
+part-valid s h = ne-eqb (validPrefix s) (length s) (λ e. omega arith)
+
+-- of bytes that are not valid it is a part, and no longer front of them is valid
+module _ (s : List ℕ) (bad : utf8 s ≡ false) where
+  pub prefix-short : validPrefix s < length s
+  prefix-short = omega (arith, valid-le s, eqb-false (validPrefix s) (length s) bad)
+
+  pub prefix-no-longer : (n : ℕ) → validPrefix s < n → n ≤ length s → utf8 (take n s) ≡ false
+  prefix-no-longer n h l = by-test (utf8 (take n s)) (λ t. absurd (omega (arith, prefix-longest n s l t))) (λ f. f)

@@ -12,7 +12,7 @@ use borrow.Author.Tests.{le-leb}
 use Rattle.spec.specs.Names.{badTag, endsEarly, fixed32Wire, largestNumber, mostLevels, notUtf8, packedHead}
 use Rattle.spec.specs.Base.{if_then_else_, part, Took, No, require, limit}
 use Rattle.spec.specs.Varint.{varint, encode, tag, goodTag}
-use Rattle.spec.specs.Utf8.{utf8}
+use Rattle.spec.specs.Utf8.{utf8, validEnd}
 use Rattle.spec.specs.Kind.{Scalar, one, other, string, bytes, message, packed, shape, encoded, fits}
 use Rattle.spec.specs.Schema.{Schema, lookup, Says, saysOf, says}
 use Rattle.spec.specs.Skip.{content, spanned}
@@ -88,7 +88,7 @@ module _ (mode : Mode) (depth inner m kind n : ℕ) (c u : List ℕ) (small : le
   pub string-written : utf8 c ≡ true → shaped mode (other string) depth inner m kind n (prefixed c ++ u) ≡ Value m kind 0 (n + from c) (n + to c)
   string-written h =
       string-value mode depth inner m kind n (prefixed c ++ u) ∙ given-took _ (content-written 4 15 c u (omega arith) (omega arith) (omega arith))
-      ∙ ap (λ (b : Bool). if b then Value m kind 0 (n + from c) (n + to c) else Fault notUtf8 0) (ap utf8 (part-written c u) ∙ h)
+      ∙ ap (λ (b : Bool). if b then Value m kind 0 (n + from c) (n + to c) else Fault notUtf8 (n + validEnd (from c) (to c) (prefixed c ++ u))) (ap utf8 (part-written c u) ∙ h)
 
   pub message-written : depth < mostLevels → shaped mode (other message) depth inner m kind n (prefixed c ++ u) ≡ Message m inner (n + from c) (n + to c)
   message-written h = message-head mode depth inner m kind n (prefixed c ++ u) h ∙ given-took _ (content-written 9 1 c u (omega arith) (omega arith) (omega arith))

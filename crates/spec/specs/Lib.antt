@@ -14,3 +14,4 @@ pub mod Writing
 pub mod Tree
 pub mod Valid
 pub mod Pull
+pub mod Letter

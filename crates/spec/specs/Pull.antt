@@ -6,7 +6,7 @@ use lib.Dec.{leb, ltb}
 use Rattle.spec.specs.Names.{mostLevels, notUtf8, tooDeep, tooLarge}
 use Rattle.spec.specs.Base.{if_then_else_, limit, part, Read, Took, No}
 use Rattle.spec.specs.Varint.{varint32, varint64}
-use Rattle.spec.specs.Utf8.{utf8}
+use Rattle.spec.specs.Utf8.{utf8, validEnd}
 use Rattle.spec.specs.Kind.{Scalar, scalar}
 use Rattle.spec.specs.Skip.{content, skipFieldForTag}
 
@@ -40,7 +40,7 @@ pub record Moved : Type 0 where
 abbrev pub says : Said → ℕ → Moved
 says x at = record { said = x; at = at }
 
--- A step at a position moves past what it took; a refused one stays, and its place is the position.
+-- A step at a position moves past what it took; a refused one stays, and its place is the position, except on a broken character.
 unfoldable pub moved : ℕ → (ℕ → ℕ → Said) → Read → Moved
 moved at f (Took v n) = says (f v n) (at + n)
 moved at f (No k) = says (Refused k at) at
@@ -51,9 +51,9 @@ numbered at r = moved at (λ v n. Number v) r
 abbrev pub bounded : ℕ → Read → Moved
 bounded at r = moved at (λ a z. Content (at + a) (at + z)) r
 
--- a content that is no UTF-8 is refused 6
+-- a content that is no UTF-8 is refused 6, at its first character that is broken; the step stays all the same
 unfoldable pub spelled : ℕ → List ℕ → Read → Moved
-spelled at s (Took a z) = if utf8 (part a z s) then bounded at (Took a z) else says (Refused notUtf8 at) at
+spelled at s (Took a z) = if utf8 (part a z s) then bounded at (Took a z) else says (Refused notUtf8 (at + validEnd a z s)) at
 spelled at s (No k) = bounded at (No k)
 
 -- What is asked of the bytes s at a position and a level. The raw tag is any varint32; a skip answers how many bytes it used.

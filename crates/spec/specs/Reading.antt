@@ -7,7 +7,7 @@ use lib.Dec.{leb, ltb, eqb}
 use Rattle.spec.specs.Names.{badTag, invalidSchema, messageKind, mostLevels, noGroupOpen, noRoom, notUtf8, packedHead, tooDeep, tooLarge}
 use Rattle.spec.specs.Base.{if_then_else_, part, filled, limit, Read, Took, No}
 use Rattle.spec.specs.Varint.{varint32, varint64, tag}
-use Rattle.spec.specs.Utf8.{utf8}
+use Rattle.spec.specs.Utf8.{utf8, validEnd}
 use Rattle.spec.specs.Kind.{Scalar, Shape, one, other, string, bytes, message, packed, startGroup, endGroup, nothing, shape, scalar}
 use Rattle.spec.specs.Schema.{Schema, badSchema, Says, says}
 use Rattle.spec.specs.Skip.{content, outerGroup}
@@ -49,7 +49,7 @@ given (No k) f = Fault k 0
 unfoldable pub shaped : Mode → Shape → (depth inner m kind n : ℕ) → List ℕ → Field
 shaped mode (one c) depth inner m kind n s = given (scalar c s) λ v l. Value m kind v n (n + l)
 shaped mode (other string) depth inner m kind n s =
-    given (content varint32 s) λ a z. if utf8 (part a z s) then Value m kind 0 (n + a) (n + z) else Fault notUtf8 0
+    given (content varint32 s) λ a z. if utf8 (part a z s) then Value m kind 0 (n + a) (n + z) else Fault notUtf8 (n + validEnd a z s)
 shaped mode (other bytes) depth inner m kind n s = given (content varint32 s) λ a z. Value m kind 0 (n + a) (n + z)
 shaped mode (other message) depth inner m kind n s =
     if leb mostLevels depth then Fault tooDeep 0 else

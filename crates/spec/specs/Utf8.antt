@@ -4,7 +4,7 @@ use mathlib.Core.Bool.{Bool, true, false, _&&_}
 use mathlib.Core.List.{List, [], _∷_}
 use lib.ListN.{length, drop}
 use lib.Dec.{leb, eqb}
-use Rattle.spec.specs.Base.{if_then_else_, between}
+use Rattle.spec.specs.Base.{if_then_else_, between, part}
 
 -- What a lead byte says: how many bytes follow, and the bounds of the first of them; or that it is none.
 pub data Lead : Type 0 where
@@ -52,3 +52,7 @@ validPrefix s = chars (length s) s
 
 abbrev pub utf8 : List ℕ → Bool
 utf8 s = eqb (validPrefix s) (length s)
+
+-- where that prefix of a content ends, which stands in s from a up to z: the place of its first character that is broken
+abbrev pub validEnd : (a z : ℕ) → List ℕ → ℕ
+validEnd a z s = a + validPrefix (part a z s)

@@ -1,20 +1,17 @@
--- `pull::step::string_at` meets its contract: the content that was found, if it is UTF-8. Assumes nothing.
+-- `pull::step::string_at` meets its contract: the content that was found, if it is UTF-8, and else where it is broken. Assumes nothing.
 use Prim.Native.Nat.{_≤_}
 use native.Mathlib.Omega.{arith}
 use mathlib.Core.Path.{_≡_, sym, ap, _∙_}
 use mathlib.Core.Bool.{true}
-use borrow.Author.Tests.{not-true, not-false}
 use lib.ListN.{length, drop}
-use Rattle.spec.specs.Names.{notUtf8}
-use Rattle.spec.specs.Base.{if_then_else_}
 use Rattle.spec.specs.Varint.{varint32}
 use Rattle.spec.specs.Skip.{content}
-use Rattle.spec.specs.Pull.{Content, Refused, says, spelled, stepAt}
+use Rattle.spec.specs.Pull.{stepAt}
 use Rattle.skip.specs.Spans.{spanAt}
-use Rattle.skip.proofs.SpanLaws.{span-in}
+use Rattle.skip.proofs.SpanLaws.{span-in, valid-inside, Checked, checked}
 use Rattle.pull.specs.Told.{asMoved}
 use Rattle.skip.specs.declared.content.Span.the-variants as span
-use Rattle.pull.proofs.StepLaws.{text-told, text-refused}
+use Rattle.pull.proofs.StepLaws.{text-told, text-broken, text-refused}
 use borrow.Author.Needs.{needs}
 use Rattle.pull.proofs.step.string_at.Statement.{statement}
 use Rattle.pull.proofs.step.string_at.Tie as tie
@@ -31,42 +28,60 @@ inside : (c : tie.After-known-told) →
     (a .at ≤ x .0) × (x .0 ≤ x .1 .0) × (x .1 .0 ≤ length (a .s .now))
 inside c = let a = c .before .before .before .before .before .args in span-in true (a .at) (a .s .now) (found c)
 
--- what the check said of it
-text : (c : tie.After-is-utf8) →
-    let s = c .before .before .before in
-    let a = s .before .before .before .before .args in
-    (if c .is-utf8 .result then says (Content (s .start .given .0 .0) (s .start .given .0 .1 .0)) (s .start .given .0 .1 .0) else says (Refused notUtf8 (a .at)) (a .at))
-    ≡ spelled (a .at) (drop (a .at) (a .s .now)) (content varint32 (drop (a .at) (a .s .now)))
+sub-utf8-prefix : tie.Need-sub-utf8-prefix
+sub-utf8-prefix c = inside c .1
+
+part-utf8-prefix-start : tie.Need-part-utf8-prefix-start
+part-utf8-prefix-start c = omega (arith, inside c)
+
+part-utf8-prefix-end : tie.Need-part-utf8-prefix-end
+part-utf8-prefix-end c = omega (arith, inside c)
+
+add-valid : tie.Need-add-valid
+add-valid c =
+    let k = c .before .before in
+    let x = k .before .start .given .0 in
+    omega (arith, inside k, valid-inside (x .0) (x .1 .0) (k .before .before .before .before .before .args .s .now) (c .utf8-prefix .ensures))
+
+-- how much of it is valid
+text : (c : tie.After-utf8-prefix) →
+    let k = c .before .before in
+    let x = k .before .start .given .0 in
+    let a = k .before .before .before .before .before .args in
+    Checked (a .at) (a .s .now) (content varint32 (drop (a .at) (a .s .now))) (x .0) (x .1 .0) (c .utf8-prefix .result)
 text c =
-    let t = c .before .before in
-    let a = t .before .before .before .before .before .args in
-    text-told (a .at) (a .s .now) (content varint32 (drop (a .at) (a .s .now))) (found t) (c .is-utf8 .result) (c .is-utf8 .ensures)
-
-sub-is-utf8 : tie.Need-sub-is-utf8
-sub-is-utf8 c = inside c .1
-
-part-is-utf8-start : tie.Need-part-is-utf8-start
-part-is-utf8-start c = omega (arith, inside c)
-
-part-is-utf8-end : tie.Need-part-is-utf8-end
-part-is-utf8-end c = omega (arith, inside c)
+    let k = c .before .before in
+    let a = k .before .before .before .before .before .args in
+    checked (a .at) (a .s .now) (content varint32 (drop (a .at) (a .s .now))) (found k) (inside k .1) (inside k .2) (c .utf8-prefix .ensures)
 
 returns : tie.Need-returns
 unfolding stepAt
-returns c =
-    let t = c .before .before in
-    ap asMoved (c .refused .ensures) ∙ (rw (not-true (t .is-utf8 .result) (c .before .if1 .taken)) at (text t))
+returns c = text-broken _ _ _ (text (c .before)) (c .if1 .taken)
 
 returns-2 : tie.Need-returns-2
 unfolding stepAt
-returns-2 c = rw (not-false (c .before .is-utf8 .result) (c .if1 .left)) at (text (c .before))
+returns-2 c = text-told _ _ _ (text (c .before)) (c .if1 .left)
 
 returns-3 : tie.Need-returns-3
 unfolding stepAt
 returns-3 c =
     let k = c .before .before in
     let a = k .before .before .before .before .args in
-    ap asMoved (c .refused2 .ensures) ∙ text-refused (a .at) (a .s .now) (content varint32 (drop (a .at) (a .s .now))) (sym (k .k .given .1) ∙ k .before .before .span-at .ensures)
+    ap asMoved (c .refused .ensures) ∙ text-refused (a .at) (a .s .now) (content varint32 (drop (a .at) (a .s .now))) (sym (k .k .given .1) ∙ k .before .before .span-at .ensures)
 
 pub string-at-spec : {M : Type 1} → statement M
-string-at-spec = tie.close (tie.spec (λ c κs. search needs) (λ c. search needs) sub-is-utf8 part-is-utf8-start part-is-utf8-end (λ c κs. search needs) (λ c κs. search needs) returns (λ c. search needs) (λ c κs. search needs) returns-2 returns-3)
+string-at-spec =
+    tie.close
+    (tie.spec
+    (λ c κs. search needs)
+    (λ c. search needs)
+    sub-utf8-prefix
+    part-utf8-prefix-start
+    part-utf8-prefix-end
+    (λ c κs. search needs)
+    add-valid
+    returns
+    (λ c. search needs)
+    (λ c κs. search needs)
+    returns-2
+    returns-3)

@@ -13,7 +13,7 @@ use mathlib.Core.Logic.{inl, inr}
 use Rattle.read.specs.Answers.{Held}
 use Rattle.read.proofs.AskedLaws.{asked-held}
 use Rattle.read.proofs.Turn.{Here, here, here-by}
-use Rattle.read.proofs.FieldTurn.{row-message, row-packed, row-none, row-value, row-full, put-then, put-only, moved, bad-place, fields-end, field-bad, row-stops, row-goes, group-bad, group-within, group-past}
+use Rattle.read.proofs.FieldTurn.{row-message, row-packed, row-none, row-value, row-full, put-then, put-only, moved, fields-end, bad-within, field-bad, row-stops, row-goes, group-bad, group-within, group-past}
 use borrow.Fn.Kinds.{In}
 use borrow.Fn.PlainCycle.{Measures, is, falls, and}
 use Rattle.read.proofs.message.message.Reads as message
@@ -23,6 +23,7 @@ use Rattle.read.proofs.message.store.Reads as store
 use Rattle.read.proofs.message.store.Kinds as store-kinds
 use Rattle.read.proofs.message.+message+store.Lts-store as store-lts
 use Rattle.read.proofs.classify.field_at.Reads as field-at-reads
+use Rattle.read.proofs.classify.refused_at.Reads as refused-at-reads
 use Rattle.read.proofs.message.short_ints.Reads as short-ints-reads
 use Rattle.read.proofs.packed.packed.Reads as packed-reads
 use Rattle.read.proofs.room.put.Reads as put-reads
@@ -49,7 +50,7 @@ abbrev store-below : ℕ → In 4 store-kinds.ps
 store-below t = and 4 store-kinds.ps (falls 4 store-kinds.ps _<_ μ-store t) store.Pre
 
 abbrev message-claims : ℕ → message-lts.Claims
-message-claims t = (short-ints-reads.Asked, short-ints-reads.Learnt, field-at-reads.Asked, field-at-reads.Learnt, store-below t, store.Post, skip-unknown-group-reads.Asked, skip-unknown-group-reads.Learnt)
+message-claims t = (short-ints-reads.Asked, short-ints-reads.Learnt, field-at-reads.Asked, field-at-reads.Learnt, store-below t, store.Post, skip-unknown-group-reads.Asked, skip-unknown-group-reads.Learnt, refused-at-reads.Asked, refused-at-reads.Learnt)
 
 abbrev message-Inv-loop : message-lts.InvT-loop
 message-Inv-loop keys info s off ty depth room₀ from at₀ to₀ room at to = Here (read (prepared plainly keys info) depth ty) s off room₀ 0 from room at to
@@ -143,8 +144,8 @@ message-loop-again-2 t c =
     let j = joined t (a .before) in
     group-past _ _ _ (j .0) (j .2) (a .field-at .ensures .0) (n .next .given .1) (k .skip-unknown-group .ensures) (a .field-at .ensures .1) (e .e .given .1)
 
-message-add-t34 : (t : ℕ) → message-lts.Need-add-t34 (message-claims t) (message-at t) message.Post message-Inv-loop message-μ-loop
-message-add-t34 t c =
+message-add-t33 : (t : ℕ) → message-lts.Need-add-t33 (message-claims t) (message-at t) message.Post message-Inv-loop message-μ-loop
+message-add-t33 t c =
     let e = c .before .before in
     let k = e .before .before in
     let n = k .before .before in
@@ -175,14 +176,7 @@ message-add-t35 t c =
     let n = c .before .before in
     let a = n .before .before in
     let j = joined t (a .before) in
-    omega (arith, j .2)
-
-message-add-t36 : (t : ℕ) → message-lts.Need-add-t36 (message-claims t) (message-at t) message.Post message-Inv-loop message-μ-loop
-message-add-t36 t c =
-    let n = c .before .before in
-    let a = n .before .before in
-    let j = joined t (a .before) in
-    omega (arith, j .2, bad-place _ _ _ _ _ (a .field-at .ensures .1) (n .number2 .given .1))
+    omega (arith, bad-within _ _ _ (j .0) (j .2) (a .field-at .ensures .0) (n .number2 .given .1) (c .refused-at .ensures))
 
 message-same-length-4 : (t : ℕ) → message-lts.Need-same-length-4 (message-claims t) (message-at t) message.Post message-Inv-loop message-μ-loop
 message-same-length-4 t c =
@@ -196,7 +190,7 @@ message-returns-4 t c =
     let n = c .before .before in
     let a = n .before .before in
     let j = joined t (a .before) in
-    field-bad _ _ _ (j .0) (j .2) (a .field-at .ensures .0) (n .number2 .given .1)
+    field-bad _ _ _ (j .0) (j .2) (a .field-at .ensures .0) (n .number2 .given .1) (c .refused-at .ensures)
 
 message-returns-5 : (t : ℕ) → message-lts.Need-returns-5 (message-claims t) (message-at t) message.Post message-Inv-loop message-μ-loop
 message-returns-5 t c = fields-end _ _ _ (c .before .loop .inv) (c .loop-test .left)
@@ -323,12 +317,12 @@ pub +message+store-spec : {M : Type 1} → statement M
     (message-loop-less-2 t)
     (message-loop-again-2 t)
     (λ c. search needs)
-    (message-add-t34 t)
+    (message-add-t33 t)
     (message-same-length-3 t)
     (message-returns-3 t)
     (λ c. search needs)
+    (λ c κs. search needs)
     (message-add-t35 t)
-    (message-add-t36 t)
     (message-same-length-4 t)
     (message-returns-4 t)
     (λ c. search needs)
