@@ -169,11 +169,12 @@ fromTag depth s (tagged.Bad k) = field.Bad k
 unfoldable pub asked : spec.Look → (depth type at : ℕ) → List ℕ → Field
 asked look depth type at s = fromTag depth s (tagAt (look .says type) at (tag (drop at s)))
 
--- where the letter is broken of a string at the front of s, after its tag, and after its length, by what reading them there gives; the place is counted from the tag
+-- where the broken letter of a string is, counted from its tag: after a tag of n bytes, by what its content reads as
 unfoldable pub letterAfter : ℕ → List ℕ → Read → ℕ
 letterAfter n s (Took a z) = n + validEnd a z s
 letterAfter n s (No k) = 0
 
+-- and from its tag on, by what the tag reads as
 unfoldable pub letterIn : List ℕ → Read → ℕ
 letterIn s (Took t n) = letterAfter n (drop n s) (content varint32 (drop n s))
 letterIn s (No k) = 0
