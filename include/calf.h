@@ -103,8 +103,9 @@ uint32_t calf_segment_write(const uint64_t *ranges, size_t ranges_len, const uin
 /* Whether a slice may be pulled: 0, or 11 where it is too long. */
 uint32_t calf_pull_open(const uint8_t *s, size_t s_len);
 
-/* A step at a position and a level: answer = { what, a, b, position then }. what is 0 at the end, 1 for a number, a; 2 for a content from a to b; 3 for a refusal at a, which leaves
- * the position: a is the position too, and for 6 the first byte of the broken letter. kind is 0 for the raw tag, a kind of descriptor.proto for a value of it, and 10 to skip the field after `tag`, where a is how many bytes; else tag is ignored. */
+/* A step at a position and a level: answer = { what, a, b, position then }. what is 0 at the end, 1 for a number, a; 2 for a content from a to b; 3 for a refusal, which leaves the
+ * position: a is its place, which is the position, and for 6 the first byte of the broken letter. kind is 0 for the raw tag, a kind of descriptor.proto for a value of it, and 10 to skip
+ * the field after `tag`, where a is how many bytes; else tag is ignored. */
 uint32_t calf_pull_step(const uint8_t *s, size_t s_len, size_t at, uint32_t level, uint32_t kind, uint32_t tag, uint64_t answer[4]);
 
 /* A message at a position: the answer is its content (2), which a caller reads as a slice of its own at level + 1, and the position after it. 7 at level 100. */

@@ -1,6 +1,6 @@
 #!/usr/bin/env python3
 """A model of the rules, independent of the crate and of this library's code: it answers every case line from the rules alone. It stands in where the crate
-has no answer (places, refusals 8 to 10 and 12, the document check, schemas). Reads case lines, writes one answer for each."""
+has no answer (places other than that of 6, refusals 8 to 10 and 12, the document check, schemas). Reads case lines, writes one answer for each."""
 import sys
 
 LIMIT = 2147483647  # of inputs and of sizes

@@ -9,8 +9,8 @@ use lib.Seq.{drop-drop}
 use lib.Dec.{leb, eqb}
 use borrow.Author.Tests.{ne-eqb, leb-false}
 use Rattle.spec.specs.Names.{badTag, messageKind, mostLevels, noGroupOpen, notUtf8, packedHead, tooDeep}
-use Rattle.spec.specs.Base.{if_then_else_, part, Read, Took, No, require}
-use Rattle.spec.specs.Varint.{varint32, varint64, goodTag, tag}
+use Rattle.spec.specs.Base.{if_then_else_, part, Read, Took, No}
+use Rattle.spec.specs.Varint.{varint32, varint64, tag}
 use Rattle.spec.specs.Utf8.{utf8, validEnd}
 use Rattle.spec.specs.Kind.{Shape, one, other, string, bytes, message, packed, startGroup, endGroup, nothing, shape, scalar}
 use Rattle.spec.specs.Skip.{content, outerGroup}
@@ -18,6 +18,7 @@ use Rattle.spec.specs.Reading as spec
 use Rattle.spec.proofs.Laws.{chosen, either-way, Takes, took, none, takes-tag}
 use Rattle.spec.proofs.ReadingLaws.{In, Sound, is-value, is-message, is-packed, field-sound}
 use Rattle.spec.proofs.RefusalLaws.{isOrdinary, Ordinary, was-read, refused-by, not-ordinary, ordinary-tag, ordinary-scalar, ordinary-content}
+use Rattle.skip.proofs.PastLaws.{tag-varint}
 use Rattle.read.specs.Answers.{valued, ranged, texted, bodied, tagAt, fromBody, fromTag, asked, letterAfter, letterIn, refusedIn, asField, rowField, resolved, Held}
 use Rattle.read.specs.declared.classify.Row.{Row}
 use Rattle.read.specs.declared.classify.Field.{Field}
@@ -51,19 +52,6 @@ module _ (at next : ℕ) (s : List ℕ) (h : at ≤ next) {t : ℕ} (e : varint3
   pub at-letter : {a z : ℕ} → content varint32 (drop next s) ≡ Took a z → refusedIn notUtf8 (drop at s) ≡ next - at + validEnd a z (drop next s)
   unfolding letterAfter
   at-letter c = after-tag ∙ ap (letterAfter (next - at) (drop next s)) c
-
--- a tag is the varint that it is
-tag-varint : (w : List ℕ) {t n : ℕ} → tag w ≡ Took t n → varint32 w ≡ Took t n
-unfolding tag require
-tag-varint w {t} {n} e = go (varint32 w) e
-  where
-    taken : (b : Bool) {v m : ℕ} → (if b then Took v m else No badTag) ≡ Took t n → Took v m ≡ Took t n
-    taken true e = e
-    taken false e = let z : _≡_ {A = ℕ} 0 1 = cc in absurd (omega arith)
-
-    go : (r : Read) → require badTag goodTag r ≡ Took t n → r ≡ Took t n
-    go (Took v m) e = taken (goodTag v) e
-    go (No k) e = e
 
 -- ---- it is the definition's field
 
@@ -140,7 +128,7 @@ module _ (look : spec.Look) (depth type at : ℕ) (s : List ℕ) where
   unfolding resolved fromTag tagAt spec.given
   resolved-tag (Took t n) e ok =
       rw drop-drop
-      (there-bodied depth at n (t / 8) (look .says type t .kind) (look .says type t .inner) s (tag-varint (drop at s) e ∙ ap (Took t) (omega arith)) (look .mode) (shape (look .says type t .kind)) (head-kind (look .says type t .kind)))
+      (there-bodied depth at n (t / 8) (look .says type t .kind) (look .says type t .inner) s (sym (tag-varint (drop at s) (sym e)) ∙ ap (Took t) (omega arith)) (look .mode) (shape (look .says type t .kind)) (head-kind (look .says type t .kind)))
   resolved-tag (No k) e (refused-by o) = ap (spec.Fault k) (at-tag k (drop at s) (not-ordinary o))
 
   pub asked-resolved : resolved depth at s (asked look depth type at s) ≡ spec.field look depth type (drop at s)

@@ -324,7 +324,7 @@ pub fn field_at(
 }
 
 // Where the field at `at` is refused with this number: at its tag, and a string that is not UTF-8 at the first byte of its broken letter. That byte is looked
-// for again: a place that each field carried with it would slow down all reading.
+// for again: a place that each field carried with it would slow down the reading of strings.
 pub fn refused_at(s: &[u8], at: usize, number: u32) -> usize
     ensures { λ r. ⌜ r ≡ at + refusedIn number (drop at (now (s .entry))) ⌝ }
 {

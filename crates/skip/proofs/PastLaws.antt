@@ -99,7 +99,7 @@ module _ (s : List ℕ) where
     tag-bad g = rw (e, g) refl
 
   -- a tag that was read is a varint
-  tag-varint : {t n : ℕ} → Took t n ≡ tag s → Took t n ≡ varint32 s
+  pub tag-varint : {t n : ℕ} → Took t n ≡ tag s → Took t n ≡ varint32 s
   unfolding tag require
   tag-varint {t} {n} e = go (varint32 s) e
     where

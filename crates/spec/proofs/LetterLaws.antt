@@ -140,6 +140,9 @@ used-in (is-fault h) = omega arith
 message-in : {most m c a e : ℕ} → Sound most (Message m c a e) → (1 ≤ a) × (a ≤ e) × (e ≤ most)
 message-in (is-message h) = h
 
+content-in : {most a z : ℕ} → Holds most (Took a z) → (1 ≤ a) × (a ≤ z) × (z ≤ most)
+content-in (holds h i j) = (h, i, j)
+
 module _ (look : Look) (s : List ℕ) where
   -- its bytes stand in s
   field-stands : {depth type at : ℕ} {u : List ℕ} → FieldAt look s depth type at u → Stands s at u
@@ -156,7 +159,7 @@ module _ (look : Look) (s : List ℕ) where
       let z : ℕ = h .z in
       let st : Stands s at w = field-stands f in
       let tagged : n ≤ length w = tag-in (subst (Takes 1 (length w)) (h .is-tag) (takes-tag w)) in
-      let held : (a ≤ z) × (z ≤ length (drop n w)) = content-in (subst (Holds (length (drop n w))) (h .is-content) (content-holds varint32 (drop n w) (takes-varint _ _ (drop n w)))) in
+      let held : (1 ≤ a) × (a ≤ z) × (z ≤ length (drop n w)) = content-in (subst (Holds (length (drop n w))) (h .is-content) (content-holds varint32 (drop n w) (takes-varint _ _ (drop n w)))) in
       let long : length (drop n w) ≡ length w - n = length-drop n w in
       let lies : at + length w ≤ length s = stands-lies w st in
       let start : ℕ = at + (n + a) in
@@ -188,9 +191,6 @@ module _ (look : Look) (s : List ℕ) where
     where
       tag-in : {v n : ℕ} → Takes 1 (length w) (Took v n) → n ≤ length w
       tag-in (took h j) = j
-
-      content-in : {most a z : ℕ} → Holds most (Took a z) → (a ≤ z) × (z ≤ most)
-      content-in (holds h i j) = (i, j)
 
 -- ---- a message
 
@@ -279,8 +279,5 @@ pull-tells-letter s at level p e = go (content varint32 (drop at s)) refl (ordin
         let held = content-in (subst (Holds (length (drop at s))) c (content-holds varint32 (drop at s) (takes-varint _ _ (drop at s)))) in
         let same : part a z (drop at s) ≡ part (at + a) (at + z) s = part-behind at a z s in
         let b : BrokenAt s (at + a) (at + z) (validEnd (at + a) (at + z) s) =
-        broken-part s (at + a) (at + z) (omega (arith, held .0)) (omega (arith, held .0, held .1, length-drop at s, held .2)) (ap utf8 (sym same) ∙ t) in
+        broken-part s (at + a) (at + z) (omega (arith, held)) (omega (arith, held, length-drop at s)) (ap utf8 (sym same) ∙ t) in
         (a, z, c, subst (BrokenAt s (at + a) (at + z)) (omega (arith, ap validPrefix same)) b, rw t refl))
-      where
-        content-in : {most a z : ℕ} → Holds most (Took a z) → (a ≤ z) × (z ≤ most) × (1 ≤ a)
-        content-in (holds h i j) = (i, j, h)

@@ -1,4 +1,4 @@
--- Laws of the pull reader: a refused step stays and returns its position, any other goes forward in the bytes, and a content lies in them;
+-- Laws of the pull reader: a refused step stays, and its place is its position but for a broken letter, any other goes forward in the bytes, and a content lies in them;
 -- entering and opening, by their bounds; and that a raw tag is not judged.
 -- Assumes nothing.
 use Prim.Native.Nat.{ℕ, zero, suc, _+_, _-_, _%_, _≤_, _<_}

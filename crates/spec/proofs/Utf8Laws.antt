@@ -197,7 +197,7 @@ all-valid s h = eq-eqb (validPrefix s) (length s) (omega (arith, valid-le s))
 pub part-valid : (s : List ℕ) → validPrefix s < length s → utf8 s ≡ false
 part-valid s h = ne-eqb (validPrefix s) (length s) (λ e. omega arith)
 
--- of bytes that are not valid it is a part, and no longer front of them is valid
+-- of bytes that are not valid it is a part, and no front of them that is longer is valid
 module _ (s : List ℕ) (bad : utf8 s ≡ false) where
   pub prefix-short : validPrefix s < length s
   prefix-short = omega (arith, valid-le s, eqb-false (validPrefix s) (length s) bad)

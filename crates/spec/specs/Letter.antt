@@ -15,7 +15,7 @@ use Rattle.spec.specs.Skip.{content}
 use Rattle.spec.specs.Reading.{Mode, Look, looking, Message, field, used, readingBy, readingAs, number, place}
 use Rattle.spec.specs.Pull.{Refused, string, stepAt}
 
--- A content stands in s from `start` up to `stop`. Its bytes before `place` are whole letters, by both readings of RFC 3629, and no longer front of it is.
+-- A content stands in s from `start` up to `stop`. Its bytes before `place` are whole letters, by both readings of RFC 3629, and no front of it that is longer is.
 -- So the letter that begins at `place` is broken: by a byte that may not stand there, or because the content ends within the letter.
 pub record BrokenAt (s : List ℕ) (start stop place : ℕ) : Type 0 where
   pub in-order : start ≤ place
@@ -26,7 +26,7 @@ pub record BrokenAt (s : List ℕ) (start stop place : ℕ) : Type 0 where
   pub no-longer : (n : ℕ) → place < n → n ≤ stop → utf8 (part start n s) ≡ false
   pub no-letters : (n : ℕ) → place < n → n ≤ stop → Text (part start n s) → ⊥
 
--- A field of the message s: its tag stands at `at`, in a message of this depth and type, and u are the bytes from there to the end of that message.
+-- A place of the message s where a field begins, or a message ends: it is `at`, in a message of this depth and type, and u are the bytes from there to the end of that message.
 -- The first field stands in front; after a field comes the next one; and a message has fields within.
 pub data FieldAt (look : Look) (s : List ℕ) : (depth type at : ℕ) → List ℕ → Type 0 where
   first : FieldAt look s 0 0 0 s
@@ -59,7 +59,7 @@ pub record BrokenLetter (look : Look) (s : List ℕ) (place : ℕ) : Type 0 wher
   pub broken : BrokenAt s start stop place
 
 -- What an operator is told: where reading is refused 6, at any depth, its place is the first byte of a broken letter, in a string of the message.
--- LetterLaws.tells-letter proves it of reading under a schema, and LetterLaws.told-letter of reading over whatever is known of tags, as prepared tables are.
+-- LetterLaws.tells-letter proves it of reading under a schema, and LetterLaws.told-letter of reading over whatever is known of tags, such as what prepared tables say.
 abbrev pub TellsLetter : Type 0
 TellsLetter =
     (mode : Mode) (sch : Schema) (room : ℕ) (s : List ℕ) → number (readingAs mode sch room s) ≡ notUtf8
