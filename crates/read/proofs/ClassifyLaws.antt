@@ -6,11 +6,10 @@ use mathlib.Core.Path.{_≡_, refl, sym, ap, ap₂, _∙_}
 use mathlib.Core.Bool.{Bool, true, false, not, false≢true}
 use mathlib.Core.List.{List}
 use lib.ListN.{length, drop, take, getD, length-drop}
-use lib.Seq.{drop-drop}
 use lib.Dec.{eqb}
 use borrow.Author.Tests.{le-leb, lt-leb, eqb-true, eqb-false}
 use Rattle.spec.specs.Names.{bytesKind, messageKind, mostLevels, packedHead, stringKind, unknownBytes, badTag, fixed32Wire, notUtf8, tooDeep}
-use Rattle.spec.specs.Base.{if_then_else_, part, Read, Took, No}
+use Rattle.spec.specs.Base.{if_then_else_, Read, Took, No}
 use Rattle.spec.specs.Varint.{varint32, tag, goodTag}
 use Rattle.spec.specs.Utf8.{utf8}
 use Rattle.spec.specs.Kind.{headKind, Shape, one, other, string, bytes, message, packed, startGroup, endGroup, nothing, shape, shapes}
@@ -31,7 +30,7 @@ use Rattle.read.specs.declared.scalar.Short.the-variants as short
 use Rattle.read.specs.declared.classify.Tag.the-variants as tagged
 use Rattle.skip.specs.declared.content.Span.the-variants as span
 use Rattle.skip.specs.Spans.{spanAt}
-use Rattle.skip.proofs.SpanLaws.{span-in}
+use Rattle.skip.proofs.SpanLaws.{span-in, span-part}
 use Rattle.read.specs.declared.classify.Body.the-variants as body
 use Rattle.read.proofs.Turn.{takes-of}
 use Rattle.read.proofs.KindTests.{headOf, headTest, head-kind, head-one, sortOf}
@@ -164,12 +163,7 @@ module _ (at : ℕ) (r : Read) where
   texted-of s {a} {e} h l {b} u = go r h
     where
       go : (r : Read) → span.Of a e ≡ spanAt at r → (if b then body.Is 0 a e else body.Bad notUtf8) ≡ texted at (drop at s) r
-      go (Took m n) q =
-          let x : a ≡ at + m = cc in
-          let y : e ≡ at + n = cc in
-          let w : e - a ≡ n - m = omega arith in
-          let same : take (e - a) (drop a s) ≡ part m n (drop at s) = rw (w, x, ← drop-drop m at s) refl in
-          rw (u, same, x, y) refl
+      go (Took m n) q = let found = span-part at s m n q in rw (u, found .2, found .0, found .1) refl
       go (No k) q = let z : _≡_ {A = ℕ} 0 1 = cc in absurd (omega arith)
 
 -- a number, or nothing

@@ -134,8 +134,8 @@ pub moved : {f : ℕ → List ℕ → Reading} {s : List ℕ} {off : ℕ} {room�
 moved h e₁ e₂ e₃ = rw (e₁, e₂, e₃) h
 
 -- the place of a fault lies in the bytes
-fault-in : {most k p : ℕ} → Sound most (spec.Fault k p) → p ≤ most
-fault-in (is-fault h) = h
+fault-bound : {most k p : ℕ} → Sound most (spec.Fault k p) → p ≤ most
+fault-bound (is-fault h) = h
 
 -- ---- the first field
 
@@ -190,7 +190,7 @@ module _ (look : Look) (depth ty : ℕ) {s : List ℕ} {off : ℕ} {room₀ : Li
     module _ {k p : ℕ} (is : r ≡ field.Bad k) (there : p ≡ at + refusedIn k (drop at s)) where
       pub bad-within : p ≤ length s
       unfolding resolved
-      bad-within = omega (arith, fault-in (subst (Sound (length (drop at s))) (sym (is-field is)) (field-sound look depth ty (drop at s))), length-drop at s)
+      bad-within = omega (arith, fault-bound (subst (Sound (length (drop at s))) (sym (is-field is)) (field-sound look depth ty (drop at s))), length-drop at s)
 
       pub field-bad : left (Stop k to (off + p)) room ≡ all
       unfolding resolved

@@ -69,6 +69,15 @@ pub record Checked (at : ℕ) (s : List ℕ) (r : Read) (a e n : ℕ) : Type 0 w
   pub whole : e ≤ a + n → utf8 (part m z (drop at s)) ≡ true
   pub broken : a + n < e → utf8 (part m z (drop at s)) ≡ false
 
+-- a content that was found stands where the definitions have it
+pub span-part : (at : ℕ) (s : List ℕ) (m z : ℕ) {a e : ℕ} → Of a e ≡ spanAt at (Took m z) → (a ≡ at + m) × (e ≡ at + z) × (take (e - a) (drop a s) ≡ part m z (drop at s))
+unfolding spanAt
+span-part at s m z {a} {e} q =
+    let x : a ≡ at + m = cc in
+    let y : e ≡ at + z = cc in
+    let w : e - a ≡ z - m = omega arith in
+    (x, y, rw (w, x, ← drop-drop m at s) refl)
+
 -- what is valid of it ends in it
 pub valid-inside : (a e : ℕ) (s : List ℕ) {n : ℕ} → n ≡ validPrefix (take (e - a) (drop a s)) → n ≤ e - a
 valid-inside a e s v = omega (arith, valid-le (take (e - a) (drop a s)), length-take (e - a) (drop a s))
@@ -76,20 +85,17 @@ valid-inside a e s v = omega (arith, valid-le (take (e - a) (drop a s)), length-
 pub checked : (at : ℕ) (s : List ℕ) (r : Read) {a e n : ℕ} → Of a e ≡ spanAt at r → a ≤ e → e ≤ length s → n ≡ validPrefix (take (e - a) (drop a s)) → Checked at s r a e n
 unfolding spanAt
 checked at s (Took m z) {a} {e} {n} q i l v =
-    let x : a ≡ at + m = cc in
-    let y : e ≡ at + z = cc in
-    let w : e - a ≡ z - m = omega arith in
+    let found = span-part at s m z q in
     let c : List ℕ = part m z (drop at s) in
-    let same : take (e - a) (drop a s) ≡ c = rw (w, x, ← drop-drop m at s) refl in
-    let valid : n ≡ validPrefix c = v ∙ ap validPrefix same in
-    let long : length c ≡ e - a = sym (ap length same) ∙ length-take-le (e - a) (drop a s) (omega (arith, length-drop a s)) in
+    let valid : n ≡ validPrefix c = v ∙ ap validPrefix (found .2) in
+    let long : length c ≡ e - a = sym (ap length (found .2)) ∙ length-take-le (e - a) (drop a s) (omega (arith, length-drop a s)) in
     record {
       m = m;
       z = z;
       reads = refl;
-      starts = x;
-      stops = y;
-      valid-to = omega arith;
+      starts = found .0;
+      stops = found .1;
+      valid-to = omega (arith, found .0);
       whole = λ h. all-valid c (omega arith);
       broken = λ h. part-valid c (omega arith);
     }

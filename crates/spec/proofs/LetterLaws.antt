@@ -8,7 +8,7 @@ use mathlib.Core.List.{List, [], _∷_}
 use mathlib.Core.Option.{Option, none, some}
 use lib.ListN.{length, take, drop, length-drop}
 use lib.Seq.{take-take}
-use lib.Dec.{ltb, eqb}
+use lib.Dec.{leb, ltb, eqb}
 use Rattle.spec.specs.Names.{invalidSchema, mostLevels, notUtf8, stringKind, tooLarge}
 use Rattle.spec.specs.Base.{if_then_else_, part, limit, Read, Took, No}
 use Rattle.spec.specs.Varint.{varint32, tag}
@@ -30,7 +30,7 @@ use Rattle.spec.proofs.ReadingLaws.{Sound, is-value, is-message, is-pac
 use Rattle.spec.proofs.RoundTrip.{Stands, stands-self, stands-lies}
 use Rattle.spec.proofs.ListLaws.{is-string-kind}
 use Rattle.spec.proofs.MadeLaws.{part-length, part-behind, stands-inside, stands-behind, content-is}
-use Rattle.spec.proofs.RefusalLaws.{isOrdinary, Ordinary, was-read, refused-by, not-ordinary, ordinary-tag, ordinary-scalar, ordinary-content, ordinary-group, Refusals, none-at-all, refused-so, after-it, refusals-followed, refusals-within, refusal-is}
+use Rattle.spec.proofs.RefusalLaws.{isOrdinary, Ordinary, was-read, refused-by, not-ordinary, ordinary-varint, ordinary-tag, ordinary-scalar, ordinary-content, ordinary-group, ordinary-skip, Refusals, none-at-all, refused-so, after-it, refusals-followed, refusals-within, refusal-is}
 
 -- ---- the letter
 
@@ -137,11 +137,11 @@ used-in (is-packed h) = h .2
 used-in (is-dropped h) = h .2
 used-in (is-fault h) = omega arith
 
-message-in : {most m c a e : ℕ} → Sound most (Message m c a e) → (1 ≤ a) × (a ≤ e) × (e ≤ most)
-message-in (is-message h) = h
+message-bounds : {most m c a e : ℕ} → Sound most (Message m c a e) → (1 ≤ a) × (a ≤ e) × (e ≤ most)
+message-bounds (is-message h) = h
 
-content-in : {most a z : ℕ} → Holds most (Took a z) → (1 ≤ a) × (a ≤ z) × (z ≤ most)
-content-in (holds h i j) = (h, i, j)
+content-bounds : {most a z : ℕ} → Holds most (Took a z) → (1 ≤ a) × (a ≤ z) × (z ≤ most)
+content-bounds (holds h i j) = (h, i, j)
 
 module _ (look : Look) (s : List ℕ) where
   -- its bytes stand in s
@@ -149,7 +149,7 @@ module _ (look : Look) (s : List ℕ) where
   field-stands letter.first = stands-self s
   field-stands (letter.next {depth} {type} {u = u} f) = stands-behind s (used (field look depth type u)) u (used-in (field-sound look depth type u)) (field-stands f)
   field-stands (letter.within {depth} {type} {a = a} {e} {u} f is) =
-      let i = message-in (subst (Sound (length u)) is (field-sound look depth type u)) in
+      let i = message-bounds (subst (Sound (length u)) is (field-sound look depth type u)) in
       stands-inside s a e u (i .1) (i .2) (field-stands f)
 
   in-message : {depth type at : ℕ} {w : List ℕ} {p : ℕ} → FieldAt look s depth type at w → Here look type w p → BrokenLetter look s (at + p)
@@ -159,7 +159,7 @@ module _ (look : Look) (s : List ℕ) where
       let z : ℕ = h .z in
       let st : Stands s at w = field-stands f in
       let tagged : n ≤ length w = tag-in (subst (Takes 1 (length w)) (h .is-tag) (takes-tag w)) in
-      let held : (1 ≤ a) × (a ≤ z) × (z ≤ length (drop n w)) = content-in (subst (Holds (length (drop n w))) (h .is-content) (content-holds varint32 (drop n w) (takes-varint _ _ (drop n w)))) in
+      let held : (1 ≤ a) × (a ≤ z) × (z ≤ length (drop n w)) = content-bounds (subst (Holds (length (drop n w))) (h .is-content) (content-holds varint32 (drop n w) (takes-varint _ _ (drop n w)))) in
       let long : length (drop n w) ≡ length w - n = length-drop n w in
       let lies : at + length w ≤ length s = stands-lies w st in
       let start : ℕ = at + (n + a) in
@@ -238,7 +238,7 @@ module _ (look : Look) (s : List ℕ) where
       subst (Refusals So) (sym (read-cons look d t at b u))
       (field-so (λ c a v. read look (d + 1) c a v) _ x f (told-field look t w d) (field-sound look d t w)
       (λ m c a e is.
-      let i = message-in (subst (Sound (length w)) is (field-sound look d t w)) in
+      let i = message-bounds (subst (Sound (length w)) is (field-sound look d t w)) in
       read-so k (part a e w) (omega (arith, part-length a e w (i .1) (i .2), i .0, i .2)) (d + 1) c (at + a) (letter.within f is))
       (λ i. read-so k (drop (used x) w) (omega (arith, length-drop (used x) w)) d t (at + used x) (letter.next f)))
 
@@ -261,12 +261,27 @@ tells-letter mode sch room s e = told-letter (badSchema sch) (looking mode sch) 
 
 -- ---- the pull reader
 
+-- what moves past something ordinary, and then says no refusal
+not-letter : (at p : ℕ) (f : ℕ → ℕ → pull.Said) → ((v n : ℕ) → f v n ≡ pull.Refused notUtf8 p → ⊥) → {r : Read} → Ordinary r → pull.moved at f r .said ≡ pull.Refused notUtf8 p → ⊥
+unfolding pull.moved
+not-letter at p f h (was-read {v} {n}) e = h v n e
+not-letter at p f h (refused-by {k} o) e = let is : k ≡ notUtf8 = cc in not-ordinary o is
+
+not-number : (at p : ℕ) (f : ℕ → ℕ → ℕ) {r : Read} → Ordinary r → pull.moved at (λ v n. pull.Number (f v n)) r .said ≡ pull.Refused notUtf8 p → ⊥
+not-number at p f o e = not-letter at p _ (λ v n q. let z : _≡_ {A = ℕ} 0 1 = cc in absurd (omega arith)) o e
+
 pub pull-tells-letter : PullTellsLetter
 unfolding pull.stepAt pull.spelled pull.moved
-pull-tells-letter s at level p e = go (content varint32 (drop at s)) refl (ordinary-content _ _ (drop at s)) e
+pull-tells-letter s at level p pull.rawTag e =
+    absurd (either-way (λ (m : pull.Moved). m .said ≡ pull.Refused notUtf8 p → ⊥) (leb (length s) at) (λ q. let z : _≡_ {A = ℕ} 0 1 = cc in absurd (omega arith))
+    (not-number at p (λ v n. v) (ordinary-varint _ _ (drop at s))) e)
+pull-tells-letter s at level p (pull.value c) e = absurd (not-number at p (λ v n. v) (ordinary-scalar c (drop at s)) e)
+pull-tells-letter s at level p pull.bytes e = absurd (not-letter at p _ (λ a z q. let z : _≡_ {A = ℕ} 0 1 = cc in absurd (omega arith)) (ordinary-content _ _ (drop at s)) e)
+pull-tells-letter s at level p (pull.skip t) e = absurd (not-number at p (λ v n. n) (ordinary-skip t level (drop at s)) e)
+pull-tells-letter s at level p pull.string e = go (content varint32 (drop at s)) refl (ordinary-content _ _ (drop at s)) e
   where
     go : (r : Read) → content varint32 (drop at s) ≡ r → Ordinary r → pull.spelled at (drop at s) r .said ≡ pull.Refused notUtf8 p
-        → (a z : ℕ) × (content varint32 (drop at s) ≡ Took a z) × BrokenAt s (at + a) (at + z) p × (pull.spelled at (drop at s) r .at ≡ at)
+        → (pull.string ≡ pull.string) × (a z : ℕ) × (content varint32 (drop at s) ≡ Took a z) × BrokenAt s (at + a) (at + z) p × (pull.spelled at (drop at s) r .at ≡ at)
     go (No k) c (refused-by h) f = let is : k ≡ notUtf8 = cc in absurd (not-ordinary h is)
     go (Took a z) c ok f =
         by-test (utf8 (part a z (drop at s)))
@@ -276,8 +291,8 @@ pull-tells-letter s at level p e = go (content varint32 (drop at s)) refl (ordin
         (λ t.
         let g = ap (λ (b : Bool). (if b then pull.bounded at (Took a z) else pull.says (pull.Refused notUtf8 (at + validEnd a z (drop at s))) at) .said) (sym t) ∙ f in
         let is : at + validEnd a z (drop at s) ≡ p = cc in
-        let held = content-in (subst (Holds (length (drop at s))) c (content-holds varint32 (drop at s) (takes-varint _ _ (drop at s)))) in
+        let held = content-bounds (subst (Holds (length (drop at s))) c (content-holds varint32 (drop at s) (takes-varint _ _ (drop at s)))) in
         let same : part a z (drop at s) ≡ part (at + a) (at + z) s = part-behind at a z s in
         let b : BrokenAt s (at + a) (at + z) (validEnd (at + a) (at + z) s) =
         broken-part s (at + a) (at + z) (omega (arith, held)) (omega (arith, held, length-drop at s)) (ap utf8 (sym same) ∙ t) in
-        (a, z, c, subst (BrokenAt s (at + a) (at + z)) (omega (arith, ap validPrefix same)) b, rw t refl))
+        (refl, a, z, c, subst (BrokenAt s (at + a) (at + z)) (omega (arith, ap validPrefix same)) b, rw t refl))

@@ -1,24 +1,24 @@
--- Which numbers a tag, a value, a length and a skipped group are refused with, and what holds of the refusal of a reading. Assumes nothing.
+-- What is never refused 6: a tag, a value, a length and a skipped field; and what holds of the refusal of a reading. Assumes nothing.
 use Prim.Native.Nat.{ℕ, zero, suc, _+_, _%_}
 use native.Mathlib.Omega.{arith}
 use mathlib.Core.Path.{_≡_, refl, sym, ap, _∙_, subst}
-use mathlib.Core.Bool.{Bool, true, _||_, false≢true}
+use mathlib.Core.Bool.{Bool, true, not, false≢true}
 use mathlib.Core.List.{List, [], _∷_}
 use lib.ListN.{length, drop}
 use lib.Dec.{leb, ltb, eqb}
-use Rattle.spec.specs.Names.{badTag, delimitedWire, endGroupWire, fixed32Wire, fixed64Wire, mostLevels, noRoom, notUtf8, outOfRange, startGroupWire, tooDeep, varintWire}
-use Rattle.spec.specs.Base.{Read, Took, No, meaning, require, longer, _>>=_, digit}
-use Rattle.spec.specs.Varint.{varint, fixed, tag}
+use Rattle.spec.specs.Names.{badTag, delimitedWire, endGroupWire, fixed32Wire, fixed64Wire, mostLevels, noRoom, notUtf8, outOfRange, startGroupWire, varintWire}
+use Rattle.spec.specs.Base.{limit, Read, Took, No, meaning, require, longer, _>>=_, digit}
+use Rattle.spec.specs.Varint.{varint, fixed, goodTag, tag}
 use Rattle.spec.specs.Kind.{Scalar, int32, uint32, uint64, bool, sint32, sint64, fixed32, sfixed32, fixed64, scalar}
-use Rattle.spec.specs.Skip.{spanned, content, plain, skipField, skipGroup}
+use Rattle.spec.specs.Skip.{spanned, content, plain, skipField, skipGroup, innerGroup, skipFieldForTag}
 use Rattle.spec.specs.Record.{Record}
 use Rattle.spec.specs.Reading.{Reading, Done, Refused, _then_, _followed-by_, within, number, place}
 use Rattle.spec.proofs.Laws.{either-way}
 
--- ---- tags, values, lengths and skipped groups are refused 1 to 5 and 7
+-- ---- tags, values, lengths and skipped fields are never refused 6
 
 abbrev pub isOrdinary : ℕ → Bool
-isOrdinary k = leb k outOfRange || eqb k tooDeep
+isOrdinary k = not (eqb k notUtf8)
 
 pub data Ordinary : Read → Type 0 where
   was-read : {v n : ℕ} → Ordinary (Took v n)
@@ -52,7 +52,7 @@ unfolding _>>=_
 ordinary-next (was-read {v} {n}) f = ordinary-longer n (f v n)
 ordinary-next (refused-by h) f = refused-by h
 
-ordinary-varint : (k last : ℕ) (s : List ℕ) → Ordinary (varint k last s)
+pub ordinary-varint : (k last : ℕ) (s : List ℕ) → Ordinary (varint k last s)
 unfolding varint
 ordinary-varint k last [] = refused-by refl
 ordinary-varint zero last (b ∷ s) = either-way Ordinary (leb b last) was-read (refused-by refl)
@@ -109,6 +109,12 @@ ordinary-group (suc k) level (b ∷ s) e =
     ordinary-next (ordinary-tag (b ∷ s)) λ t n.
     either-way Ordinary (eqb (t % 8) endGroupWire) was-read
     (ordinary-next (ordinary-field _ level (t % 8) (drop n (b ∷ s)) (λ l u. ordinary-group k l u was-read)) λ v m. ordinary-group k level (drop (n + m) (b ∷ s)) e)
+
+pub ordinary-skip : (t level : ℕ) (s : List ℕ) → Ordinary (skipFieldForTag t level s)
+unfolding skipFieldForTag
+ordinary-skip t level s =
+    either-way Ordinary (ltb limit (length s)) (refused-by refl)
+    (either-way Ordinary (goodTag t) (ordinary-field innerGroup level (t % 8) s (λ l u. ordinary-group (length u) l u was-read)) (refused-by refl))
 
 -- ---- the refusal of a reading, if there is one, is so
 

@@ -13,7 +13,7 @@ use Rattle.spec.specs.Unicode.{Text}
 use Rattle.spec.specs.Schema.{Schema}
 use Rattle.spec.specs.Skip.{content}
 use Rattle.spec.specs.Reading.{Mode, Look, looking, Message, field, used, readingBy, readingAs, number, place}
-use Rattle.spec.specs.Pull.{Refused, string, stepAt}
+use Rattle.spec.specs.Pull.{Ask, Refused, string, stepAt}
 
 -- A content stands in s from `start` up to `stop`. Its bytes before `place` are whole letters, by both readings of RFC 3629, and no front of it that is longer is.
 -- So the letter that begins at `place` is broken: by a byte that may not stand there, or because the content ends within the letter.
@@ -68,8 +68,8 @@ TellsLetter =
 abbrev pub ToldLetter : Type 0
 ToldLetter = (bad : Option ℕ) (look : Look) (room : ℕ) (s : List ℕ) → number (readingBy bad look room s) ≡ notUtf8 → BrokenLetter look s (place (readingBy bad look room s))
 
--- The same of the pull reader's string step, in its own bytes; it stays where it was. LetterLaws.pull-tells-letter proves it.
+-- The same of the pull reader: a step that is refused 6 is a string's, its place is in the reader's own bytes, and it stays where it was. LetterLaws.pull-tells-letter proves it.
 abbrev pub PullTellsLetter : Type 0
 PullTellsLetter =
-    (s : List ℕ) (at level p : ℕ) → stepAt s at level string .said ≡ Refused notUtf8 p
-    → (a z : ℕ) × (content varint32 (drop at s) ≡ Took a z) × BrokenAt s (at + a) (at + z) p × (stepAt s at level string .at ≡ at)
+    (s : List ℕ) (at level p : ℕ) (ask : Ask) → stepAt s at level ask .said ≡ Refused notUtf8 p
+    → (ask ≡ string) × (a z : ℕ) × (content varint32 (drop at s) ≡ Took a z) × BrokenAt s (at + a) (at + z) p × (stepAt s at level ask .at ≡ at)
