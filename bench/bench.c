@@ -11,7 +11,8 @@
 #define MARK 0x7a7a
 enum { BYTES = 1 << 21, RECORDS = 1100000 };
 typedef uint64_t call(void);
-typedef struct { uint64_t depth, number, kind, value, start, end; } record;
+typedef struct { uint64_t depth, number, kind, value, start, end, tag; } record;
+enum { NUMBERS = sizeof(record) / 8 };
 
 static const uint32_t schema[] = { 0, 1, 5, 1, 0, 0, 2, 9, 1, 0, 0, 3, 11, 1, 1, 0, 4, 17, 1, 0, 0, 5, 2, 1, 0, 0, 7, 8, 1, 0, 1, 1, 13, 1, 0, 1, 2, 12, 1, 0, 1, 3, 11, 1, 1 };
 #define SCHEMA 2, schema, sizeof schema / sizeof *schema
@@ -54,7 +55,22 @@ static uint64_t ours_prepared(void)
     return answer[0] | number << 32;
 }
 
-/* The same under a lent slice of entries, `entries::read`. C has none to lend: an array of sixteen entries is made of the numbers first, and the row has that too, some
+/* with dropped spans */
+static uint64_t ours_dropped(void)
+{
+    uint64_t answer[2];
+    uint64_t number = calf_read_dropped(SCHEMA, s, n, (uint64_t *)room, sizeof room / 8, answer);
+    return answer[0] | number << 32;
+}
+
+static uint64_t ours_prepared_dropped(void)
+{
+    uint64_t answer[2];
+    uint64_t number = calf_read_prepared_dropped(keys, info, s, n, (uint64_t *)room, sizeof room / 8, answer);
+    return answer[0] | number << 32;
+}
+
+/* Reading under a lent slice of entries, `entries::read`. C has none to lend: an array of sixteen entries is made of the numbers first, and the row has that too, some
  * 170 instructions for nine entries. Nothing is subtracted: the row is more than the call takes. */
 uint32_t perf_entries_read(uint32_t, const uint32_t *, size_t, const uint8_t *, size_t, uint64_t *, size_t, uint64_t *);
 static uint64_t ours_entries(void)
@@ -68,19 +84,19 @@ static uint64_t ours_entries(void)
 static uint64_t ours_check(void)
 {
     uint64_t answer[1];
-    return calf_check_list(SCHEMA, (uint64_t *)room, count * 6, s, n, answer) ? 0 : n;
+    return calf_check_list(SCHEMA, (uint64_t *)room, count * NUMBERS, s, n, answer) ? 0 : n;
 }
 
 static uint64_t ours_size(void)
 {
     uint64_t answer[2];
-    return calf_size(SCHEMA, (uint64_t *)room, count * 6, s, n, answer) ? 0 : answer[0];
+    return calf_size(SCHEMA, (uint64_t *)room, count * NUMBERS, s, n, answer) ? 0 : answer[0];
 }
 
 static uint64_t ours_write(void)
 {
     uint64_t answer[2];
-    return calf_write(SCHEMA, (uint64_t *)room, count * 6, s, n, out, BYTES, answer) ? 0 : answer[0];
+    return calf_write(SCHEMA, (uint64_t *)room, count * NUMBERS, s, n, out, BYTES, answer) ? 0 : answer[0];
 }
 
 /* 1,000 messages, each with its length before it: the count of all records */
@@ -125,6 +141,7 @@ uint64_t crate_varints(const uint8_t *, size_t), crate_pull(const uint8_t *, siz
 uint64_t crate_run(const uint8_t *, size_t), std_utf8(const uint8_t *, size_t);
 size_t crate_put_varints(const uint64_t *, size_t, uint8_t *, size_t);
 uint64_t crate_records(const uint8_t *, size_t, const uint32_t *, size_t, record *, size_t);
+uint64_t crate_records_dropped(const uint8_t *, size_t, const uint32_t *, size_t, record *, size_t);
 uint64_t crate_segment_read(const uint8_t *, size_t, uint64_t *, size_t), crate_segment_write(const uint64_t *, size_t, const uint8_t *, size_t, uint8_t *, size_t);
 static uint64_t driver_varints(void) { return crate_varints(s, n); }
 static uint64_t driver_pull(void) { return crate_pull(s, n); }
@@ -134,6 +151,7 @@ static uint64_t driver_utf8(void) { return std_utf8(s, n); }
 static uint64_t driver_skip(void) { return crate_group(s, n); }
 static uint64_t driver_document(void) { return crate_run(s, n); }
 static uint64_t driver_read(void) { return crate_records(s, n, schema, 9, room2, RECORDS); }
+static uint64_t driver_dropped(void) { return crate_records_dropped(s, n, schema, 9, room2, RECORDS); }
 
 static uint64_t driver_many(void)
 {
@@ -336,18 +354,21 @@ static void segment(void)
 }
 
 /* ---- messages */
-static const struct { const char *who; call *reads; bool utf8; } parsers[] = {
-    { "generated", crate_reads, true }, { "dynamic", dynamic_reads, true }, { "prost", prost_reads, true },
-    { "protobuf-c", pbc_reads, false }, { "c++", cpp_reads, false }, { "arena", arena_reads, false }, /* these take a string that is no UTF-8 */
+static const struct { const char *who; call *reads; bool utf8, groups; } parsers[] = {
+    { "generated", crate_reads, true, true }, { "dynamic", dynamic_reads, true, true }, { "prost", prost_reads, true, true },
+    /* these take a string that is no UTF-8, and protobuf-c refuses a group */
+    { "protobuf-c", pbc_reads, false, false }, { "c++", cpp_reads, false, true }, { "arena", arena_reads, false, true },
 };
 
-/* Records equal the crate driver's, also those before a refusal, and what is after them is untouched. Parsers have as many fields and elements in the root. */
-static void compare_reading(void)
+/* Whether the input has what reading drops: groups and empty packed fields. */
+static bool drops(void) { return !strcmp(input, "spans"); }
+
+/* The driver's answer. Records are equal to its own, also those before a refusal, and what is after them is untouched. */
+static uint64_t compare_records(call *driver, call **here, size_t calls)
 {
     memset(room2, 0x55, sizeof room2);
-    uint64_t there = driver_read();
-    call *here[] = { ours_read, ours_prepared, ours_entries };
-    for (int i = 0; i < 3; i++) {
+    uint64_t there = driver();
+    for (size_t i = 0; i < calls; i++) {
         memset(room, 0xee, sizeof room);
         uint64_t a = here[i]();
         uint32_t k = a;
@@ -355,10 +376,19 @@ static void compare_reading(void)
         if (memcmp(room, room2, k * sizeof *room)) fail("other records than the crate driver's");
         for (size_t j = k * sizeof *room; j < sizeof room; j++) if (((uint8_t *)room)[j] != 0xee) fail("the room behind the records is touched");
     }
+    return there;
+}
+
+/* Records equal the crate driver's, with dropped spans and without. Parsers have as many fields and elements in the root. */
+static void compare_reading(void)
+{
+    call *with[] = { ours_dropped, ours_prepared_dropped }, *without[] = { ours_read, ours_prepared, ours_entries };
+    uint64_t spans = compare_records(driver_dropped, with, 2), there = compare_records(driver_read, without, 3);
+    if ((spans != there) != drops()) fail("dropped spans in an input that has none, or none in one that has");
     uint64_t fields = 0, text = (ours_read() >> 32) == 6;
     for (size_t i = 0; i < (uint32_t)there; i++) fields += room2[i].depth == 0 ? room2[i].kind != 20 : room2[i].kind == 17;
     for (size_t i = 0; i < sizeof parsers / sizeof *parsers; i++) {
-        bool refuses = there >> 32 && (parsers[i].utf8 || !text);
+        bool refuses = (there >> 32 && (parsers[i].utf8 || !text)) || (drops() && !parsers[i].groups);
         if (parsers[i].reads() != (refuses ? -1 : fields + text)) fail(parsers[i].who);
     }
 }
@@ -397,22 +427,25 @@ static void writing(void)
 
 static void message(void)
 {
+    static const char *asked[] = { "ints", "intmix", "packed", "nested", "strings", "station", "letters", "deep", "tiny", "spans" };
     bool large = strstr(input, ".1M");
     compare_reading();
     measure("read", "calf", ours_read, n);
     if (n < 100) measure("prepared", "calf", ours_prepared, n), measure("entries", "calf", ours_entries, n);
     measure("read", "crate", driver_read, n);
     for (size_t i = 0; i < sizeof parsers / sizeof *parsers; i++)
-        if (!large || !strcmp(parsers[i].who, "arena")) measure("read", parsers[i].who, parsers[i].reads, n);
+        if ((!large || !strcmp(parsers[i].who, "arena")) && (!drops() || parsers[i].groups)) measure("read", parsers[i].who, parsers[i].reads, n);
+    for (size_t i = 0; i < sizeof asked / sizeof *asked; i++)
+        if (!strcmp(input, asked[i])) measure("dropped", "calf", ours_dropped, n), measure("dropped", "crate", driver_dropped, n);
     uint64_t got = ours_read();
     count = got;
-    if (!(got >> 32)) writing();
+    if (!(got >> 32) && !drops()) writing();
     run();
 }
 
 int main(int argc, char **argv)
 {
-    static const char *messages[] = { "ints", "intmix", "packed", "nested", "strings", "station", "letters", "deep", "flat", "deep100", "cut", "bad", "tiny",
+    static const char *messages[] = { "ints", "intmix", "packed", "nested", "strings", "station", "letters", "deep", "flat", "deep100", "cut", "bad", "tiny", "spans",
                                       "intmix100k", "packed100k", "ints.1M", "intmix.1M", "packed.1M", "nested.1M", "strings.1M", "station.1M", "letters.1M" };
     static const char *segments[] = { "seg20", "segstation", "seg1k", "seg20k", "seglong" };
     if (argc < 3) return 2;
@@ -421,7 +454,7 @@ int main(int argc, char **argv)
     only_input = argc > 3 ? argv[3] : NULL;
     only_who = argc > 4 ? argv[4] : NULL;
     uint64_t answer[1];
-    if (calf_record_numbers() != sizeof *room / 8 || calf_prepare(SCHEMA, keys, info, answer)) fail("the library is another");
+    if (calf_record_numbers() != NUMBERS || calf_prepare(SCHEMA, keys, info, answer)) fail("the library is another");
     input = "nothing";
     measure("empty", "calf", nothing, 1);
     run();

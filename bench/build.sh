@@ -19,7 +19,7 @@ own "$R/usr/bin/protoc" --plugin=protoc-gen-c="$R/usr/bin/protoc-gen-c" --c_out=
 AS=; RUST=
 program() {
     local folder=$1 machine=$2 gcc=$3 gxx=$4 link=$5; shift 5
-    for f in leaves pulls fields records segments objects; do
+    for f in leaves pulls fields records dropped segments objects; do
         (cd peers && RUSTC=$R/usr/bin/rustc RUSTFLAGS=$RUST CARGO_TARGET_DIR=$folder/peers own cargo build -q --release --offline --target "$machine-unknown-linux-gnu" --features $f \
             --config 'source.crates-io.replace-with="debian"' --config "source.debian.directory=\"$R/usr/share/cargo/registry\"")
         cp "$folder/peers/$machine-unknown-linux-gnu/release/libpeers.a" "$folder/lib$f.a"
@@ -29,7 +29,7 @@ program() {
     own "$gxx" -O2 $AS -c -I"$W/gen" -I"$R/usr/include" peers/cpp.cc -o "$folder/cpp.o"
     own "$gxx" -O2 $AS -c -I"$W/gen" -I"$R/usr/include" "$W/gen/bench.pb.cc" -o "$folder/cpp_gen.o"
     own "$gcc" -O2 -c bench.c -o "$folder/bench.o"
-    own "$gxx" $link -Wl,-z,muldefs -o "$folder/bench" "$folder"/{bench,pbc,pbc_gen,cpp,cpp_gen}.o "$@" "$folder"/lib{leaves,pulls,fields,records,segments,objects}.a \
+    own "$gxx" $link -Wl,-z,muldefs -o "$folder/bench" "$folder"/{bench,pbc,pbc_gen,cpp,cpp_gen}.o "$@" "$folder"/lib{leaves,pulls,fields,records,dropped,segments,objects}.a \
         "$R/usr/lib/$machine-linux-gnu/libprotobuf.a" "$R/usr/lib/$machine-linux-gnu/libprotobuf-c.a" -lpthread -ldl -lm
 }
 

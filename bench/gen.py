@@ -4,7 +4,8 @@
 Messages of bench.proto: ints, intmix: int32 fields of one byte; mostly short, some negative. packed: 20 packed fields of 500 deltas. nested: messages up to four deep.
 strings: short texts, mostly ASCII. station: all of these. letters: texts of two to four bytes a letter. deep, flat: the same 99 messages of 70 fields each inside the
 other, and side by side; deep100: 100 levels. tiny: one message of 21 bytes; many: 1,000 messages of 20 bytes, each with its length in one byte before it.
-cut: station without its last byte; bad: strings whose last byte is no UTF-8. Each NAME.1M is its input as often as makes 1 MB.
+cut: station without its last byte; bad: strings whose last byte is no UTF-8. spans: fields of all sorts, half of which reading drops: empty packed fields, and groups of no
+field, of some and of many, also inside messages. Each NAME.1M is its input as often as makes 1 MB.
 intmix100k, packed100k: 100,000 values like those of intmix and packed. A processor learns which branches 10,000 values take that come again and again; these are too many for that.
 
 v1, vmix, v10: varints of one byte; mostly one and two bytes, some of four and ten; of ten bytes
@@ -250,7 +251,11 @@ for name, n, one in (("seg20", 1000, lambda: some(20)), ("segstation", 1000, sta
 (folder / "seglong").write_bytes(b"WFM\1\0" + times(1000, lambda: b"\x94\x80\x80\x80\0" + some(20)))
 
 # after all others, which it must not change: the wire type of an end tag is one more than the start's
-put("groups", lambda: field(1, lambda start: bytes([start[0] + 1]) + start[1:]))
+def own_end(start):
+    return bytes([start[0] + 1]) + start[1:]
+
+
+put("groups", lambda: field(1, own_end))
 
 # letters of two, three and four bytes; those of three without the surrogates, which are none
 def three():
@@ -263,3 +268,30 @@ put("threes", three)
 put("fours", lambda: chr(0x10000 + rnd(0x100000)).encode())
 put("chinese", lambda: chr(0x4e00 + rnd(0x5200)).encode())
 put("hindi", lambda: (chr(0x904 + rnd(74)) if rnd(6) else " ").encode())
+
+
+# what reading drops: the numbers of the groups are none of bench.proto's, and one in three has a tag of two bytes
+def group(n):
+    start = tag_of(8 + rnd(8) if rnd(3) else 16 + rnd(2000), 3)
+    return start + times(n, lambda: field(1, own_end)) + own_end(start)
+
+
+def dropped():
+    r = rnd(8)
+    return delimited(4, b"") if r < 2 else group(0 if r < 4 else 1 + rnd(3) if r < 7 else 4 + rnd(9))
+
+
+def kept():
+    r = rnd(5)
+    if r == 0:
+        return tag_of(1, 0) + varint(int32())
+    if r == 1:
+        return delimited(2, text())
+    if r == 2:
+        return delimited(3, tag_of(1, 0) + varint(rnd(5000)) + group(rnd(3)) + delimited(2, some(rnd(12))))
+    if r == 3:
+        return delimited(4, times(1 + rnd(20), delta))
+    return tag_of(7, 0) + varint(rnd(2))
+
+
+put("spans", lambda: kept() if rnd(2) else dropped())

@@ -9,6 +9,7 @@
 #include <sys/mman.h>
 #define MOST 2147483647u
 
+enum { NUMBERS = 7, END = 5 }; /* how many numbers a record has, and which of them is its end */
 static const uint32_t schema[] = { 0, 2, 12, 0, 0 }; /* type 0 has 2 bytes */
 static int bad;
 
@@ -116,14 +117,15 @@ int main(void)
     }
 
     uint8_t *s = zeros((size_t)MOST + 1);
-    uint64_t room[12], answer[2];
+    uint64_t room[2 * NUMBERS], answer[2];
+    if (calf_record_numbers() != NUMBERS) puts("the library is another"), exit(2);
     for (size_t n = MOST; n <= (size_t)MOST + 1; n++) {
         bool over = n > MOST;
         s[0] = 0x12;
         put_length(s + 1, n - 6);
-        uint64_t number = calf_read(1, schema, 5, s, n, room, 12, answer);
+        uint64_t number = calf_read(1, schema, 5, s, n, room, sizeof room / 8, answer);
         expect("calf_read", n, number, answer[0], over ? 11 : 0, over ? 0 : 1);
-        if (!over) expect("  its record's end", n, 0, room[5], 0, n);
+        if (!over) expect("  its record's end", n, 0, room[END], 0, n);
         expect("calf_is_document", n, 0, calf_is_document(s, n), 0, !over);
         expect("calf_pull_open", n, calf_pull_open(s, n), 0, over ? 11 : 0, 0);
         put_length(s, n - 5);
@@ -132,17 +134,27 @@ int main(void)
         number = calf_read_unknown_or_skip_group(0x12, s, n, 0, answer);
         expect("calf_read_unknown_or_skip_group", n, number, answer[0], over ? 11 : 0, over ? 0 : n);
     }
+    /* a group that is dropped: its content is one field, and all but the eight bytes of three tags and a length */
+    for (size_t n = MOST; n <= (size_t)MOST + 1; n++) {
+        bool over = n > MOST;
+        s[0] = 0x0b, s[1] = 0x12, s[n - 1] = 0x0c;
+        put_length(s + 2, n - 8);
+        uint64_t number = calf_read_dropped(1, schema, 5, s, n, room, sizeof room / 8, answer);
+        expect("calf_read_dropped", n, number, answer[0], over ? 11 : 0, over ? 0 : 1);
+        if (!over) expect("  its span's end", n, 0, room[END], 0, n);
+        s[n - 1] = 0;
+    }
     /* one record whose content is all but the six bytes of its tag and length */
     uint8_t *out = zeros((size_t)MOST + 1);
     for (size_t n = MOST; n <= (size_t)MOST + 1; n++) {
         bool over = n > MOST;
-        uint64_t list[6] = { 0, 2, 12, 0, 0, n - 6 };
-        uint64_t number = calf_size(1, schema, 5, list, 6, s, (size_t)MOST + 1, answer);
+        uint64_t list[NUMBERS] = { 0, 2, 12, 0, 0, n - 6, 0 };
+        uint64_t number = calf_size(1, schema, 5, list, NUMBERS, s, (size_t)MOST + 1, answer);
         expect("calf_size", n, number, answer[0], over ? 11 : 0, over ? 0 : n);
-        number = calf_write(1, schema, 5, list, 6, s, (size_t)MOST + 1, out, (size_t)MOST + 1, answer);
+        number = calf_write(1, schema, 5, list, NUMBERS, s, (size_t)MOST + 1, out, (size_t)MOST + 1, answer);
         expect("calf_write", n, number, answer[0], over ? 11 : 0, over ? 0 : n);
         if (!over && (out[0] != 0x12 || memcmp(out + 6, s, n - 6) || out[n])) bad = 1, puts("  OTHER bytes");
-        number = calf_write(1, schema, 5, list, 6, s, (size_t)MOST + 1, out, (size_t)MOST - 1, answer);
+        number = calf_write(1, schema, 5, list, NUMBERS, s, (size_t)MOST + 1, out, (size_t)MOST - 1, answer);
         expect("calf_write, one byte short", n, number, answer[0], over ? 11 : 12, over ? 0 : n);
     }
     segments(s, out);

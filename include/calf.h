@@ -10,7 +10,9 @@
  * All else goes to the array `answer`, whatever the result is.
  *
  * A schema is `types` message types, 0 the root, and entries of five numbers: owner type, field number, kind (as in descriptor.proto), repeated (0 or 1), child
- * type. A record is calf_record_numbers() numbers: depth, number, kind, value, start, end.
+ * type. A record is calf_record_numbers() numbers: depth, number, kind, value, start, end, tag. start and end are the bounds of the field's value or content, and tag is
+ * the place of the first byte of the field's tag; a value of a packed field has the tag of its head. Kinds are those of descriptor.proto, and 20 for the head of a packed field, 21 to 24 for fields
+ * that the schema does not have, or has with another wire type (varint, fixed64, with a length, fixed32), and 25 for a dropped span, which only the calls that ask for it give.
  *
  * No function allocates, keeps state or writes outside what its line says. */
 #ifndef CALF_H
@@ -22,7 +24,7 @@
 extern "C" {
 #endif
 
-/* How many numbers a record has: 6. A later version may have more, each after those of today. */
+/* How many numbers a record has: 7. A later version may have more, each after those of today. */
 size_t calf_record_numbers(void);
 
 /* ---- varints, texts */
@@ -56,7 +58,7 @@ bool calf_is_document(const uint8_t *s, size_t s_len);
 /* Whether a schema is valid: 0 or 9; answer = { the first bad entry }, 0 where the type count or the entry count is wrong, or nothing is. */
 uint32_t calf_check_schema(uint32_t types, const uint32_t *numbers, size_t numbers_len, uint64_t answer[1]);
 
-/* The tables of a schema, for calf_read_prepared; the result and the answer are those of calf_check_schema. */
+/* The tables of a schema, for calf_read_prepared and calf_read_prepared_dropped; the result and the answer are those of calf_check_schema. */
 uint32_t calf_prepare(uint32_t types, const uint32_t *numbers, size_t numbers_len, uint64_t keys[256], uint8_t info[1024], uint64_t answer[1]);
 
 /* ---- reading */
@@ -68,7 +70,15 @@ uint32_t calf_read(uint32_t types, const uint32_t *numbers, size_t numbers_len, 
 /* The same under the tables of a valid schema, for a caller with many messages. Any arrays are tables: what reading gives is defined for all. */
 uint32_t calf_read_prepared(const uint64_t keys[256], const uint8_t info[1024], const uint8_t *s, size_t s_len, uint64_t *room, size_t room_len, uint64_t answer[2]);
 
-/* ---- writing: the list is what lies in `list`, its contents lie in `payload` */
+/* calf_read with dropped spans: a field that reading drops, a skipped group or an empty packed field, gives a record too, after it was skipped. Its depth and number are the field's, its
+ * kind is 25 and its value 0; start and tag are the place of its tag, and end is the first byte after it. A group inside a skipped group has no record of its own. These records take
+ * room like the others, so 8 counts them; all else is as without them. In a list, for the calls below, kind 25 is refused with 10. */
+uint32_t calf_read_dropped(uint32_t types, const uint32_t *numbers, size_t numbers_len, const uint8_t *s, size_t s_len, uint64_t *room, size_t room_len, uint64_t answer[2]);
+
+/* calf_read_prepared with dropped spans. */
+uint32_t calf_read_prepared_dropped(const uint64_t keys[256], const uint8_t info[1024], const uint8_t *s, size_t s_len, uint64_t *room, size_t room_len, uint64_t answer[2]);
+
+/* ---- writing: the list is what lies in `list`, its contents lie in `payload`. The tag of a record is not looked at: any number may stand there. */
 
 /* Whether a list is what reading under the schema would give: answer = { index of the record at fault }, for 9 the first bad entry. */
 uint32_t calf_check_list(uint32_t types, const uint32_t *numbers, size_t numbers_len, const uint64_t *list, size_t list_len, const uint8_t *payload, size_t payload_len,

@@ -34,7 +34,7 @@ def rule(verb, crate, model):
         return 'bad line'
     if crate in LEFT:
         return LEFT[crate]
-    if verb in ('read', 'size', 'write') and number == '9' or verb == 'records' and '/refused 9 ' in model:
+    if verb in ('read', 'readdropped', 'size', 'write') and number == '9' or verb == 'records' and '/refused 9 ' in model:
         return 'schema'
     if verb in ('size', 'write') and number in ('6', '7', '10') or verb == 'segwrite' and number == '10':
         return 'list'
@@ -88,14 +88,14 @@ class Tally:
     def show(self):
         for text in self.shown:
             print(text)
-        print('%-10s %10s %22s  %s' % ('verb', 'lines', 'compared with crate', 'left out of that, by rule'))
+        print('%-11s %10s %22s  %s' % ('verb', 'lines', 'compared with crate', 'left out of that, by rule'))
         for verb in sorted(self.lines):
             left = ', '.join('%s %d' % (k, n) for k, n in sorted(self.left[verb].items()))
-            print('%-10s %10d %22d  %s' % (verb, self.lines[verb], self.crate[verb], left))
+            print('%-11s %10d %22d  %s' % (verb, self.lines[verb], self.crate[verb], left))
         total = Counter()
         for verb in self.left:
             total.update(self.left[verb])
-        print('%-10s %10d %22d' % ('all', sum(self.lines.values()), sum(self.crate.values())))
+        print('%-11s %10d %22d' % ('all', sum(self.lines.values()), sum(self.crate.values())))
         for name in RULES:
             print('  %-9s %9d  %s' % (name, total[name], RULES[name]))
         print('differences: %d with the model, %d with the crate' % (self.bad['ours and the model'], self.bad['ours and the crate']))

@@ -1,7 +1,7 @@
 #!/usr/bin/env python3
 """gen.py LINES SEED [GROUP]: writes so many case lines. First short inputs, all of them where LINES is 1,000,000 or more (else every so-many-th); then lines of every
 verb, valid, damaged and adversarial, by a seeded random choice. GROUP is `segments` for the lines of segment files, `documents` for those of groups that end under
-their own number or another, `letters` for those of texts, `messages` for all others; without it there are lines of each."""
+their own number or another, `letters` for those of texts, `spans` for those of dropped spans, `messages` for all others; without it there are lines of each."""
 import itertools
 import random
 import sys
@@ -301,8 +301,17 @@ class Maker:
 
 # ---- lines
 
+PLACES = random.Random()  # of tags: a generator of its own, so that these take nothing from the others
+
+
+def place(short):
+    """A tag's place, which writing ignores: any number."""
+    return PLACES.randrange(10) if short else PLACES.choice([0, 1, PLACES.randrange(100), PLACES.randrange(100), 1 << 31, U32, 1 << 63, U64, PLACES.getrandbits(64)])
+
+
 def list_word(records):
-    return ';'.join(','.join(map(str, x)) for x in records) or '-'
+    """A list, each record with some place of its tag; in a long list they are short, so that it fits a line."""
+    return ';'.join(','.join(map(str, (*x, place(len(records) > 200)))) for x in records) or '-'
 
 
 class Lines(Maker):
@@ -533,7 +542,7 @@ class Lines(Maker):
         words = good.split(' ')
         return [r.choice(['', 'what 1', ' '.join(words[:-1]), good + ' 1', good + 'x', good[:-1] + 'G', 'varint64 0', 'varint64 0A', 'encode 18446744073709551616', 'tag 4294967296', 'encode -1', 'encode',
                           'utf8 ', 'read %s 4097 -' % A, 'write %s - - 65537' % A, 'pull 101 tag 08', 'pull 0 tagg 08', 'pull 0 skip: 08', 'schema 1', 'schema 1|0,1,5,0', 'schema x|-', 'read 1|- 5',
-                          'size %s 0,1,5,1,0 -' % A, 'zdec32 4294967296', 'wire x', 'READ', 'varint64 8'])]
+                          'size %s 0,1,5,1,0,0 -' % A, 'zdec32 4294967296', 'wire x', 'READ', 'varint64 8'])]
 
 
 FRONT = b'WFM\x01\x00'
@@ -800,7 +809,7 @@ class Letters(Maker):
         if self.r.random() < .3:
             content = varint(len(b)) + b
             lines += ['read %s %d %s' % (NEST, self.r.choice([400, 400, 2]), hexed(self.inside(b))), 'records %s %s' % (NEST, hexed(self.inside(b)))]
-            lines += ['read %s 9 %s' % (A, hexed(tag(2, 2) + content)), 'write %s 0,2,9,0,0,%d %s %d' % (A, len(b), hexed(b), len(b) + 9), 'pull 0 string,tag ' + hexed(content)]
+            lines += ['read %s 9 %s' % (A, hexed(tag(2, 2) + content)), 'write %s %s %s %d' % (A, list_word([(0, 2, 9, 0, 0, len(b))]), hexed(b), len(b) + 9), 'pull 0 string,tag ' + hexed(content)]
         return lines
 
     def texts(self):
@@ -813,7 +822,162 @@ class Letters(Maker):
         return [verb + hexed(some) for i in range(len(b) + 1) for some in (b[:i], b[i:]) for verb in ('utf8 ', 'utf8prefix ')]
 
 
+class Spans(Maker):
+    """Lines of what reading drops: groups and empty packed fields, at every depth, and faults in groups. A message is made as its bytes and, in order, whether each
+    of its records is a dropped span, so that rooms can end just before one and just after it."""
+
+    def spelled(self, v, most):
+        """A varint, now and then of more bytes than are needed."""
+        b = varint(v)
+        return longer(v, self.r.randrange(len(b), most + 1)) if self.r.random() < .15 else b
+
+    def tagged(self, n, wire):
+        return self.spelled(n * 8 + wire, 5)
+
+    def group(self, deep):
+        """A group, mostly ended under its own number."""
+        r, n = self.r, self.number()
+        out = self.tagged(n, 3)
+        for _ in range(r.choice([0, 0, 1, 1, 2, 3])):
+            out += self.group(deep - 1) if deep and r.random() < .5 else self.unknown(r.choice([0, 1, 2, 5]), self.number())
+        return out + self.tagged(n if r.random() < .7 else self.number(), 4)
+
+    def empty(self, n):
+        """An empty packed field: its length is a varint64."""
+        return self.tagged(n, 2) + (longer(0, self.r.randrange(1, 11)) if self.r.random() < .4 else b'\x00')
+
+    def schema(self):
+        """Types with a packed field and a message each, so that there is something to drop at every depth."""
+        r, types = self.r, self.r.choice([1, 2, 3])
+        entries = []
+        for owner in range(types):
+            numbers = sorted(r.sample(range(1, 20), 5) + [MAX_NUMBER] * (r.random() < .1))
+            kinds = [r.choice(NUMBERS), r.choice(NUMBERS), 11, r.choice([9, 12]), r.choice(NUMBERS), r.choice(NUMBERS)]
+            entries += [(owner, n, k, 1 if i < 2 else r.randrange(2), r.randrange(types) if k == 11 else 0) for i, (n, k) in enumerate(zip(numbers, kinds))]
+        return types, entries
+
+    def piece(self, entries, of_type, deep):
+        """A field, and its records: yes for a dropped span."""
+        r = self.r
+        mine = [e for e in entries if e[0] == of_type]
+        way = r.randrange(10)
+        if way < 3:
+            return self.group(r.choice([0, 1, 2, 3])), [True]
+        e = r.choice(mine)
+        _, n, kind, repeated, child = e
+        if way < 5 and repeated and WIRE[kind] != 2:
+            return self.empty(n), [True]
+        if kind == 11 and deep:
+            b, spans = self.pieces(entries, child, deep - 1)
+            return self.tagged(n, 2) + self.spelled(len(b), 10) + b, [False] + spans
+        if repeated and WIRE[kind] != 2 and r.random() < .5:
+            values = [self.encoded(kind, self.value(kind)) for _ in range(r.choice([1, 1, 2, 3]))]
+            return self.tagged(n, 2) + counted(b''.join(values)), [False] * (len(values) + 1)
+        return self.field(entries, (e[0], n, kind, 0, child), 0), [False]
+
+    def pieces(self, entries, of_type, deep):
+        out, spans = b'', []
+        for _ in range(self.r.choice([0, 1, 1, 2, 3, 4])):
+            b, more = self.piece(entries, of_type, deep)
+            out, spans = out + b, spans + more
+        return out, spans
+
+    def asked(self, word, room, b):
+        """With dropped spans, and now and then without."""
+        lines = ['readdropped %s %d %s' % (word, room, hexed(b))]
+        return lines + (['read %s %d %s' % (word, room, hexed(b))] if self.r.random() < .2 else [])
+
+    def reads(self):
+        """A message with room for all, with room that ends before and after a dropped span, and with faults."""
+        r = self.r
+        types, entries = self.schema()
+        word = schema_word(types, entries)
+        b, spans = self.pieces(entries, 0, r.choice([1, 2, 3, 4]))
+        rooms = [100, len(spans), max(0, len(spans) - 1)]
+        at = [i for i, x in enumerate(spans) if x]
+        if at:
+            i = r.choice(at)
+            rooms += [i, i + 1]
+        lines = [line for room in rooms for line in self.asked(word, room, b)]
+        return lines + [line for _ in range(4) for line in self.asked(word, r.choice([100, 100, len(spans), r.randrange(len(spans) + 1)]), self.damaged(b))]
+
+    def cuts(self):
+        """Every cut of a good message."""
+        types, entries = self.schema()
+        b, spans = self.pieces(entries, 0, 3)
+        b = b[:60]
+        return ['readdropped %s %d %s' % (schema_word(types, entries), self.r.choice([100, len(spans)]), hexed(b[:i])) for i in range(len(b) + 1)]
+
+    def faults(self):
+        """A fault in a group, outermost or not, some messages deep, after something else that is dropped."""
+        r = self.r
+        bad = r.choice([b'\x00', b'\x06', b'\x0e', b'\x0f', b'\x07', b'\x80', b'\xff\xff\xff\xff\x10', b'\x08', b'\x08\x80', b'\x08' + b'\xff' * 9 + b'\x02', b'\x09\x01', b'\x0d\x01',
+                        b'\x0a\x7f', b'\x0a\x80\x80\x80\x80\x10', b'\x0a\x80\x80\x80\x80\x80\x00', b'\x12\x01\xff', b''])
+        inner = b''.join(self.tagged(self.number(), 3) for _ in range(r.choice([1, 1, 2, 3]))) + b''.join(self.unknown(r.choice([0, 2]), self.number()) for _ in range(r.randrange(2))) + bad
+        inner += r.choice([b'', b'', b'\x0c', b'\x0c\x0c'])
+        before = r.choice([b'', b'', self.group(1), self.empty(1), b'\x08\x01'])
+        out, levels = before + inner, r.choice([0, 0, 1, 2, 3])
+        for _ in range(levels):
+            out = r.choice([b'', b'\x0b\x0c', b'\x0a\x00']) + tag(3, 2) + counted(out) + r.choice([b'', b'\x0c', b'\x0b\x0c'])
+        return [line for room in (99, r.randrange(levels + 3)) for line in self.asked(DEEP, room, out)]
+
+    def deep(self):
+        """Groups and empty packed fields in messages in messages, to and beyond the deepest; about 100 groups that are open at once."""
+        r = self.r
+        levels = r.choice([1, 2, 50, 98, 99, 100, 101])
+        open_groups = r.choice([1, 1, 2, 3, 100 - min(levels, 99), 101 - levels if levels < 101 else 1, max(1, 102 - levels)])
+        inner = r.choice([b'\x0b' * open_groups + b'\x0c' * open_groups, b'\x0a\x00', b'\x0a\x80\x00', b'\x0b\x13\x0c\x14', b'\x0b\x0c\x0a\x00', b'\x1a\x00', b'\x0b' * open_groups])
+        between = r.choice([b'', b'', b'\x0b\x0c', b'\x0a\x00'])
+        out = inner
+        for _ in range(levels):
+            out = between + tag(3, 2) + counted(out)
+        rooms = [400, levels, levels + 1, 2 * levels, 2 * levels + 1]
+        return [line for room in r.sample(rooms, 2) for line in self.asked(DEEP, room, out)]
+
+    def empties(self):
+        """A field of length 0 of each kind, repeated or not: empty and packed, or a record of its own; its length of up to eleven bytes."""
+        r = self.r
+        kind, repeated = r.choice(KINDS), r.randrange(4) > 0
+        word = schema_word(1, [(0, 2, kind, int(repeated), 0)])
+        field = self.tagged(2, 2) + r.choice([b'\x00', longer(0, r.randrange(1, 12)), b'\x80' * r.randrange(1, 11), b'\x01', b'\x80\x80\x80\x80\x10'])
+        out = r.choice([b'', b'', b'\x0b\x0c', self.empty(2)]) + field + r.choice([b'', b'', b'\x0b\x0c', b'\x08\x01', self.empty(2)])
+        return [line for room in (9, r.randrange(4)) for line in self.asked(word, room, out)]
+
+    def lists(self):
+        """Valid lists, and the same with a record of kind 25 in some place: 10 there, or at a packed head before it."""
+        r = self.r
+        types, entries = r.choice([self.schema, super().schema])()
+        word, payload = schema_word(types, entries), bytearray()
+        records = self.records(entries, payload)
+        i = r.randrange(len(records) + 1)
+        depth = r.choice([records[i - 1][0], records[i - 1][0] + 1, 0]) if i else r.choice([0, 0, 1])
+        span = (depth, r.choice([1, 2, 3, self.number()] + [e[1] for e in entries]), 25, r.choice([0, 0, 0, 1, U64]), *r.choice([(0, 0), (0, 2), (0, len(payload)), (3, 1), (U64, U64)]))
+        bad = records[:i] + [span] + records[i:]
+        if records and r.random() < .3:
+            bad = list(records)
+            j = r.randrange(len(bad))
+            bad[j] = (*bad[j][:2], 25, *bad[j][3:])
+        if r.random() < .1:
+            bad.insert(r.randrange(len(bad) + 1), (0, 1, 26, 0, 0, 0))
+        return ['%s %s %s %s%s' % (verb, word, list_word(some), hexed(payload), ' 4000' if verb == 'write' else '') for verb in ('size', 'write') for some in (records, bad)]
+
+    def no_case(self):
+        """Lines that are no case: records of six and of eight numbers, and the verb in other forms."""
+        return [self.r.choice(['size %s 0,1,5,1,0,0 -' % A, 'write %s 0,1,5,1,0,0 - 9' % A, 'size %s 0,1,5,1,0,0,0,0 -' % A, 'write %s 0,1,5,1,0,0,0;0,1,5,1,0,0 - 9' % A, 'size %s 0,1,5,1,0,0, -' % A,
+                               'size %s 0,1,5,1,0,0,18446744073709551616 -' % A, 'size %s 0,1,5,1,0,0,-1 -' % A, 'readdropped', 'readdropped %s 9' % A, 'readdropped %s 9 0b0' % A, 'readdropped %s 9 0b0c 1' % A,
+                               'readdropped %s 4097 0b0c' % A, 'readdropped %s -1 0b0c' % A, 'readdropped 1 9 0b0c', 'readDropped %s 9 0b0c' % A, 'readdroppe %s 9 0b0c' % A, 'readdroppedx %s 9 0b0c' % A,
+                               'readdropped  %s 9 0b0c' % A, 'readdropped %s 0b0c' % A, 'readdropped %s 9 0B0C' % A])]
+
+    def long(self):
+        """Rooms and answers about as long as they may be: as many spans as there is room for."""
+        r = self.r
+        count = r.choice([4095, 4096, 4097])
+        return ['readdropped %s %d %s' % (DEEP, r.choice([4095, 4096]), r.choice(['0b0c', '0a00']) * count), 'readdropped %s 4096 %s' % (DEEP, 'fbffffff0ffcffffff0f' * 3200),
+                'readdropped %s 4096 %s' % (DEEP, hexed(tag(3, 2) + longer(32000, 3) + b'\x0b\x0c' * 16000))]
+
+
 # the families of each group, each as often as it says
+SPANS = [('reads', 400), ('cuts', 30), ('faults', 250), ('deep', 60), ('empties', 120), ('lists', 120), ('no_case', 10), ('long', 1)]
 LETTERS = [('texts', 20), ('cuts', 1)]
 DOCUMENTS = [('nests', 90), ('cuts', 5), ('depths', 5)]
 SEGMENTS = [('reads', 300), ('cuts', 20), ('writes', 400), ('no_case', 40), ('long', 1)]
@@ -822,6 +986,7 @@ MATTER = bytes.fromhex('00 01 02 05 06 07 08 09 0a 0b 0c 0d 0e 0f 10 12 13 1a 1c
 LEADS = bytes.fromhex('00 7f 80 8f 90 9f a0 bf c0 c1 c2 df e0 e1 ec ed ee ef f0 f1 f3 f4 f5 ff')
 P = '1|0,1,5,1,0;0,4,13,1,0;0,5,7,1,0'
 NEST = '1|0,2,9,0,0;0,3,11,0,0'  # a string, and a message of the same type
+DEEP = '1|0,1,17,1,0;0,3,11,0,0'  # packed sint32, and a message of the same type
 
 
 def short():
@@ -862,6 +1027,15 @@ def short_letters():
         yield from ('utf8prefix ' + hexed(bytes([a, b]) + b'\x80' * more) for a in range(256) for b in range(256))
 
 
+def short_spans():
+    """Every input of up to three bytes that matter after a start-group tag; every run of up to four of some fields, with room for all and for one record."""
+    for count in range(4):
+        yield from ('readdropped %s 9 %s' % (A, hexed(b'\x0b' + bytes(some))) for some in itertools.product(MATTER, repeat=count))
+    fields = ['0b', '0c', '13', '14', '2200', '228000', '1a020b0c', '1a00', '0801']
+    for count in range(5):
+        yield from ('readdropped %s %d %s' % (A, room, ''.join(some) or '-') for some in itertools.product(fields, repeat=count) for room in (9, 1))
+
+
 def families(make, weights):
     """One family after the other, by the choice of the maker's own random numbers."""
     names = [n for n, w in weights for _ in range(w)]
@@ -873,17 +1047,19 @@ def main():
     count, seed = int(sys.argv[1]), int(sys.argv[2])
     group = sys.argv[3] if len(sys.argv) > 3 else ''
     out = sys.stdout
+    PLACES.seed(seed)
     every = 1 if count >= 1000000 else 1000000 // max(count, 1) + 1
     given = 0
-    starts = {'messages': [short()], 'segments': [short_segments()], 'documents': [short_documents()], 'letters': [short_letters()]}
+    starts = {'messages': [short()], 'segments': [short_segments()], 'documents': [short_documents()], 'letters': [short_letters()], 'spans': [short_spans()]}
     starts[''] = [start for some in starts.values() for start in some]
     for i, line in enumerate(line for start in starts[group] for line in start):
         if i % every == seed % every:
             out.write(line + '\n')
             given += 1
-    groups = {'messages': families(Lines(seed), FAMILIES), 'segments': families(Segments(seed), SEGMENTS), 'documents': families(Documents(seed), DOCUMENTS), 'letters': families(Letters(seed), LETTERS)}
+    groups = {'messages': families(Lines(seed), FAMILIES), 'segments': families(Segments(seed), SEGMENTS), 'documents': families(Documents(seed), DOCUMENTS), 'letters': families(Letters(seed), LETTERS),
+              'spans': families(Spans(seed), SPANS)}
     which = random.Random(seed)
-    mixed = ['segments'] * 3 + ['documents'] + ['letters'] + ['messages'] * 15
+    mixed = ['segments'] * 3 + ['documents'] + ['letters'] + ['spans'] * 2 + ['messages'] * 15
     while given < count:
         lines = next(groups[group or which.choice(mixed)])
         for line in lines[:count - given]:

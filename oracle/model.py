@@ -1,6 +1,6 @@
 #!/usr/bin/env python3
 """A model of the rules, independent of the crate and of this library's code: it answers every case line from the rules alone. It stands in where the crate
-has no answer (places other than that of 6, refusals 8 to 10 and 12, the document check, schemas). Reads case lines, writes one answer for each."""
+has no answer (the places of refusals other than 6, refusals 8 to 10 and 12, the document check, schemas). Reads case lines, writes one answer for each."""
 import sys
 
 LIMIT = 2147483647  # of inputs and of sizes
@@ -300,21 +300,27 @@ def value(b, at, end, kind):
 
 
 class Reading:
-    def __init__(self, entries, room, b):
+    def __init__(self, entries, room, b, dropped):
         self.table = {}
         for e in entries:
             self.table.setdefault(e[:2], e)
-        self.room, self.b, self.records, self.place = room, b, [], 0
+        self.room, self.b, self.dropped, self.records, self.place = room, b, dropped, [], 0
 
-    def put(self, *record):
+    def put(self, depth, num, kind, v, start, end, tag):
+        """One record; its last number is the place of the first byte of its field's tag."""
         if len(self.records) == self.room:
             raise Refused(8)
-        self.records.append(record)
+        self.records.append((depth, num, kind, v, start, end, tag))
+
+    def drop(self, depth, num, tag, end):
+        """A skipped group or an empty packed field: where the caller asks for dropped spans, a record of kind 25, from its tag to the first byte after it."""
+        if self.dropped:
+            self.put(depth, num, 25, 0, tag, end, tag)
 
     def message(self, at, end, of_type, depth):
         b = self.b
         while at < end:
-            self.place = at
+            here = self.place = at
             tag, at = varint32(b, at, end)
             num, wire = judged(tag)
             entry = self.table.get((of_type, num))
@@ -323,54 +329,57 @@ class Reading:
                 if wire == 4:
                     raise Refused(4)
                 at = skip_groups(b, at, end, depth, False)
+                self.drop(depth, num, here, at)
             elif kind == 11:
-                at = self.nested(at, end, num, entry[4], depth)
+                at = self.nested(at, end, num, entry[4], depth, here)
             elif kind == 20:
-                at = self.packed(at, end, num, entry[2], depth)
+                at = self.packed(at, end, num, entry[2], depth, here)
             else:
-                at = self.single(at, end, num, kind, depth)
+                at = self.single(at, end, num, kind, depth, here)
 
-    def nested(self, at, end, num, child, depth):
+    def nested(self, at, end, num, child, depth, tag):
         if depth == MAX_DEPTH:
             raise Refused(7)
         start, stop = content(self.b, at, end, varint64)
-        self.put(depth, num, 11, 0, start, stop)
+        self.put(depth, num, 11, 0, start, stop, tag)
         self.message(start, stop, child, depth + 1)
         return stop
 
-    def packed(self, at, end, num, kind, depth):
+    def packed(self, at, end, num, kind, depth, tag):
         start, stop = content(self.b, at, end, varint64)
         if start < stop:
-            self.put(depth, num, 20, 0, start, stop)
+            self.put(depth, num, 20, 0, start, stop, tag)
+        else:
+            self.drop(depth, num, tag, stop)
         at = start
         while at < stop:
             v, then = value(self.b, at, stop, kind)
-            self.put(depth + 1, num, kind, v, at, then)
+            self.put(depth + 1, num, kind, v, at, then, tag)
             at = then
         return stop
 
-    def single(self, at, end, num, kind, depth):
+    def single(self, at, end, num, kind, depth, tag):
         b = self.b
         if kind in (9, 12, 23):
             start, stop = content(b, at, end, varint32)
             if kind == 9 and not utf8(b[start:stop]):
                 self.place = start + utf8_prefix(b[start:stop])
                 raise Refused(6)
-            self.put(depth, num, kind, 0, start, stop)
+            self.put(depth, num, kind, 0, start, stop, tag)
             return stop
         as_kind = {21: 4, 22: 6, 24: 7}.get(kind, kind)
         v, then = value(b, at, end, as_kind)
-        self.put(depth, num, kind, v, at, then)
+        self.put(depth, num, kind, v, at, then, tag)
         return then
 
 
-def read(types, entries, room, b):
-    """The refusal number, its place, and the records."""
+def read(types, entries, room, b, dropped=False):
+    """The refusal number, its place, and the records; with dropped spans where they are asked for."""
     try:
         check_schema(types, entries)
     except Refused as r:
         return 9, r.place, []
-    r = Reading(entries, room, b)
+    r = Reading(entries, room, b, dropped)
     try:
         r.message(0, len(b), 0, 0)
     except Refused as fault:
@@ -381,12 +390,12 @@ def read(types, entries, room, b):
 # ---- writing
 
 def check_list(entries, records, payload):
-    """Raises the first fault of a list, with its index."""
+    """Raises the first fault of a list, with its index. The places of tags are ignored."""
     table = {}
     for e in entries:
         table.setdefault(e[:2], e)
     inside = [('message', 0, 0)]  # what the records of each depth stand in: message and its type, or packed, its number and kind
-    for i, (depth, num, kind, v, start, end) in enumerate(records):
+    for i, (depth, num, kind, v, start, end, _) in enumerate(records):
         if depth >= len(inside):
             raise Refused(10, i)
         del inside[depth + 1:]
@@ -438,7 +447,7 @@ def tag_bytes(num, wire):
 def written(records, payload):
     """The bytes of a valid list, forward: a head's content is gathered before its length."""
     top, heads = bytearray(), []  # what the innermost open head has so far; of each open head its depth, number, kind, and what was before it
-    for depth, num, kind, v, start, end in records + [(0, 0, 0, 0, 0, 0)]:
+    for depth, num, kind, v, start, end, _ in records + [(0, 0, 0, 0, 0, 0, 0)]:
         while heads and heads[-1][0] >= depth:
             _, head, _, outer = heads.pop()
             outer += tag_bytes(head, 2) + encode(len(top)) + top
@@ -647,14 +656,14 @@ def lookup(entries, owner, num):
     return 'none'
 
 
-def read_verb(schema, room, b):
-    no, place, records = read(*schema, room, b)
+def read_verb(schema, room, b, dropped):
+    no, place, records = read(*schema, room, b, dropped)
     return '%d %d %d %s' % (no, len(records), place, show(records))
 
 
 def records_verb(schema, b):
     no, place, records = read(*schema, 1024, b)
-    lines = ['depth number kind value start end'] + [' '.join(map(str, r)) for r in records]
+    lines = ['depth number kind value start end tag'] + [' '.join(map(str, r)) for r in records]
     return '/'.join(lines + ['refused %d at %d' % (no, place) if no else 'ok %d' % len(records)])
 
 
@@ -702,9 +711,10 @@ VERBS = {
     'document': (1, lambda h: 'yes' if document(data(h)) else 'no'),
     'schema': (1, lambda s: schema_verb(*schema_word(s))),
     'lookup': (3, lambda s, o, n: lookup(schema_word(s)[1], number(o, U32), number(n, U32))),
-    'read': (3, lambda s, r, h: read_verb(schema_word(s), number(r, 4096), data(h))),
-    'size': (3, lambda s, l, h: size_verb(schema_word(s), rows(l, 6, U64), data(h))),
-    'write': (4, lambda s, l, h, r: write_verb(schema_word(s), rows(l, 6, U64), data(h), number(r, 65536))),
+    'read': (3, lambda s, r, h: read_verb(schema_word(s), number(r, 4096), data(h), False)),
+    'readdropped': (3, lambda s, r, h: read_verb(schema_word(s), number(r, 4096), data(h), True)),
+    'size': (3, lambda s, l, h: size_verb(schema_word(s), rows(l, 7, U64), data(h))),
+    'write': (4, lambda s, l, h, r: write_verb(schema_word(s), rows(l, 7, U64), data(h), number(r, 65536))),
     'pull': (3, lambda l, s, h: pull(number(l, 100), s.split(','), data(h))),
     'records': (2, lambda s, h: records_verb(schema_word(s), data(h))),
     'segread': (2, lambda r, h: segread_verb(number(r, 4096), data(h))),

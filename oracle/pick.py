@@ -22,8 +22,8 @@ def steps(answer):
 def signature(line, crate, model):
     words = line.split(' ')
     verb, first = words[0], model.split(' ', 1)[0]
-    if verb in ('read', 'size', 'write'):
-        return verb, first, kinds(model if verb == 'read' else words[2])
+    if verb in ('read', 'readdropped', 'size', 'write'):
+        return verb, first, kinds(model if verb.startswith('read') else words[2])
     if verb == 'records':
         return verb, model.rsplit('/', 1)[-1].split(' ')[:2][-1] if '/refused' in model else 'ok'
     if verb == 'segread':

@@ -2,7 +2,7 @@
 # record.sh: writes ../crates/replay/stdin and stdout: lines that cover every verb, kind and refusal, and their answers by the crate, or by the model where the
 # crate has none. The program `replay` is run over them by the gate, with no Rust at hand. The lines are own/lines.txt, and some of gen.py's; then those of segment
 # files: own/segments.txt, every cut of three segments, and some of gen.py's; then own/sizes.txt; then those of documents: own/documents.txt, and some of gen.py's;
-# then those of letters: own/letters.txt, own/broken.txt, and some of gen.py's.
+# then those of letters: own/letters.txt, own/broken.txt, and some of gen.py's; then those of dropped spans: own/spans.txt, and some of gen.py's.
 # After setup.sh. Nothing of ours takes part: the answers are the crate's and the model's, which must agree wherever both answer.
 set -eu
 cd "$(dirname "$0")"
@@ -24,6 +24,8 @@ grep -v '^#' own/documents.txt >$W/documents
 python3 gen.py 20000 7 documents | awk 'length($0) < 1000' >$W/groups
 grep -hv '^#' own/letters.txt own/broken.txt >$W/letters
 python3 gen.py 20000 7 letters | awk 'length($0) < 300' >$W/texts
+grep -v '^#' own/spans.txt >$W/spans
+python3 gen.py 20000 7 spans | awk 'length($0) < 600' >$W/dropped
 answer $W/own
 answer $W/some
 answer $W/segments
@@ -33,6 +35,8 @@ answer $W/documents
 answer $W/groups
 answer $W/letters
 answer $W/texts
+answer $W/spans
+answer $W/dropped
 cp $W/own $W/stdin; cp $W/own.model $W/stdout
 python3 pick.py $W/some $W/some.oracle $W/some.model $((5000 - $(wc -l <$W/own))) $W/stdin $W/stdout
 cat $W/segments >>$W/stdin; cat $W/segments.model >>$W/stdout
@@ -42,6 +46,8 @@ cat $W/documents >>$W/stdin; cat $W/documents.model >>$W/stdout
 python3 pick.py $W/groups $W/groups.oracle $W/groups.model 200 $W/stdin $W/stdout
 cat $W/letters >>$W/stdin; cat $W/letters.model >>$W/stdout
 python3 pick.py $W/texts $W/texts.oracle $W/texts.model 200 $W/stdin $W/stdout
+cat $W/spans >>$W/stdin; cat $W/spans.model >>$W/stdout
+python3 pick.py $W/dropped $W/dropped.oracle $W/dropped.model 200 $W/stdin $W/stdout
 answer $W/stdin
 cmp $W/stdin.model $W/stdout
 cat $W/stdin.table

@@ -5,8 +5,10 @@
         CALL(types, &es[..count], p, m, ..)
     }
 
+or of the same shape with one parameter more, a struct of plain data that is passed on by value.
+
 It requires that count is at most N. CALL is a walked function, of this crate or of the crate `of`, that takes a slice of structs; the parameters before and behind the array
-are numbers, `&` and `&mut` slices of numbers, each with a lifetime of its own, in CALL's order. FN ensures of the first count
+are numbers, the struct, `&` and `&mut` slices of numbers, each with a lifetime of its own, in CALL's order. FN ensures of the first count
 elements what CALL ensures of its slice, which stands in proofs/FN/Proof/Facts.antt:
 
     Told p.. r z..      the parameters in CALL's order, a slice as its list on entry; the result; the last lists of the `&mut`    (a type)
@@ -18,7 +20,7 @@ from pathlib import Path
 
 ENTRIES = dict(elem=('spec', 'Entry'), size=20, array=('Copied', 'oneMore'))
 INSTANCES = {
-    ('entries', 'lend_read'): ENTRIES | dict(call='read', result=('struct', 'read', 'Answer'), params=[('types', 'num', 32), ('es', 'ES', 0), ('s', '&', 8), ('room', '&mut', 64)]),
+    ('entries', 'lend_read'): ENTRIES | dict(call='read_as', result=('struct', 'read', 'Answer'), params=[('mode', 'struct', ('spec', 'Mode')), ('types', 'num', 32), ('es', 'ES', 0), ('s', '&', 8), ('room', '&mut', 64)]),
     ('entries', 'lend_check'): ENTRIES | dict(call='check', result=('enum', 'list', 'Verdict'), params=[('types', 'num', 32), ('es', 'ES', 0), ('list', '&', 64), ('payload', '&', 8)]),
     ('entries', 'lend_size'): ENTRIES | dict(call='size', result=('struct', 'write', 'Answer'), params=[('types', 'num', 32), ('es', 'ES', 0), ('list', '&', 64), ('payload', '&', 8)]),
     ('entries', 'lend_write'): ENTRIES | dict(call='write', result=('struct', 'write', 'Answer'), params=[('types', 'num', 32), ('es', 'ES', 0), ('list', '&', 64), ('payload', '&', 8), ('out', '&mut', 8)]),
@@ -86,6 +88,7 @@ def gen(crate, fn, c):
     shr = [p for p in ps if kind[p] == '&']
     muts = [p for p in ps if kind[p] == '&mut']
     nums = [p for p in ps if kind[p] == 'num']
+    led = [p for p in ps if kind[p] == 'struct']
     life = {p: k for k, p in enumerate(refs)}
     K = len(refs)
     sub = lambda k: ''.join('₀₁₂₃₄₅₆₇₈₉'[int(d)] for d in str(k))
@@ -94,7 +97,7 @@ def gen(crate, fn, c):
     # FN's parameters: the array and the count in the slice's place
     own = [y for p in ps for y in (['es', 'count'] if kind[p] == 'ES' else [p])]
     # the lifetimes of CALL: the slice's is in its place among the references
-    clife = [p for p in ps if kind[p] != 'num']
+    clife = [p for p in ps if kind[p] not in ('num', 'struct')]
     names = ['res'] + own + ['slot', 'slot-ref', 'slot-slice'] + [x for p in muts for x in (p + '-ref', p + '-slice')]
     n = len(names)
     loc = {x: 2 * (n - 1 - k) for k, x in enumerate(names)}
@@ -108,19 +111,21 @@ def gen(crate, fn, c):
     ty = {'res': 'R′.mir', 'es': arrty, 'count': '(tyInt w64)', 'slot': arrty, 'slot-ref': f'(tyRef erased imm (tyArray (pointee (T.the-row .written)) {N}))', 'slot-slice': '(sliceTy (tyRef erased imm (pointee (T.the-row .written))))'}
     for p in nums:
         ty[p] = uty(p)
+    for p in led:
+        ty[p] = 'S′.mir'
     for p in refs:
         ty[p] = f"(sliceTy (tyRef (named {life[p]}) {'imm' if kind[p] == '&' else 'mut'} {uty(p)}))"
         ty[p + '-ref'] = f'(tyRef erased mut {uty(p)})'
         ty[p + '-slice'] = f'(sliceTy (tyRef erased mut {uty(p)}))'
     En = ' ∷ '.join(f'({ty[x]}, {l(x)})' for x in names) + ' ∷ []'
-    val = {'es': 'v-es', 'count': '(vint w64 count)'} | {p: f'(vint w{w[p]} {p})' for p in nums} | {p: f'v-{p}' for p in refs}
+    val = {'es': 'v-es', 'count': '(vint w64 count)'} | {p: f'(vint w{w[p]} {p})' for p in nums} | {p: f'v-{p}' for p in led + refs}
     bare = {x: (v[1:-1] if v.startswith('(') else v) for x, v in val.items()}
-    listed = lambda p, ys: f' {p}' if kind[p] == 'num' else (f' {ys}' if kind[p] == 'ES' else f' ({p} .now)')
+    listed = lambda p, ys: f' {p}' if kind[p] in ('num', 'struct') else (f' {ys}' if kind[p] == 'ES' else f' ({p} .now)')
     told = lambda ys: ''.join(listed(p, ys) for p in ps)
     row = lambda p, k: f"{'ShrSlice' if kind[p] == '&' else 'MutSlice'} (named {k}) {kap[p]} {UINT[w[p]]}"
-    rows = lambda p: {'num': UINT.get(w.get(p)), 'ES': 'Arr'}.get(kind.get(p)) or (row(p, life[p]) if p in refs else None)
+    rows = lambda p: {'num': UINT.get(w.get(p)), 'ES': 'Arr', 'struct': 'S.the-row'}.get(kind.get(p)) or (row(p, life[p]) if p in refs else None)
     sig = [('usize' if y == 'count' else rows(y)) for y in own]
-    crow = lambda p: UINT[w[p]] if kind[p] == 'num' else (f'ShrSlice (named {clife.index(p)}) (ν ∷ []) T.the-row' if kind[p] == 'ES' else row(p, clife.index(p)))
+    crow = lambda p: rows(p) if kind[p] in ('num', 'struct') else (f'ShrSlice (named {clife.index(p)}) (ν ∷ []) T.the-row' if kind[p] == 'ES' else row(p, clife.index(p)))
     csig = [crow(p) for p in ps]
     a = nest(own)
     vals = nest([f'{bare[y]} ∷ []' for y in own])
@@ -141,6 +146,7 @@ def gen(crate, fn, c):
     lastv = nest([f'z-{y}' if kind.get(y) == '&mut' else 'tt' for y in own])
     lastf = nest([L[y] if kind.get(y) == '&mut' else 'tt' for y in own])
     num_own = lambda p: f'owned ! {UINT[w[p]]} (Is {UINT[w[p]]}) (uint-makes 𝓤 H A W w{w[p]}) {p} _ (refl, {p}-fits)'
+    lead_own = lambda p: f'owned ! S.the-row (Is S.the-row) (LL.makes S.the-type S′.the-plain 𝓤 H A) {p} _ is-{p}'
     count_own = 'owned ! usize (Is usize) (uint-makes 𝓤 H A W w64) count _ (refl, count-fits)'
     tok_items = {'t-' + p: f'‵ (flft {kap[p]} {sha[p]})' for p in refs}
     item = {'r': '‵ (R.the-row .own r (u ∷ []))', 'own-es': '‵ (Arr .own es (v-es ∷ []))'} | tok_items | {'own-' + p: f'‵ Own-{p}' for p in refs} | {'fin-' + p: f'‵ (finally {UINT[w[p]]} ({p} .name) z-{p})' for p in muts}
@@ -162,6 +168,8 @@ def gen(crate, fn, c):
             x.put(count_own, 0, 'new')
         elif kind[y] == 'num':
             x.put(num_own(y), 0, 'new')
+        elif kind[y] == 'struct':
+            x.put(lead_own(y), 0, 'new')
         elif kind[y] == 'ES':
             x.put('nothing !', 0, 'new')
         else:
@@ -183,6 +191,8 @@ def gen(crate, fn, c):
     for p in reversed(ps):
         if kind[p] == 'num':
             g.put(num_own(p), 0, 'new')
+        elif kind[p] == 'struct':
+            g.put(lead_own(p), 0, 'new')
         else:
             g.front('part' if kind[p] == 'ES' else 'own-' + p, 'o')
         g.put('fjoin !', 2, 'o')
@@ -311,35 +321,46 @@ def gen(crate, fn, c):
     def passed(y):
         if y == 'es':
             return f"pass1 ! (init ! {loc[y]} refl typed)"
+        if kind.get(y) == 'struct':
+            return f"pass1 ! (init ! {loc[y]} refl (LL.lawful S.the-type S′.the-laws 𝓤 H A W .typed {y} _ is-{y} .0))"
         if y == 'count' or kind[y] == 'num':
             return f"pass1 ! (init ! {loc[y]} refl (tt, record {{ fits = {fit(y)} }}))"
         return f"pass1 ! (init ! {loc[y]} refl (tt, (tt, (record {{ fits = room-{y} .0 }}, tt))))"
     passes = ' $ '.join([passed(y) for y in own] + ['pass0 !'])
 
-    def of(y, es, count, numf, shrf, mutf):
+    def of(y, es, count, leadf, numf, shrf, mutf):
         if y == 'es':
             return es
         if y == 'count':
             return count
-        return {'num': numf, '&': shrf, '&mut': mutf}[kind[y]](y)
-    stay = nest([of(y, 'stay-dropped (plain (λ _. Arr)) yes', 'stay-none (λ _. usize) yes', lambda p: f'stay-none (λ _. {UINT[w[p]]}) yes', lambda p: f'stay-none-slice ({life[p]} ∷ []) tt (plain (λ _. {UINT[w[p]]})) yes', lambda p: f'gave-slice ({life[p]} ∷ []) tt (plain (λ _. {UINT[w[p]]}))') for y in own])
-    goes = nest([of(y, f'goes-dropped 𝓤 H A W {K} (plain (λ _. Arr)) yes (λ κs x f. refl)', f'goes-none 𝓤 H A W {K} (λ _. usize) yes (λ κs x f. refl)', lambda p: f'goes-none 𝓤 H A W {K} (λ _. {UINT[w[p]]}) yes (λ κs x f. refl)', lambda p: f'goes-none-slice 𝓤 H A W {K} ({life[p]} ∷ []) tt (plain (λ _. {UINT[w[p]]})) yes', lambda p: f'goes-gave-slice 𝓤 H A W {K} {life[p]} tt (plain (λ _. {UINT[w[p]]}))') for y in own])
-    spell = nest([of(y, 'array-vals vals', 'uint-vals w64', lambda p: f'uint-vals w{w[p]}', lambda p: 'slice-vals', lambda p: 'slice-vals') for y in own])
-    tells = nest([of(y, f'array-tells T.the-row vals (LL.tells T.the-type T′.the-laws) {N}', 'uint-tells w64', lambda p: f'uint-tells w{w[p]}', lambda p: f'shr-slice-tells (named {life[p]}) ({kpath(life[p])}) {UINT[w[p]]}', lambda p: f'mut-slice-tells (named {life[p]}) ({kpath(life[p])}) {UINT[w[p]]}') for y in own])
-    mod_params = ' '.join(([f"({' '.join(kap[p] for p in refs)} : Lft) ({' '.join(sha[p] for p in refs)} : Share)"] if refs else []) + [of(y, f'(es : List {elem}) (are-es : Is Arr es (array-vals vals es))', '(count : ℕ) (count-fits : count < 2 ^ 64)', lambda p: f'({p} : ℕ) ({p}-fits : {p} < 2 ^ {w[p]})', lambda p: f'({p} : RefT (List ℕ)) (room-{p} : Room {UINT[w[p]]} (length ({p} .now)))', lambda p: f'({p} : RefT (List ℕ)) (room-{p} : Room {UINT[w[p]]} (length ({p} .now)))') for y in own] + [f'(within : count ≤ {N})'])
-    mod_args = ' '.join([f'({kpath(j)})' for j in range(K)] + [f'({qpath(j)})' for j in range(K)] + [of(y, f'({apath(j)}) ({arep(j)})', f'({apath(j)}) ({arep(j)} .1)', lambda p: f'({apath(j)}) ({arep(j)} .1)', lambda p: f'({apath(j)}) ({arep(j)} .0 .1)', lambda p: f'({apath(j)}) ({arep(j)} .0 .1)') for j, y in enumerate(own)])
+        return {'struct': leadf, 'num': numf, '&': shrf, '&mut': mutf}[kind[y]](y)
+    stay = nest([of(y, 'stay-dropped (plain (λ _. Arr)) yes', 'stay-none (λ _. usize) yes', lambda p: 'stay-none (λ _. S.the-row) yes', lambda p: f'stay-none (λ _. {UINT[w[p]]}) yes', lambda p: f'stay-none-slice ({life[p]} ∷ []) tt (plain (λ _. {UINT[w[p]]})) yes', lambda p: f'gave-slice ({life[p]} ∷ []) tt (plain (λ _. {UINT[w[p]]}))') for y in own])
+    goes = nest([of(y, f'goes-dropped 𝓤 H A W {K} (plain (λ _. Arr)) yes (λ κs x f. refl)', f'goes-none 𝓤 H A W {K} (λ _. usize) yes (λ κs x f. refl)', lambda p: f'goes-none 𝓤 H A W {K} (λ _. S.the-row) yes (λ κs x f. refl)', lambda p: f'goes-none 𝓤 H A W {K} (λ _. {UINT[w[p]]}) yes (λ κs x f. refl)', lambda p: f'goes-none-slice 𝓤 H A W {K} ({life[p]} ∷ []) tt (plain (λ _. {UINT[w[p]]})) yes', lambda p: f'goes-gave-slice 𝓤 H A W {K} {life[p]} tt (plain (λ _. {UINT[w[p]]}))') for y in own])
+    spell = nest([of(y, 'array-vals vals', 'uint-vals w64', lambda p: 'LL.vals S.the-type S′.the-laws', lambda p: f'uint-vals w{w[p]}', lambda p: 'slice-vals', lambda p: 'slice-vals') for y in own])
+    tells = nest([of(y, f'array-tells T.the-row vals (LL.tells T.the-type T′.the-laws) {N}', 'uint-tells w64', lambda p: 'LL.tells S.the-type S′.the-laws', lambda p: f'uint-tells w{w[p]}', lambda p: f'shr-slice-tells (named {life[p]}) ({kpath(life[p])}) {UINT[w[p]]}', lambda p: f'mut-slice-tells (named {life[p]}) ({kpath(life[p])}) {UINT[w[p]]}') for y in own])
+    mod_params = ' '.join(([f"({' '.join(kap[p] for p in refs)} : Lft) ({' '.join(sha[p] for p in refs)} : Share)"] if refs else []) + [of(y, f'(es : List {elem}) (are-es : Is Arr es (array-vals vals es))', '(count : ℕ) (count-fits : count < 2 ^ 64)', lambda p: f'({p} : {w[p][1]}) (is-{p} : Is S.the-row {p} (LL.vals S.the-type S′.the-laws {p}))', lambda p: f'({p} : ℕ) ({p}-fits : {p} < 2 ^ {w[p]})', lambda p: f'({p} : RefT (List ℕ)) (room-{p} : Room {UINT[w[p]]} (length ({p} .now)))', lambda p: f'({p} : RefT (List ℕ)) (room-{p} : Room {UINT[w[p]]} (length ({p} .now)))') for y in own] + [f'(within : count ≤ {N})'])
+    mod_args = ' '.join([f'({kpath(j)})' for j in range(K)] + [f'({qpath(j)})' for j in range(K)] + [of(y, f'({apath(j)}) ({arep(j)})', f'({apath(j)}) ({arep(j)} .1)', lambda p: f'({apath(j)}) ({arep(j)})', lambda p: f'({apath(j)}) ({arep(j)} .1)', lambda p: f'({apath(j)}) ({arep(j)} .0 .1)', lambda p: f'({apath(j)}) ({arep(j)} .0 .1)') for j, y in enumerate(own)])
     count_at = apath(own.index('count'))
     uints = sorted({UINT[w[p]] for p in nums + refs} | {'usize'})
     widths = sorted({f'w{w[p]}' for p in nums + refs} | {'w64'}, key=lambda y: int(y[1:]))
     zt = ''.join(f' (z-{p} : List ℕ)' for p in muts)
     zl = ''.join(f' → length z-{p} ≡ length ({p} .now)' for p in muts)
-    owns_defs = ''.join(f'''
+    led_defs = ''.join(f'''
+  -- the machine value of the struct
+  abbrev v-{p} : Val
+  v-{p} = LL.val S.the-type S′.the-laws {p}
+''' for p in led)
+    owns_defs = led_defs + ''.join(f'''
   abbrev v-{p} : Val
   v-{p} = sliceVal ({p} .ptr) (length ({p} .now))
 
   abbrev Own-{p} : Fml
   Own-{p} = {row(p, life[p])} .own {p} (v-{p} ∷ [])
 ''' for p in refs)
+    lead_uses = ''.join(f'''use Rattle.{w[p][0]}.specs.declared.{w[p][1]}.{{{w[p][1]}}}
+use Rattle.{w[p][0]}.proofs.{w[p][1]} as S
+use Rattle.{w[p][0]}.proofs.{w[p][1]}.Laws as S′
+''' for p in led)
     opt = lambda cond, s: s if cond else ''
     return f'''-- `{crate}::{fn}` meets its contract: a walk of its MIR, by hand. The first elements of an array are lent as a slice to `{call}`, with all other parameters. All that the proof knows of `{call}` is that it meets its contract.
 -- Written by tools/lends.py; what is said of the values stands in `Proof/Facts.antt`.
@@ -395,7 +416,7 @@ use denote.Exit.{{yes}}
 use Rattle.{elem_of}.specs.declared.{elem}.{{{elem}}}
 use Rattle.{elem_of}.proofs.{elem} as T
 use Rattle.{elem_of}.proofs.{elem}.Laws as T′
-use Rattle.{result_of}.specs.declared.{result}.{{{result}}}
+{lead_uses}use Rattle.{result_of}.specs.declared.{result}.{{{result}}}
 use Rattle.{result_of}.proofs.{result} as R
 use Rattle.{result_of}.proofs.{result}.Laws as R′
 use Rattle.{crate}.specs.{N_in}.{{{N}}}

@@ -16,12 +16,12 @@ WIRES = "varintWire fixed64Wire delimitedWire startGroupWire endGroupWire fixed3
 refusal = {str(i + 1): n for i, n in enumerate(REFUSALS)}
 kind = {str(i + 1): n for i, n in enumerate(KINDS) if n != "-"}
 wire = {str(i): n for i, n in enumerate(WIRES) if n != "-"}
-column = {"1": "numberColumn", "2": "kindColumn", "3": "valueColumn", "4": "startColumn", "5": "stopColumn"}
+column = {"1": "numberColumn", "2": "kindColumn", "3": "valueColumn", "4": "startColumn", "5": "stopColumn", "6": "tagColumn"}
 recorded = {"25": "recordKinds"}
 level = {"100": "mostLevels"}
 largest = {"536870911": "largestNumber", "0x1fff_ffff": "largestNumber"}
 sized = {"2147483647": "limit", "0x7fff_ffff": "limit"}
-stride = {"6": "stride"}
+stride = {"7": "stride"}
 
 # what a number stands for where the text around it is this; the number is the group n
 RULES = [
@@ -59,16 +59,16 @@ RULES = [
     (kind, r"\b(?:packedSize|fieldSize) (?P<n>\d+)\b"),
     (kind, r"(?:\.kind|(?<!wire )\bkind) ≢ (?P<n>\d+)\b"),
     (refusal, r"(?:\.Bad|\bStop|\bshutAt|\bopenedAs) (?P<n>[1-9]\d*)\b"),
-    (column, r"\bgetD list \([^()]*\+ (?P<n>[1-5])\) 0"),
+    (column, r"\bgetD list \([^()]*\+ (?P<n>[1-6])\) 0"),
     (recorded, r"\btake (?P<n>25) wires\b"),
     (level, r"(?:\b(?:leb|ltb|le-leb|lt-leb|Run) |[≤<] )(?P<n>100)\b"),
     (level, r"(?<![\w.])(?P<n>100) (?:≤|<|-)"),
     (largest, r"\b(?P<n>536870911|0x1fff_ffff)\b"),
     (sized, r"(?<!limit = )\b(?P<n>2147483647|0x7fff_ffff)\b"),
 ]
-# in these crates' proofs a six is the stride of a record, but where bytes are copied one by one
+# in these crates' proofs a seven is the stride of a record, but where bytes are copied one by one
 STRIDED = re.compile(r"crates/(?:list|read|sizes|trip|write)/(?!.*[Cc]op)")
-STRIDES = [(stride, r"(?:[+*/%-]) (?P<n>6)\b"), (stride, r"(?<![\w.^-])(?P<n>6) (?:[*+≤<])")]
+STRIDES = [(stride, r"(?:[+*/%-]) (?P<n>7)\b"), (stride, r"(?<![\w.^-])(?P<n>7) (?:[*+≤<])")]
 HOME = {"limit": "Base", "stride": "Record", "entryStride": "Schema"}
 # lists of cases: bytes and the records that they read as, as the rules list them
 CASES = re.compile(r"Cases\.antt$")
@@ -79,7 +79,7 @@ CODE = [
     r"\bRefused\([1-9]", r"\bBad\([1-9]", r"\bnumber: [1-9]", r"\b(?:faulty|refused|shut)\([1-9]", r"\breturn (?:6|7|9|1[0-2]);",
     r"\bkind (?:==|!=|<|<=) [1-9]", r"(?<![\w.])[1-9]\d* <=? kind\b", r"^\s*(?:[3-9]|\d\d+|\d+ \| \d+)(?: \| \d+)* => ",
     r"\bw (?:==|!=|<) \d", r"% 8 (?:==|!=|<) \d", r"\blist\[[a-z]+ [+-] \d\]", r"\broom\[to \+ \d\]", r"\bnumbers\[[^\]]*\+ \d\]",
-    r"(?:\+=|-=|/|\*|<=?|\+ 6 <=) 6\b", r"(?<![\w.])6 (?:<=?|\*)", r"\[(?:512|768) \+", r"\b(?:536870911|72057594037927936|4294967296)\b", r"\b0x7fff_ffff\b",
+    r"(?:\+=|-=|/|\*|<=?|\+ 7 <=) 7\b", r"(?<![\w.])7 (?:<=?|\*)", r"\[(?:512|768) \+", r"\b(?:536870911|72057594037927936|4294967296)\b", r"\b0x7fff_ffff\b",
     r"(?<![\w.])(?:99|100) <=? \w", r"\b(?:== |\* )255\b",
 ]
 

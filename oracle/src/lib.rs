@@ -21,7 +21,8 @@ pub fn answer(text: &str) -> String {
 
 fn by_verb(line: &Line) -> Parsed<String> {
     match line.verb() {
-        "read" => reading::read(line),
+        "read" => reading::read(line, false),
+        "readdropped" => reading::read(line, true),
         "records" => reading::records(line),
         "size" => writing::size(line),
         "write" => writing::write(line),

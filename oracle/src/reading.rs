@@ -15,6 +15,8 @@ use crate::words::{both, bytes, number, refusal, schema, show, stream, Entry, Li
 struct Notes {
     schema: Rc<Vec<Entry>>,
     bytes: Rc<Vec<u8>>,
+    /// dropped spans are asked for
+    dropped: bool,
     records: Vec<Record>,
     /// the crate let a message's or packed field's length run past the slice
     past: bool,
@@ -33,6 +35,15 @@ struct Node {
     depth: u64,
     /// number of the field that it is; 0 for the root
     number: u32,
+    /// place of that field's tag
+    tag: u64,
+}
+
+/// A field whose tag was read: the tag, and where the stream was before it.
+#[derive(Clone, Copy)]
+struct Tagged {
+    tag: u32,
+    at: u64,
 }
 
 #[derive(Clone, Default, PartialEq)]
@@ -45,8 +56,15 @@ fn note<T>(f: impl FnOnce(&mut Notes) -> T) -> T {
     NOTES.with(|n| f(&mut n.borrow_mut()))
 }
 
-fn put(depth: u64, number: u32, kind: u64, value: u64, start: u64, end: u64) {
-    note(|n| n.records.push(Record { depth, number: u64::from(number), kind, value, start, end }));
+fn put(depth: u64, number: u32, kind: u64, value: u64, start: u64, end: u64, tag: u64) {
+    note(|n| n.records.push(Record { depth, number: u64::from(number), kind, value, start, end, tag }));
+}
+
+/// What the crate read and kept nothing of, from the place of its tag up to where the stream is: noted where that is asked for.
+fn dropped(depth: u64, t: Tagged, end: u64) {
+    if note(|n| n.dropped) {
+        put(depth, t.tag >> 3, 25, 0, t.at, end, t.at);
+    }
 }
 
 /// A second stream, which has come as far as the first.
@@ -85,26 +103,26 @@ fn wire_of(kind: u32) -> u32 {
 }
 
 impl Read {
-    fn field(&self, tag: u32, is: &mut CodedInputStream) -> Result<()> {
-        let node = self.node;
+    fn field(&self, t: Tagged, is: &mut CodedInputStream) -> Result<()> {
+        let (node, tag) = (self.node, t.tag);
         let schema = note(|n| n.schema.clone());
         let known = schema.iter().find(|e| e.owner == node.of_type && e.number == tag >> 3);
         match known {
-            Some(e) if tag == e.number << 3 | wire_of(e.kind) => self.typed(e, is),
-            Some(e) if e.repeated && !matches!(e.kind, 9 | 11 | 12) && tag == e.number << 3 | 2 => self.packed(e, is),
-            _ => self.unknown(tag, is),
+            Some(e) if tag == e.number << 3 | wire_of(e.kind) => self.typed(e, t, is),
+            Some(e) if e.repeated && !matches!(e.kind, 9 | 11 | 12) && tag == e.number << 3 | 2 => self.packed(e, t, is),
+            _ => self.unknown(t, is),
         }
     }
 
-    fn typed(&self, e: &Entry, is: &mut CodedInputStream) -> Result<()> {
+    fn typed(&self, e: &Entry, t: Tagged, is: &mut CodedInputStream) -> Result<()> {
         let depth = self.node.depth;
         match e.kind {
             9 | 12 => {
                 let length = if e.kind == 9 { text(is)?.len() } else { is.read_bytes()?.len() } as u64;
-                put(depth, e.number, u64::from(e.kind), 0, is.pos() - length, is.pos());
+                put(depth, e.number, u64::from(e.kind), 0, is.pos() - length, is.pos(), t.at);
             }
             11 => {
-                note(|n| n.next = Node { of_type: e.child, depth: depth + 1, number: e.number });
+                note(|n| n.next = Node { of_type: e.child, depth: depth + 1, number: e.number, tag: t.at });
                 if e.repeated {
                     is.read_message::<Read>()?;
                 } else {
@@ -114,14 +132,14 @@ impl Read {
             kind => {
                 let start = is.pos();
                 let value = scalars::read(kind, is)?;
-                put(depth, e.number, u64::from(kind), value, start, is.pos());
+                put(depth, e.number, u64::from(kind), value, start, is.pos(), t.at);
             }
         }
         Ok(())
     }
 
     /// The crate's packed call gives the answer and the values; a second stream, at the same place and under the same limit, their places.
-    fn packed(&self, e: &Entry, is: &mut CodedInputStream) -> Result<()> {
+    fn packed(&self, e: &Entry, t: Tagged, is: &mut CodedInputStream) -> Result<()> {
         let bytes = note(|n| n.bytes.clone());
         let (from, left) = (is.pos(), is.bytes_until_limit());
         let mut values = Vec::new();
@@ -130,13 +148,13 @@ impl Read {
         if left != u64::MAX {
             again.push_limit(left).expect("as the first stream has it");
         }
-        let places = self.elements(e, &mut again, &values);
+        let places = self.elements(e, t, &mut again, &values);
         assert_eq!(places.as_ref().map_err(refusal), answer.as_ref().map_err(refusal));
         assert_eq!(again.pos(), is.pos());
         answer
     }
 
-    fn elements(&self, e: &Entry, is: &mut CodedInputStream, values: &[u64]) -> Result<()> {
+    fn elements(&self, e: &Entry, t: Tagged, is: &mut CodedInputStream, values: &[u64]) -> Result<()> {
         let length = is.read_raw_varint64()?;
         let (depth, first) = (self.node.depth, is.pos());
         let old = is.push_limit(length)?;
@@ -144,30 +162,36 @@ impl Read {
         let mut count = 0;
         while !is.eof()? {
             if count == 0 {
-                put(depth, e.number, 20, 0, first, first.saturating_add(length));
+                put(depth, e.number, 20, 0, first, first.saturating_add(length), t.at);
             }
             let start = is.pos();
             let value = scalars::read(e.kind, is)?;
             assert_eq!(value, values[count]);
             count += 1;
-            put(depth + 1, e.number, u64::from(e.kind), value, start, is.pos());
+            put(depth + 1, e.number, u64::from(e.kind), value, start, is.pos(), t.at);
         }
         is.pop_limit(old);
+        if length == 0 {
+            dropped(depth, t, is.pos());
+        }
         assert_eq!(count, values.len());
         Ok(())
     }
 
-    fn unknown(&self, tag: u32, is: &mut CodedInputStream) -> Result<()> {
+    fn unknown(&self, t: Tagged, is: &mut CodedInputStream) -> Result<()> {
         let (depth, start) = (self.node.depth, is.pos());
         let mut fields = UnknownFields::new();
-        rt::read_unknown_or_skip_group(tag, is, &mut fields)?;
+        rt::read_unknown_or_skip_group(t.tag, is, &mut fields)?;
         let end = is.pos();
+        if fields.iter().next().is_none() {
+            dropped(depth, t, end);
+        }
         for (number, value) in fields.iter() {
             match value {
-                UnknownValueRef::Varint(v) => put(depth, number, 21, v, start, end),
-                UnknownValueRef::Fixed64(v) => put(depth, number, 22, v, start, end),
-                UnknownValueRef::LengthDelimited(v) => put(depth, number, 23, 0, end - v.len() as u64, end),
-                UnknownValueRef::Fixed32(v) => put(depth, number, 24, u64::from(v), start, end),
+                UnknownValueRef::Varint(v) => put(depth, number, 21, v, start, end, t.at),
+                UnknownValueRef::Fixed64(v) => put(depth, number, 22, v, start, end, t.at),
+                UnknownValueRef::LengthDelimited(v) => put(depth, number, 23, 0, end - v.len() as u64, end, t.at),
+                UnknownValueRef::Fixed32(v) => put(depth, number, 24, u64::from(v), start, end, t.at),
             }
         }
         Ok(())
@@ -181,12 +205,13 @@ impl Message for Read {
             let start = is.pos();
             let end = start.saturating_add(is.bytes_until_limit());
             taken(end);
-            put(self.node.depth - 1, self.node.number, 11, 0, start, end);
+            put(self.node.depth - 1, self.node.number, 11, 0, start, end, self.node.tag);
         }
-        while let Some(tag) = is.read_raw_tag_or_eof()? {
-            self.field(tag, is)?;
+        loop {
+            let at = is.pos();
+            let Some(tag) = is.read_raw_tag_or_eof()? else { return Ok(()) };
+            self.field(Tagged { tag, at }, is)?;
         }
-        Ok(())
     }
     fn new() -> Read {
         Read { node: note(|n| n.next), special: SpecialFields::new() }
@@ -218,8 +243,8 @@ struct Outcome {
     past: bool,
 }
 
-fn outcome(schema: &Rc<Vec<Entry>>, bytes: &Rc<Vec<u8>>, limited: bool) -> Outcome {
-    note(|n| *n = Notes { schema: schema.clone(), bytes: bytes.clone(), ..Notes::default() });
+fn outcome(schema: &Rc<Vec<Entry>>, bytes: &Rc<Vec<u8>>, dropped: bool, limited: bool) -> Outcome {
+    note(|n| *n = Notes { schema: schema.clone(), bytes: bytes.clone(), dropped, ..Notes::default() });
     let answer = Read::new().merge_from(&mut stream(bytes, limited, 0));
     let notes = note(std::mem::take);
     Outcome { refused: answer.map_or_else(|e| refusal(&e), |()| 0), broken: notes.broken, records: notes.records, past: notes.past }
@@ -233,17 +258,17 @@ impl Outcome {
 }
 
 /// Both streams' answers, shown in the verb's way.
-fn shown(schema: Vec<Entry>, bytes: Vec<u8>, show: impl Fn(&Outcome) -> String) -> String {
+fn shown(schema: Vec<Entry>, bytes: Vec<u8>, dropped: bool, show: impl Fn(&Outcome) -> String) -> String {
     let (schema, bytes) = (Rc::new(schema), Rc::new(bytes));
-    let (limited, bare) = (outcome(&schema, &bytes, true), outcome(&schema, &bytes, false));
+    let (limited, bare) = (outcome(&schema, &bytes, dropped, true), outcome(&schema, &bytes, dropped, false));
     both(show(&limited), show(&bare), bare.past)
 }
 
 /// The crate has no room: where there are more records than that, only the first ones are given.
-pub fn read(line: &Line) -> Parsed<String> {
+pub fn read(line: &Line, dropped: bool) -> Parsed<String> {
     let w = line.words(3)?;
     let room: usize = number(w[1])?;
-    Some(shown(schema(w[0])?, bytes(w[2])?, |o| {
+    Some(shown(schema(w[0])?, bytes(w[2])?, dropped, |o| {
         let kept = &o.records[..o.records.len().min(room)];
         let list = if kept.is_empty() { "-".to_string() } else { show(kept, ',', ";") };
         match (o.records.len() > room, o.refused) {
@@ -257,9 +282,9 @@ pub fn read(line: &Line) -> Parsed<String> {
 /// As the program `records` prints them, which has room for 1,024.
 pub fn records(line: &Line) -> Parsed<String> {
     let w = line.words(2)?;
-    Some(shown(schema(w[0])?, bytes(w[1])?, |o| {
+    Some(shown(schema(w[0])?, bytes(w[1])?, false, |o| {
         let kept = &o.records[..o.records.len().min(1024)];
-        let mut text = "depth number kind value start end/".to_string() + &show(kept, ' ', "/");
+        let mut text = "depth number kind value start end tag/".to_string() + &show(kept, ' ', "/");
         if !kept.is_empty() {
             text.push('/');
         }

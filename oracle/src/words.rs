@@ -92,6 +92,8 @@ pub struct Record {
     pub value: u64,
     pub start: u64,
     pub end: u64,
+    /// place of the first byte of the field's tag
+    pub tag: u64,
 }
 
 pub fn records(word: &str) -> Parsed<Vec<Record>> {
@@ -100,15 +102,15 @@ pub fn records(word: &str) -> Parsed<Vec<Record>> {
     }
     let record = |text: &str| {
         let n: Vec<u64> = numbers(text, ',')?;
-        let [depth, number, kind, value, start, end] = n[..] else { return None };
-        Some(Record { depth, number, kind, value, start, end })
+        let [depth, number, kind, value, start, end, tag] = n[..] else { return None };
+        Some(Record { depth, number, kind, value, start, end, tag })
     };
     word.split(';').map(record).collect()
 }
 
 pub fn show(records: &[Record], by: char, between: &str) -> String {
     let one = |r: &Record| {
-        let n = [r.depth, r.number, r.kind, r.value, r.start, r.end];
+        let n = [r.depth, r.number, r.kind, r.value, r.start, r.end, r.tag];
         n.map(|v| v.to_string()).join(&by.to_string())
     };
     records.iter().map(one).collect::<Vec<_>>().join(between)

@@ -10,7 +10,7 @@ mod leaves;
 mod objects;
 #[cfg(feature = "pulls")]
 mod pulls;
-#[cfg(feature = "records")]
+#[cfg(any(feature = "records", feature = "dropped"))]
 mod records;
 #[cfg(feature = "segments")]
 mod segments;

@@ -12,7 +12,7 @@ one-result e f = e ∙ sym f
 pub one-told : {v r q : ℕ} {u x y : List ℕ} → (r ≡ v) × (x ≡ u) → (q ≡ v) × (y ≡ u) → (r ≡ q) × (x ≡ y)
 one-told e f = (one-result (e .0) (f .0), one-result (e .1) (f .1))
 
--- `calf_read`, `calf_read_prepared`, `calf_write`, `calf_segment_read`, `calf_segment_write`
+-- `calf_read`, `calf_read_prepared`, `calf_read_dropped`, `calf_read_prepared_dropped`, `calf_write`, `calf_segment_read`, `calf_segment_write`
 pub one-filled : {v r q : ℕ} {u x y w a b : List ℕ} → (r ≡ v) × (x ≡ u) × (a ≡ w) → (q ≡ v) × (y ≡ u) × (b ≡ w) → (r ≡ q) × (x ≡ y) × (a ≡ b)
 one-filled e f = (one-result (e .0) (f .0), one-result (e .1) (f .1), one-result (e .2) (f .2))
 

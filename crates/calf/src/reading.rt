@@ -1,12 +1,13 @@
 // A schema, and a message to records.
 ghost use mathlib.Core.Path.{_≡_};
+ghost use mathlib.Core.Bool.{true};
 ghost use mathlib.Core.List.{[], _∷_};
 ghost use mathlib.Core.Option.{none};
 ghost use Prim.Native.Nat.{_/_};
 ghost use lib.ListN.{length};
 ghost use Rattle.spec.specs.Record.{stride};
 ghost use Rattle.spec.specs.Schema.{badSchema, schemaOf};
-ghost use Rattle.spec.specs.Reading.{plainly, reading, readingBy, number, place, listed, roomAfter};
+ghost use Rattle.spec.specs.Reading.{plainly, asking, reading, readingAs, readingBy, number, place, listed, roomAfter};
 ghost use Rattle.schema.specs.Tables.{keysOf, infoOf};
 ghost use Rattle.schema.specs.Told.{badPlace};
 ghost use Rattle.read.specs.Prepared.{prepared};
@@ -14,6 +15,7 @@ ghost use Rattle.calf.specs.Told.{numberOf, entryOf};
 use schema::Verdict;
 use schema::layout::INFO;
 use schema::layout::KEYS;
+use spec::Mode;
 use spec::columns;
 use spec::refusals;
 
@@ -54,7 +56,7 @@ pub extern "C" fn calf_check_schema(types: u32, numbers: &[u32], answer: &mut [u
     number_of(v)
 }
 
-// The tables of a schema, for `calf_read_prepared`: of the entries before the first bad one where it is not valid.
+// The tables of a schema, for `calf_read_prepared` and `calf_read_prepared_dropped`: of the entries before the first bad one where it is not valid.
 #[no_mangle]
 pub extern "C" fn calf_prepare(
     types: u32,
@@ -109,6 +111,46 @@ pub extern "C" fn calf_read_prepared(
         × (now (room .exit) ≡ roomAfter (readingBy none (prepared plainly (now (keys .entry)) (now (info .entry))) (length (now (room .entry)) / stride) (now (s .entry))) (now (room .entry))) ⌝ }
 {
     let a = read::read_prepared(keys, info, s, room);
+    *answer = [a.count as u64, a.place as u64];
+    a.number
+}
+
+// ---- reading with dropped spans: what is dropped, a skipped group or an empty packed field, gives a record of kind 25 with its whole span
+
+// As `calf_read`.
+#[no_mangle]
+pub extern "C" fn calf_read_dropped(
+    types: u32,
+    numbers: &[u32],
+    s: &[u8],
+    room: &mut [u64],
+    answer: &mut [u64; 2],
+) -> u32
+    ensures { λ r. ⌜ (r ≡ number (readingAs (asking true plainly) (schemaOf types (now (numbers .entry))) (length (now (room .entry)) / stride) (now (s .entry))))
+        × (now (answer .exit) ≡ length (listed (readingAs (asking true plainly) (schemaOf types (now (numbers .entry))) (length (now (room .entry)) / stride) (now (s .entry))))
+        ∷ place (readingAs (asking true plainly) (schemaOf types (now (numbers .entry))) (length (now (room .entry)) / stride) (now (s .entry))) ∷ [])
+        × (now (room .exit) ≡ roomAfter (readingAs (asking true plainly) (schemaOf types (now (numbers .entry))) (length (now (room .entry)) / stride) (now (s .entry))) (now (room .entry))) ⌝ }
+{
+    let a = read::read_as(Mode { dropped: true }, types, numbers, s, room);
+    *answer = [a.count as u64, a.place as u64];
+    a.number
+}
+
+// As `calf_read_prepared`.
+#[no_mangle]
+pub extern "C" fn calf_read_prepared_dropped(
+    keys: &[u64; KEYS],
+    info: &[u8; INFO],
+    s: &[u8],
+    room: &mut [u64],
+    answer: &mut [u64; 2],
+) -> u32
+    ensures { λ r. ⌜ (r ≡ number (readingBy none (prepared (asking true plainly) (now (keys .entry)) (now (info .entry))) (length (now (room .entry)) / stride) (now (s .entry))))
+        × (now (answer .exit) ≡ length (listed (readingBy none (prepared (asking true plainly) (now (keys .entry)) (now (info .entry))) (length (now (room .entry)) / stride) (now (s .entry))))
+        ∷ place (readingBy none (prepared (asking true plainly) (now (keys .entry)) (now (info .entry))) (length (now (room .entry)) / stride) (now (s .entry))) ∷ [])
+        × (now (room .exit) ≡ roomAfter (readingBy none (prepared (asking true plainly) (now (keys .entry)) (now (info .entry))) (length (now (room .entry)) / stride) (now (s .entry))) (now (room .entry))) ⌝ }
+{
+    let a = read::read_prepared_as(Mode { dropped: true }, keys, info, s, room);
     *answer = [a.count as u64, a.place as u64];
     a.number
 }

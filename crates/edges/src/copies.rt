@@ -1,6 +1,8 @@
 // Lists that go through an older schema: the three answers of `copy_onward`, the bytes that were written, the records that the older schema read, and the
 // bytes that were written again.
 use crate::lists;
+use crate::lists::FAR;
+use crate::lists::HALF;
 use crate::lists::put_wrote;
 use crate::parts::put_name;
 use crate::rooms;
@@ -89,7 +91,8 @@ const OLDER: [u32; 4 * ENTRY_STRIDE] = [
 // -1 as a sint32.
 const MINUS_ONE: u64 = 0xffff_ffff_ffff_ffff;
 
-// An int32, a string, a packed field of 1 and -1, a message of a uint32 and a string, a message of an int32, and two int32 more.
+// An int32, a string, a packed field of 1 and -1, a message of a uint32 and a string, a message of an int32, and two int32 more. The places of their tags are
+// none that reading would give: the writer ignores them.
 const LIST: [u64; 12 * STRIDE] = [
     0,
     1,
@@ -97,72 +100,84 @@ const LIST: [u64; 12 * STRIDE] = [
     150,
     0,
     0,
+    FAR,
     0,
     2,
     kinds::STRING,
     0,
     0,
     2,
+    1,
     0,
     3,
     kinds::PACKED_HEAD,
     0,
     0,
     0,
+    HALF,
     1,
     3,
     kinds::SINT32,
     1,
     0,
     0,
+    2,
     1,
     3,
     kinds::SINT32,
     MINUS_ONE,
     0,
     0,
+    FAR,
     0,
     4,
     kinds::MESSAGE,
     0,
     0,
     0,
+    5,
     1,
     1,
     kinds::UINT32,
     5,
     0,
     0,
+    FAR,
     1,
     2,
     kinds::STRING,
     0,
     2,
     4,
+    HALF,
     0,
     5,
     kinds::MESSAGE,
     0,
     0,
     0,
+    3,
     1,
     1,
     kinds::INT32,
     7,
     0,
     0,
+    FAR,
     0,
     1,
     kinds::INT32,
     1,
     0,
     0,
+    HALF,
     0,
     1,
     kinds::INT32,
     2,
     0,
     0,
+    8,
 ];
 
 // The two strings.
@@ -175,12 +190,10 @@ const SECOND_OUTPUT: usize = 23;
 
 const ROOM: usize = 9 * STRIDE;
 
-// The lists that are copied: the first ten records, and half a record more each time, up to all.
+// The lists that are copied: the first ten records, and one number more each time, up to all.
 const TEN: usize = 10 * STRIDE;
 
 const ALL: usize = 12 * STRIDE;
-
-const STEP: usize = STRIDE / 2;
 
 // The list on its way from the newer schema through the older. Its caller needs no promise.
 fn copied(
@@ -241,7 +254,7 @@ pub fn copies(at: usize, out: &mut [u8]) -> usize {
     let mut n: usize = TEN;
     while n <= ALL {
         to = copy_line(&list[0..n], to, out);
-        n += STEP;
+        n += 1;
     }
     to
 }

@@ -19,11 +19,16 @@ const WITHIN_SECOND: usize = STRIDE + 1;
 
 const TWO: usize = 2 * STRIDE;
 
+// Places of tags, which all three calls ignore: the largest number, and one of a bit alone. Others are small, and none is where a tag would be.
+pub const FAR: u64 = 0xffff_ffff_ffff_ffff;
+
+pub const HALF: u64 = 0x8000_0000_0000_0000;
+
 // Two fields of int32.
-pub const PLAIN: [u64; 2 * STRIDE] = [0, 1, 5, 150, 0, 0, 0, 1, 5, 7, 0, 0];
+pub const PLAIN: [u64; 2 * STRIDE] = [0, 1, 5, 150, 0, 0, FAR, 0, 1, 5, 7, 0, 0, 3];
 
 // A message head, and a field of it.
-const MESSAGE: [u64; 2 * STRIDE] = [0, 3, 11, 0, 0, 0, 1, 1, 13, 5, 0, 0];
+const MESSAGE: [u64; 2 * STRIDE] = [0, 3, 11, 0, 0, 0, HALF, 1, 1, 13, 5, 0, 0, FAR];
 
 // An int32, a packed head, and two elements of it.
 const PACKED: [u64; 4 * STRIDE] = [
@@ -33,6 +38,64 @@ const PACKED: [u64; 4 * STRIDE] = [
     1,
     0,
     0,
+    9,
+    0,
+    4,
+    20,
+    0,
+    0,
+    0,
+    FAR,
+    1,
+    4,
+    17,
+    1,
+    0,
+    0,
+    HALF,
+    1,
+    4,
+    17,
+    3,
+    0,
+    0,
+    1,
+];
+
+// An int32, a string of the payload's first byte, and another int32.
+const STRING: [u64; 3 * STRIDE] = [
+    0,
+    1,
+    5,
+    150,
+    0,
+    0,
+    FAR,
+    0,
+    2,
+    9,
+    0,
+    0,
+    1,
+    FAR,
+    0,
+    1,
+    5,
+    7,
+    0,
+    0,
+    HALF,
+];
+
+// Two packed heads, and an element of the second.
+const HEADS: [u64; 3 * STRIDE] = [
+    0,
+    4,
+    20,
+    0,
+    0,
+    0,
+    HALF,
     0,
     4,
     20,
@@ -40,24 +103,14 @@ const PACKED: [u64; 4 * STRIDE] = [
     0,
     0,
     1,
+    1,
     4,
     17,
     1,
     0,
     0,
-    1,
-    4,
-    17,
-    3,
-    0,
-    0,
+    FAR,
 ];
-
-// An int32, a string of the payload's first byte, and another int32.
-const STRING: [u64; 3 * STRIDE] = [0, 1, 5, 150, 0, 0, 0, 2, 9, 0, 0, 1, 0, 1, 5, 7, 0, 0];
-
-// Two packed heads, and an element of the second.
-const HEADS: [u64; 3 * STRIDE] = [0, 4, 20, 0, 0, 0, 0, 4, 20, 0, 0, 0, 1, 4, 17, 1, 0, 0];
 
 // A payload that is no UTF-8.
 const PAYLOAD: [u8; 1] = [0xff];

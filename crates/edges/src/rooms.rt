@@ -9,8 +9,8 @@ use printing::put_byte;
 use printing::put_rows;
 use printing::put_text;
 use read::Answer;
-use spec::columns::END;
 use spec::columns::STRIDE;
+use spec::columns::TAG;
 
 // Two records: the int32 150 and the bool 1.
 const BYTES: [u8; 5] = [0x08, 0x96, 0x01, 0x38, 0x01];
@@ -68,7 +68,7 @@ pub fn put_reading(call: &[u8], r: Answer, room: &[u64], at: usize, out: &mut [u
     if room.len() / STRIDE < count {
         return touched(true, told, out);
     }
-    put_room(room, count * STRIDE, END, b',', told, out)
+    put_room(room, count * STRIDE, TAG, b',', told, out)
 }
 
 // Reads into the first `n` numbers of a room.

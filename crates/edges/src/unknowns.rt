@@ -1,4 +1,6 @@
 // Sizes of unknown fields: of lists that end after a record and within one.
+use crate::lists::FAR;
+use crate::lists::HALF;
 use crate::parts::put_number;
 use crate::parts::put_sized;
 use printing::put_byte;
@@ -28,12 +30,10 @@ const LEFT: u64 = limits::LIMIT - 321 - 6;
 // How many numbers the list has.
 const NUMBERS: usize = 16 * STRIDE;
 
-// From one part of it to the next: half a record.
-const STEP: usize = STRIDE / 2;
-
 // First the four kinds: a varint of two bytes, a fixed64 with a tag of two bytes, contents of 127, of 128 and of no bytes (it ends before it starts),
 // and a fixed32. Then kinds that count nothing: a known one, the last before the four, and the first after them; and a varint at depth 3, which counts as
 // at depth 0. Then varints with the four numbers. Then the content that takes what is left of the limit, and a varint that is too much.
+// The places of their tags count nothing.
 const LIST: [u64; NUMBERS] = [
     0,
     1,
@@ -41,96 +41,112 @@ const LIST: [u64; NUMBERS] = [
     150,
     0,
     0,
+    FAR,
     0,
     16,
     UNKNOWN_FIXED64,
     7,
     0,
     0,
+    1,
     0,
     1,
     UNKNOWN_BYTES,
     0,
     2,
     129,
+    HALF,
     0,
     1,
     UNKNOWN_BYTES,
     0,
     2,
     130,
+    FAR,
     0,
     1,
     UNKNOWN_BYTES,
     0,
     5,
     4,
+    3,
     0,
     15,
     UNKNOWN_FIXED32,
     7,
     0,
     0,
+    4,
     0,
     1,
     INT32,
     150,
     0,
     0,
+    FAR,
     0,
     1,
     PACKED_HEAD,
     0,
     0,
     0,
+    HALF,
     0,
     1,
     GROUP_START,
     0,
     0,
     0,
+    FAR,
     3,
     1,
     UNKNOWN_VARINT,
     0,
     0,
     0,
+    6,
     0,
     LARGEST_FIELD,
     UNKNOWN_VARINT,
     0,
     0,
     0,
+    7,
     0,
     LAST_OF_64_BITS,
     UNKNOWN_VARINT,
     0,
     0,
     0,
+    FAR,
     0,
     FIRST_ABOVE,
     UNKNOWN_VARINT,
     0,
     0,
     0,
+    HALF,
     0,
     LARGEST,
     UNKNOWN_VARINT,
     0,
     0,
     0,
+    2,
     0,
     1,
     UNKNOWN_BYTES,
     0,
     0,
     LEFT,
+    FAR,
     0,
     1,
     UNKNOWN_VARINT,
     0,
     0,
     0,
+    HALF,
 ];
 
 // A line: how many numbers a list has, and its size.
@@ -141,14 +157,14 @@ fn size_line(list: &[u64], at: usize, out: &mut [u8]) -> usize {
     put_byte(b'\n', sized, out)
 }
 
-// A line for no records, for half of one, for one, and so on to all of them.
+// A line for no numbers, for one, for two, and so on to all of them.
 pub fn unknowns(at: usize, out: &mut [u8]) -> usize {
     let list = LIST;
     let mut to = at;
     let mut n: usize = 0;
     while n <= NUMBERS {
         to = size_line(&list[0..n], to, out);
-        n += STEP;
+        n += 1;
     }
     to
 }

@@ -13,10 +13,11 @@ use borrow.Author.Tests.{lt-ltb, le-ltb, lt-leb}
 use Rattle.spec.specs.Names.{mostEntries, mostTypes}
 use Rattle.spec.specs.Base.{if_then_else_, between, filled, limit}
 use Rattle.spec.specs.Schema.{Schema, badEntry, badSchema, schemaOf, copied, entryStride}
-use Rattle.spec.specs.Reading.{reading, readingAs, readingBy, called, refusedOr}
+use Rattle.spec.specs.Reading.{readingAs, readingBy, called, refusedOr}
 use Rattle.spec.specs.Record.{Record}
 use Rattle.spec.specs.Writing.{Verdict, written, listCheck, schemaFirst, judged, sized, writing, sizing}
 use Rattle.spec.specs.declared.Entry.{Entry}
+use Rattle.spec.specs.declared.Mode.{Mode}
 use Rattle.spec.proofs.SchemaLaws.{length-copied, schema-back, rest-bad}
 use Rattle.spec.proofs.VarintLaws.{lower-or-not}
 use Rattle.entries.specs.Copied.{mostNumbers, copiedTo, lentOf}
@@ -58,10 +59,10 @@ lent-alike types es a z la lz e = lower-or-not mostEntries (length es)
     let whole : z ≡ filled (copied es) a = e ∙ copied-to es a la ∙ ap (λ (l : List Entry). filled (copied l) a) (few-all es c) in
     one (ap (schemaOf types) (ap₂ take lent whole ∙ take-append-seam (copied es) (drop (length (copied es)) a)) ∙ schema-back types es))
 
-pub alike-reading : {a b : Schema} → Alike a b → (n : ℕ) (s : List ℕ) → reading a n s ≡ reading b n s
-unfolding reading readingAs readingBy called refusedOr
-alike-reading (one e) n s = ap (λ (x : Schema). reading x n s) e
-alike-reading (bad p q) n s = rw (p, q)
+pub alike-reading : {a b : Schema} → Alike a b → (mode : Mode) (n : ℕ) (s : List ℕ) → readingAs mode a n s ≡ readingAs mode b n s
+unfolding readingAs readingBy called refusedOr
+alike-reading (one e) mode n s = ap (λ (x : Schema). readingAs mode x n s) e
+alike-reading (bad p q) mode n s = rw (p, q)
 
 pub alike-check : {a b : Schema} → Alike a b → (payload : List ℕ) (rs : List Record) → listCheck a payload rs ≡ listCheck b payload rs
 unfolding listCheck schemaFirst

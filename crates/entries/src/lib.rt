@@ -5,7 +5,7 @@ ghost use Prim.Native.Nat.{_+_, _*_, _/_, _<_, _≤_};
 ghost use lib.ListN.{length, take};
 ghost use Rattle.spec.specs.Names.{childColumn, mostEntries};
 ghost use Rattle.spec.specs.Record.{recordsOf, stride};
-ghost use Rattle.spec.specs.Reading.{reading, number, place, listed, roomAfter};
+ghost use Rattle.spec.specs.Reading.{reading, readingAs, number, place, listed, roomAfter};
 ghost use Rattle.spec.specs.Schema.{entriesOf, schemaOf, placeOf, entryStride};
 ghost use Rattle.spec.specs.Writing.{listCheck, writing, sizing, output};
 ghost use Rattle.list.specs.Told.{asVerdict as verdict};
@@ -16,6 +16,7 @@ use list::Verdict;
 use read::Answer;
 use schema::Place;
 use spec::Entry;
+use spec::Mode;
 use spec::columns;
 use spec::limits;
 
@@ -104,28 +105,45 @@ fn prefix(count: usize) -> usize
 }
 
 // Reads under the numbers that a copy of so many entries left.
-fn read_copied(types: u32, count: usize, numbers: &[u32], s: &[u8], room: &mut [u64]) -> Answer
+fn read_copied(
+    mode: Mode,
+    types: u32,
+    count: usize,
+    numbers: &[u32],
+    s: &[u8],
+    room: &mut [u64],
+) -> Answer
     requires { ⌜ mostNumbers ≤ length (now numbers) ⌝ }
-    ensures { λ r. ⌜ (r .number ≡ number (reading (schemaOf types (take (lentOf count) (now (numbers .entry)))) (length (now (room .entry)) / stride) (now (s .entry))))
-        × (r .place ≡ place (reading (schemaOf types (take (lentOf count) (now (numbers .entry)))) (length (now (room .entry)) / stride) (now (s .entry))))
-        × (r .count ≡ length (listed (reading (schemaOf types (take (lentOf count) (now (numbers .entry)))) (length (now (room .entry)) / stride) (now (s .entry)))))
-        × (now (room .exit) ≡ roomAfter (reading (schemaOf types (take (lentOf count) (now (numbers .entry)))) (length (now (room .entry)) / stride) (now (s .entry))) (now (room .entry))) ⌝ }
+    ensures { λ r. ⌜ (r .number ≡ number (readingAs mode (schemaOf types (take (lentOf count) (now (numbers .entry)))) (length (now (room .entry)) / stride) (now (s .entry))))
+        × (r .place ≡ place (readingAs mode (schemaOf types (take (lentOf count) (now (numbers .entry)))) (length (now (room .entry)) / stride) (now (s .entry))))
+        × (r .count ≡ length (listed (readingAs mode (schemaOf types (take (lentOf count) (now (numbers .entry)))) (length (now (room .entry)) / stride) (now (s .entry)))))
+        × (now (room .exit) ≡ roomAfter (readingAs mode (schemaOf types (take (lentOf count) (now (numbers .entry)))) (length (now (room .entry)) / stride) (now (s .entry))) (now (room .entry))) ⌝ }
 {
     let k = prefix(count);
-    read::read(types, &numbers[..k], s, room)
+    read::read_as(mode, types, &numbers[..k], s, room)
 }
 
-// Reads the message `s` under a schema of these entries.
+// Reads the message `s` in this mode, under a schema of these entries.
+pub fn read_as(mode: Mode, types: u32, entries: &[Entry], s: &[u8], room: &mut [u64]) -> Answer
+    ensures { λ r. ⌜ (r .number ≡ number (readingAs mode (record { types = types; entries = now (entries .entry) }) (length (now (room .entry)) / stride) (now (s .entry))))
+        × (r .place ≡ place (readingAs mode (record { types = types; entries = now (entries .entry) }) (length (now (room .entry)) / stride) (now (s .entry))))
+        × (r .count ≡ length (listed (readingAs mode (record { types = types; entries = now (entries .entry) }) (length (now (room .entry)) / stride) (now (s .entry)))))
+        × (now (room .exit) ≡ roomAfter (readingAs mode (record { types = types; entries = now (entries .entry) }) (length (now (room .entry)) / stride) (now (s .entry))) (now (room .entry))) ⌝ }
+{
+    // ones, which are stored in a loop: zeros would be a call, and cost more than the rest of reading a short message
+    let mut numbers: [u32; MOST_NUMBERS] = [1; MOST_NUMBERS];
+    let count = copy(entries, &mut numbers);
+    read_copied(mode, types, count, &numbers, s, room)
+}
+
+// The same, where what is dropped gives no record.
 pub fn read(types: u32, entries: &[Entry], s: &[u8], room: &mut [u64]) -> Answer
     ensures { λ r. ⌜ (r .number ≡ number (reading (record { types = types; entries = now (entries .entry) }) (length (now (room .entry)) / stride) (now (s .entry))))
         × (r .place ≡ place (reading (record { types = types; entries = now (entries .entry) }) (length (now (room .entry)) / stride) (now (s .entry))))
         × (r .count ≡ length (listed (reading (record { types = types; entries = now (entries .entry) }) (length (now (room .entry)) / stride) (now (s .entry)))))
         × (now (room .exit) ≡ roomAfter (reading (record { types = types; entries = now (entries .entry) }) (length (now (room .entry)) / stride) (now (s .entry))) (now (room .entry))) ⌝ }
 {
-    // ones, which are stored in a loop: zeros would be a call, and cost more than the rest of reading a short message
-    let mut numbers: [u32; MOST_NUMBERS] = [1; MOST_NUMBERS];
-    let count = copy(entries, &mut numbers);
-    read_copied(types, count, &numbers, s, room)
+    read_as(Mode { dropped: false }, types, entries, s, room)
 }
 
 // The same under the numbers that a copy of so many entries left.
@@ -137,7 +155,7 @@ fn check_copied(types: u32, count: usize, numbers: &[u32], list: &[u64], payload
     list::check(types, &numbers[..k], list, payload)
 }
 
-// Checks a list of six numbers a record, whose contents lie in `payload`, under a schema of these entries.
+// Checks a list of seven numbers a record, whose contents lie in `payload`, under a schema of these entries.
 pub fn check(types: u32, entries: &[Entry], list: &[u64], payload: &[u8]) -> Verdict
     ensures { λ r. ⌜ verdict r ≡ listCheck (record { types = types; entries = now (entries .entry) }) (now (payload .entry)) (recordsOf (now (list .entry))) ⌝ }
 {
@@ -247,8 +265,9 @@ fn lend_write(
     write(types, &entries[..count], list, payload, out)
 }
 
-// Lends the first of these entries to `read`.
+// Lends the first of these entries to `read_as`.
 fn lend_read(
+    mode: Mode,
     types: u32,
     entries: [Entry; ONE_MORE],
     count: usize,
@@ -256,12 +275,12 @@ fn lend_read(
     room: &mut [u64],
 ) -> Answer
     requires { ⌜ count ≤ oneMore ⌝ }
-    ensures { λ r. ⌜ (r .number ≡ number (reading (record { types = types; entries = take count entries }) (length (now (room .entry)) / stride) (now (s .entry))))
-        × (r .place ≡ place (reading (record { types = types; entries = take count entries }) (length (now (room .entry)) / stride) (now (s .entry))))
-        × (r .count ≡ length (listed (reading (record { types = types; entries = take count entries }) (length (now (room .entry)) / stride) (now (s .entry)))))
-        × (now (room .exit) ≡ roomAfter (reading (record { types = types; entries = take count entries }) (length (now (room .entry)) / stride) (now (s .entry))) (now (room .entry))) ⌝ }
+    ensures { λ r. ⌜ (r .number ≡ number (readingAs mode (record { types = types; entries = take count entries }) (length (now (room .entry)) / stride) (now (s .entry))))
+        × (r .place ≡ place (readingAs mode (record { types = types; entries = take count entries }) (length (now (room .entry)) / stride) (now (s .entry))))
+        × (r .count ≡ length (listed (readingAs mode (record { types = types; entries = take count entries }) (length (now (room .entry)) / stride) (now (s .entry)))))
+        × (now (room .exit) ≡ roomAfter (readingAs mode (record { types = types; entries = take count entries }) (length (now (room .entry)) / stride) (now (s .entry))) (now (room .entry))) ⌝ }
 {
-    read(types, &entries[..count], s, room)
+    read_as(mode, types, &entries[..count], s, room)
 }
 
 // Lends the first of these entries to `lookup`.
@@ -343,17 +362,33 @@ fn type_count(types: u32, length: usize) -> u32
     types
 }
 
-// Reads the message `s` under a schema of five numbers an entry.
+// Reads the message `s` in this mode, under a schema of five numbers an entry.
+pub fn read_numbers_as(
+    mode: Mode,
+    types: u32,
+    numbers: &[u32],
+    s: &[u8],
+    room: &mut [u64],
+) -> Answer
+    ensures { λ r. ⌜ (r .number ≡ number (readingAs mode (schemaOf types (now (numbers .entry))) (length (now (room .entry)) / stride) (now (s .entry))))
+        × (r .place ≡ place (readingAs mode (schemaOf types (now (numbers .entry))) (length (now (room .entry)) / stride) (now (s .entry))))
+        × (r .count ≡ length (listed (readingAs mode (schemaOf types (now (numbers .entry))) (length (now (room .entry)) / stride) (now (s .entry)))))
+        × (now (room .exit) ≡ roomAfter (readingAs mode (schemaOf types (now (numbers .entry))) (length (now (room .entry)) / stride) (now (s .entry))) (now (room .entry))) ⌝ }
+{
+    let count = entry_count(numbers.len());
+    let entries = entries_from(numbers, count);
+    let known = type_count(types, numbers.len());
+    lend_read(mode, known, entries, count, s, room)
+}
+
+// The same, where what is dropped gives no record.
 pub fn read_numbers(types: u32, numbers: &[u32], s: &[u8], room: &mut [u64]) -> Answer
     ensures { λ r. ⌜ (r .number ≡ number (reading (schemaOf types (now (numbers .entry))) (length (now (room .entry)) / stride) (now (s .entry))))
         × (r .place ≡ place (reading (schemaOf types (now (numbers .entry))) (length (now (room .entry)) / stride) (now (s .entry))))
         × (r .count ≡ length (listed (reading (schemaOf types (now (numbers .entry))) (length (now (room .entry)) / stride) (now (s .entry)))))
         × (now (room .exit) ≡ roomAfter (reading (schemaOf types (now (numbers .entry))) (length (now (room .entry)) / stride) (now (s .entry))) (now (room .entry))) ⌝ }
 {
-    let count = entry_count(numbers.len());
-    let entries = entries_from(numbers, count);
-    let known = type_count(types, numbers.len());
-    lend_read(known, entries, count, s, room)
+    read_numbers_as(Mode { dropped: false }, types, numbers, s, room)
 }
 
 // The place of the first entry of this owner and number, among as many as `entry_count` says.
@@ -365,7 +400,7 @@ pub fn lookup_numbers(numbers: &[u32], owner: u32, number: u32) -> Place
     lend_lookup(entries, count, owner, number)
 }
 
-// Checks a list of six numbers a record, whose contents lie in `payload`, under a schema of five numbers an entry.
+// Checks a list of seven numbers a record, whose contents lie in `payload`, under a schema of five numbers an entry.
 pub fn check_numbers(types: u32, numbers: &[u32], list: &[u64], payload: &[u8]) -> Verdict
     ensures { λ r. ⌜ verdict r ≡ listCheck (schemaOf types (now (numbers .entry))) (now (payload .entry)) (recordsOf (now (list .entry))) ⌝ }
 {

@@ -14,7 +14,7 @@ use Rattle.spec.specs.Kind.{kindWires, ownWires, wires, wire, shapes, shape, is
 use Rattle.spec.specs.Schema.{Schema, goodEntry, badEntry, badSchema, lookup, unknownKind, kindOf, says, saysOf}
 use Rattle.spec.specs.Skip.{content}
 use Rattle.spec.specs.Record.{Record, row, deeper}
-use Rattle.spec.specs.Reading.{given, shaped, field, used, _followed-by_, element, elements, contents, records, fields, read, within, refusedOr, called, readingBy, readingAs, reading, plainly, number, listed}
+use Rattle.spec.specs.Reading.{given, shaped, field, used, _followed-by_, element, elements, contents, span, records, fields, read, within, refusedOr, called, readingBy, readingAs, reading, plainly, number, listed}
 use Rattle.spec.specs.Writing.{body, bytesOf, written, expected, fitting, inside, recordFault, listFault, schemaFirst, listCheck, judged, sized, Writing, Wrote, writing}
 use Rattle.spec.specs.declared.Entry.{Entry}
 use Rattle.spec.proofs.Cases.{schemaA, schemaB}
@@ -160,7 +160,7 @@ cases =
     ∷ []
 
 pub all-right : map goes cases ≡ map should cases
-unfolding schemaA schemaB newest middle oldest meaning require longer _>>=_ digit varint shortest zigzag unzigzag fixed little tag lead followers behind char chars validPrefix kindWires ownWires wires wire shapes shape isScalar scalar encoded fits goodEntry badEntry badSchema lookup unknownKind kindOf says saysOf content given shaped field used _followed-by_ element elements contents records fields read within refusedOr called readingBy readingAs reading number listed deeper body bytesOf written expected fitting inside recordFault listFault schemaFirst listCheck judged sized writing held seen rawOf raw unknown onwardOne onwardOf onward
+unfolding schemaA schemaB newest middle oldest meaning require longer _>>=_ digit varint shortest zigzag unzigzag fixed little tag lead followers behind char chars validPrefix kindWires ownWires wires wire shapes shape isScalar scalar encoded fits goodEntry badEntry badSchema lookup unknownKind kindOf says saysOf content given shaped field used _followed-by_ element elements contents span records fields read within refusedOr called readingBy readingAs reading number listed deeper body bytesOf written expected fitting inside recordFault listFault schemaFirst listCheck judged sized writing held seen rawOf raw unknown onwardOne onwardOf onward
 all-right = refl
 
 -- ---- the laws at these lists

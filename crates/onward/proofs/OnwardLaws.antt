@@ -17,7 +17,8 @@ use Rattle.spec.specs.Utf8.{utf8}
 use Rattle.spec.specs.Kind.{Scalar, Shape, one, other, string, bytes, message, packed, startGroup, endGroup, nothing, shapes, shape, wires, wire, encoded, fits}
 use Rattle.spec.specs.Schema.{Schema, badSchema, lookup, unknownKind, kindOf}
 use Rattle.spec.specs.Record.{Record, row, deeper}
-use Rattle.spec.specs.Reading.{Mode, looking, Done, Refused, read, within, refusedOr, called, readingBy, readingAs, listed, after}
+use Rattle.spec.specs.declared.Mode.{Mode}
+use Rattle.spec.specs.Reading.{looking, Done, Refused, read, within, refusedOr, called, readingBy, readingAs, listed, after}
 use Rattle.spec.specs.Writing.{prefixed, written, Fields, lies, Verdict, Fine, listFault, Wrote, Failed, judged, sized, writing, schemaFirst, listCheck}
 use Rattle.onward.specs.Onward.{Older, Seen, held, seen, rawOf, raw, bytesUnder, unknown, lacks, onwardOne, onwardOf, onward, Fewer, end, keep, GoesOnward, DemandThree}
 use Rattle.spec.proofs.Laws.{either-way, both-true, by-test}
@@ -51,7 +52,7 @@ content-alike s p q r (other startGroup) e = refl
 content-alike s p q r (other endGroup) e = refl
 content-alike s p q r (other nothing) e = refl
 
-pub same-seen : {s p : List ℕ} {q r : Record} → Same s p q r → seen s q ≡ seen p r
+same-seen : {s p : List ℕ} {q r : Record} → Same s p q r → seen s q ≡ seen p r
 unfolding seen
 same-seen {s} {p} {q} {r} h =
     let with : ℕ → ℕ → ℕ → ℕ → List ℕ → Seen = λ d n k v c. record { depth = d; number = n; kind = k; value = v; content = c } in

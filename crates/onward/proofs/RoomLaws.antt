@@ -4,15 +4,16 @@ use mathlib.Core.Path.{_≡_, ap, _∙_}
 use mathlib.Core.List.{List, append-nil}
 use Rattle.spec.specs.Schema.{Schema}
 use Rattle.spec.specs.Record.{Record, stored, recordsOf}
-use Rattle.spec.specs.Reading.{Mode, Done, readingAs, number, place, listed}
+use Rattle.spec.specs.declared.Mode.{Mode}
+use Rattle.spec.specs.Reading.{Done, readingAs, number, place, listed}
 use Rattle.spec.specs.Writing.{Wrote, writing}
 use Rattle.spec.proofs.RecordLaws.{after-number, after-place, after-listed}
-use Rattle.spec.proofs.FlatLaws.{writing-stored}
+use Rattle.spec.proofs.FlatLaws.{records-stored}
 use Rattle.onward.specs.Onward.{GoesOnward}
 
 pub again-from-room : {mode : Mode} {old new : Schema} {payload : List ℕ} {rs : List Record} {room space : ℕ} {s : List ℕ} (g : GoesOnward mode old new payload rs room space s)
     → writing old space s (recordsOf (stored (g .list))) ≡ Wrote s
-again-from-room {old} {space = space} {s = s} g = writing-stored old s space (g .list) ∙ g .again
+again-from-room {old} {space = space} {s = s} g = ap (writing old space s) (records-stored (g .list)) ∙ g .again
 
 -- the parts of the older schema's answer: number 0 at place 0, and the list, of which the room holds the numbers
 pub onward-answer : {mode : Mode} {old new : Schema} {payload : List ℕ} {rs : List Record} {room space : ℕ} {s : List ℕ} (g : GoesOnward mode old new payload rs room space s)

@@ -15,11 +15,13 @@ use Rattle.spec.specs.Base.{if_then_else_, part, limit}
 use Rattle.spec.specs.Varint.{encode}
 use Rattle.spec.specs.Kind.{Scalar, Shape, one, shape, encoded}
 use Rattle.spec.specs.Schema.{Schema, lookup, insideOf}
-use Rattle.spec.specs.Reading.{Mode, looking, contents, read}
+use Rattle.spec.specs.declared.Mode.{Mode}
+use Rattle.spec.specs.Reading.{looking, contents, read}
 use Rattle.spec.specs.Record.{Record, deeper}
+use Rattle.spec.specs.Spans.{isHead}
 use Rattle.spec.specs.Writing.{prefixed, Fields, listFault, schemaFirst, listCheck}
 use Rattle.onward.specs.Onward.{held, unknown}
-use Rattle.onward.specs.Under.{isHead, Among, first, later, nested, lifted, Opens, OpensAlone}
+use Rattle.onward.specs.Under.{Among, first, later, nested, lifted, Opens, OpensAlone}
 use Rattle.spec.proofs.SchemaLaws.{schema-kinds}
 use Rattle.spec.proofs.WritingLaws.{bytesIn}
 use Rattle.spec.proofs.RoundTrip.{stands-self, again, tagBytes, Values, no-value, value, Tree, no-field, number, text, blob, inner, row-of, shape-message, shape-packed, values-back, back}

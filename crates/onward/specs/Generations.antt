@@ -5,7 +5,7 @@ use mathlib.Core.List.{List}
 use mathlib.Core.Option.{none}
 use Rattle.spec.specs.Schema.{Schema, badSchema}
 use Rattle.spec.specs.Record.{Record}
-use Rattle.spec.specs.Reading.{Mode}
+use Rattle.spec.specs.declared.Mode.{Mode}
 use Rattle.spec.specs.Writing.{written}
 use Rattle.onward.specs.Onward.{Older, Given, GoesOnward}
 

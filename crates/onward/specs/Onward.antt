@@ -13,7 +13,8 @@ use Rattle.spec.specs.Varint.{zigzag}
 use Rattle.spec.specs.Kind.{Scalar, int32, uint32, uint64, bool, sint32, sint64, fixed32, sfixed32, fixed64, Shape, one, other, string, bytes, message, packed, startGroup, endGroup, nothing, shape, wire}
 use Rattle.spec.specs.Schema.{Schema, badSchema, lookup, unknownKind}
 use Rattle.spec.specs.Record.{Record, deeper}
-use Rattle.spec.specs.Reading.{Mode, Done, readingAs, after}
+use Rattle.spec.specs.declared.Mode.{Mode}
+use Rattle.spec.specs.Reading.{Done, readingAs, after}
 use Rattle.spec.specs.Writing.{bytesOf, written, Fine, listCheck, Wrote, writing}
 use Rattle.spec.specs.declared.Entry.{Entry}
 

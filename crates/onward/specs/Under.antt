@@ -2,25 +2,23 @@
 -- receives an unknown field from an older reader, and has the newer schema, has everything. Assumes nothing: these are definitions. Only laws cite it.
 use Prim.Native.Nat.{ℕ, _+_, _-_, _≤_}
 use mathlib.Core.Path.{_≡_}
-use mathlib.Core.Bool.{Bool, true}
+use mathlib.Core.Bool.{true}
 use mathlib.Core.List.{List, _∷_, map}
 use mathlib.Core.Option.{none}
 use lib.ListN.{length, take, drop}
 use lib.Dec.{eqb}
 use Rattle.spec.specs.Names.{messageKind, packedHead}
 use Rattle.spec.specs.Base.{if_then_else_, limit}
-use Rattle.spec.specs.Kind.{shape, headKind}
+use Rattle.spec.specs.Kind.{shape}
 use Rattle.spec.specs.Schema.{Schema, badSchema, lookup, insideOf}
 use Rattle.spec.specs.Record.{Record, row, deeper}
-use Rattle.spec.specs.Reading.{Mode, looking, Reading, Done, contents, read, after}
+use Rattle.spec.specs.declared.Mode.{Mode}
+use Rattle.spec.specs.Reading.{looking, Reading, Done, contents, read, after}
 use Rattle.spec.specs.Writing.{written, Fine, listCheck}
+use Rattle.spec.specs.Spans.{isHead}
 use Rattle.onward.specs.Onward.{seen, unknown}
 
 -- ---- a head somewhere in a list
-
--- of a message, or of a packed field
-abbrev pub isHead : Record → Bool
-isHead r = headKind (r .kind)
 
 -- The record r stands among the records of a message of this type, or in a message among them, at any depth. `under` are the records under it, and `inner` is what the
 -- schema says is in it: the type of a message's fields, or the kind of a packed field's elements.

@@ -9,7 +9,7 @@ use lib.ListN.{length, getD, drop, set, drop-of-length-le}
 use lib.Seq.{drop-cons}
 use borrow.Author.Tests.{lt-ltb, le-ltb, eq-eqb, ne-eqb}
 use Rattle.printing.specs.Text.{zeroGlyph, letters, blank, okText, refusedText, atText, put, puts, Shown, digitsOf, decimal, glyph, hexadecimal, rows, verdict, lines, header, listing}
-use Rattle.spec.specs.Names.{stopColumn}
+use Rattle.spec.specs.Names.{tagColumn}
 
 puts-append : (at : ℕ) (a b out : List ℕ) → puts at (a ++ b) out ≡ puts (puts at a out .0) b (puts at a out .1)
 unfolding puts
@@ -171,7 +171,7 @@ unfolding lines
 lined number count place list last s t u = shown-join s (shown-join t u)
 
 pub listed : {out a after : List ℕ} {at i next : ℕ} (number count place : ℕ) (list : List ℕ) (end : ℕ)
-    → Shown out at header a i → Shown a i (lines number count place list stopColumn end) after next
+    → Shown out at header a i → Shown a i (lines number count place list tagColumn end) after next
     → Shown out at (listing number count place list end) after next
 unfolding listing
 listed number count place list end s t = shown-join s t

@@ -5,7 +5,7 @@ use mathlib.Core.Path.{_≡_}
 use mathlib.Core.List.{List, [], _∷_, _++_}
 use lib.Dec.{ltb, eqb}
 use lib.ListN.{length, set}
-use Rattle.spec.specs.Names.{stopColumn}
+use Rattle.spec.specs.Names.{tagColumn}
 use Rattle.spec.specs.Base.{if_then_else_}
 
 -- ---- storing
@@ -83,11 +83,11 @@ verdict number count place =
     if eqb number 0 then okText ++ decimal count
     else refusedText ++ (decimal number ++ (atText ++ decimal place))
 
--- `depth number kind value start end`
+-- `depth number kind value start end tag`
 unfoldable pub header : List ℕ
 header =
     100 ∷ 101 ∷ 112 ∷ 116 ∷ 104 ∷ 32 ∷ 110 ∷ 117 ∷ 109 ∷ 98 ∷ 101 ∷ 114 ∷ 32 ∷ 107 ∷ 105 ∷ 110 ∷ 100 ∷ 32 ∷ 118 ∷ 97 ∷ 108 ∷ 117 ∷ 101 ∷ 32 ∷ 115 ∷ 116 ∷ 97
-    ∷ 114 ∷ 116 ∷ 32 ∷ 101 ∷ 110 ∷ 100 ∷ []
+    ∷ 114 ∷ 116 ∷ 32 ∷ 101 ∷ 110 ∷ 100 ∷ 32 ∷ 116 ∷ 97 ∷ 103 ∷ []
 
 -- The lines of a reading: one for each row, and how it ended; `end` stands before each.
 unfoldable pub lines : (number count place : ℕ) → List ℕ → (last end : ℕ) → List ℕ
@@ -95,4 +95,4 @@ lines number count place list last end = rows last end end blank 0 list ++ ((end
 
 -- The listing of records: the header, a line for each record, how the reading ended; `end` stands between lines.
 unfoldable pub listing : (number count place : ℕ) → List ℕ → (end : ℕ) → List ℕ
-listing number count place list end = header ++ lines number count place list stopColumn end
+listing number count place list end = header ++ lines number count place list tagColumn end

@@ -157,13 +157,13 @@ pub fn put_listing(
 ) -> usize
     ensures { λ r. ⌜ Shown (now (out .entry)) at (listing number count place (now (list .entry)) «line_end») (now (out .exit)) r ⌝ }
 {
-    let headed = put_text(b"depth number kind value start end", at, out);
+    let headed = put_text(b"depth number kind value start end tag", at, out);
     put_lines(
         number,
         count,
         place,
         list,
-        columns::END,
+        columns::TAG,
         line_end,
         headed,
         out,

@@ -14,6 +14,7 @@ use Rattle.spec.specs.Varint.{varint32, varint64, tag}
 use Rattle.spec.specs.Utf8.{utf8, validEnd}
 use Rattle.spec.specs.Kind.{Shape, one, other, string, bytes, message, packed, startGroup, endGroup, nothing, shape, scalar}
 use Rattle.spec.specs.Skip.{content, outerGroup}
+use Rattle.spec.specs.declared.Mode.{Mode}
 use Rattle.spec.specs.Reading as spec
 use Rattle.spec.proofs.Laws.{chosen, either-way, Takes, took, none, takes-tag}
 use Rattle.spec.proofs.ReadingLaws.{In, Sound, is-value, is-message, is-packed, field-sound}
@@ -108,7 +109,7 @@ module _ (depth at n m kind inner : ℕ) (s : List ℕ) where
         (ap (spec.Fault notUtf8) (omega (arith, at-letter at (at + n) s (omega arith) tagged c)))
     there-texted h (No k) c (refused-by o) = there-bad k o
 
-    there-bodied : (mode : spec.Mode) (x : Shape) → headOf x ≡ headTest kind → there (bodied x depth (at + n) behind) ≡ spec.shaped mode x depth inner m kind n behind
+    there-bodied : (mode : Mode) (x : Shape) → headOf x ≡ headTest kind → there (bodied x depth (at + n) behind) ≡ spec.shaped mode x depth inner m kind n behind
     unfolding resolved fromBody bodied spec.shaped headOf
     there-bodied mode (one c) h = there-valued h (ordinary-scalar c behind)
     there-bodied mode (other string) h = there-texted h (content varint32 behind) refl (ordinary-content _ _ behind)

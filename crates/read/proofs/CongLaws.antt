@@ -14,7 +14,8 @@ use Rattle.spec.specs.Kind.{Shape, one, other, string, bytes, message, packed, 
 use Rattle.spec.specs.Schema.{Says}
 use Rattle.spec.specs.Skip.{content, outerGroup}
 use Rattle.spec.specs.Record.{row}
-use Rattle.spec.specs.Reading.{Mode, Look, Field, Value, Message, Packed, Dropped, Fault, given, shaped, field, used, Reading, _then_, _followed-by_, records, fields, read}
+use Rattle.spec.specs.declared.Mode.{Mode}
+use Rattle.spec.specs.Reading.{Look, Field, Value, Message, Packed, Dropped, Fault, given, shaped, field, used, Reading, _then_, _followed-by_, records, fields, read}
 use Rattle.spec.proofs.Laws.{either-way}
 use Rattle.spec.proofs.SkipLaws.{tag-read}
 use Rattle.spec.proofs.VarintLaws.{top, varint-took}

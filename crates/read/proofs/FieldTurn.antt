@@ -9,22 +9,24 @@ use lib.ListN.{length, getD, drop, length-drop, drop-of-length-le}
 use lib.Seq.{drop-drop, drop-cons}
 use lib.Dec.{leb, eqb}
 use borrow.Author.Tests.{le-leb, lt-ltb, eq-eqb, ne-eqb, eqb-true, eqb-false, leb-true}
-use Rattle.spec.specs.Names.{messageKind, packedHead, varintWire, noRoom}
+use Rattle.spec.specs.Names.{droppedSpan, messageKind, packedHead, varintWire, noRoom}
 use Rattle.spec.specs.Base.{part, Read, Took, No, require}
 use Rattle.spec.specs.Varint.{varint, tag}
 use Rattle.spec.specs.Kind.{Shape, one, other, shape}
 use Rattle.spec.specs.Schema.{Says}
 use Rattle.spec.specs.Skip.{outerGroup}
-use Rattle.spec.specs.Record.{Record, row, stride, numbers}
+use Rattle.spec.specs.Record.{Record, row, stride}
 use Rattle.spec.specs.Reading as spec
-use Rattle.spec.specs.Reading.{Look, Reading, Done, Refused, _then_, _followed-by_, contents, records, read, used}
+use Rattle.spec.specs.declared.Mode.{Mode}
+use Rattle.spec.specs.Reading.{Look, Reading, Done, Refused, _then_, _followed-by_, contents, span, records, read, used}
 use Rattle.spec.proofs.Laws.{chosen, by-test}
+use Rattle.spec.proofs.FieldLaws.{span-none, span-asked}
 use Rattle.spec.proofs.ReadingLaws.{Sound, is-fault, read-nil, read-cons, field-sound}
 use Rattle.skip.specs.declared.field.Past.{Past}
 use Rattle.skip.specs.declared.field.Past.the-variants as past
 use Rattle.skip.specs.Passed as skip
 use Rattle.skip.proofs.SkipAnswers.{takes-outer}
-use Rattle.read.specs.Answers.{scalarOf, Shortly, meantBy, Tells, tells, tells-not, asked, refusedIn, rowField, resolved, Held}
+use Rattle.read.specs.Answers.{scalarOf, Shortly, meantBy, Tells, tells, tells-not, asked, refusedIn, rowField, skippedRow, resolved, Held}
 use Rattle.read.specs.Emit.{Left, left, placed, emit}
 use Rattle.read.specs.declared.room.Step.{Step}
 use Rattle.read.specs.declared.room.Step.the-variants.{Go, Stop}
@@ -37,7 +39,7 @@ use Rattle.read.specs.declared.scalar.Meant.the-variants as meant
 use Rattle.read.specs.declared.classify.Row.{Row}
 use Rattle.read.specs.declared.classify.Field.{Field}
 use Rattle.read.specs.declared.classify.Field.the-variants as field
-use Rattle.read.proofs.AskedLaws.{asked-group}
+use Rattle.read.proofs.AskedLaws.{asked-held, asked-group}
 use Rattle.read.proofs.EmitLaws.{call-stop, call-go, emit-room, emit-full, placed-length}
 use Rattle.read.proofs.Turn.{Here, ends, stops, stored, took-in, takes-of, short-scalar}
 
@@ -67,7 +69,7 @@ part-at at a e s h =
     let y : at + (a - at) ≡ a = omega arith in
     rw (x, drop-drop, y)
 
-module _ (mode : spec.Mode) (inner : ℕ → ℕ → List ℕ → Reading) {depth at most : ℕ} {f : Row} (h : Held depth at most f) (off : ℕ) (s : List ℕ) where
+module _ (mode : Mode) (inner : ℕ → ℕ → List ℕ → Reading) {depth at most : ℕ} {f : Row} (h : Held depth at most f) (off : ℕ) (s : List ℕ) where
   abbrev recs : Reading
   recs = records mode inner depth (off + at) (drop at s) (rowField at f)
 
@@ -93,13 +95,16 @@ module _ (mode : spec.Mode) (inner : ℕ → ℕ → List ℕ → Reading) {dept
       let differ : eqb (f .start - at) (f .end - at) ≡ false = ne-eqb (f .start - at) (f .end - at) (λ e. some (omega (arith, h .behind, h .ordered, e))) in
       rw (h .packed-zero k, k, differ, from-start, to-end, content-part)
 
-  row-empty : f .kind ≡ packedHead → f .start ≡ f .end → recs ≡ Done
+  row-empty : f .kind ≡ packedHead → f .start ≡ f .end → recs ≡ span mode depth (f .number) (off + at) (off + f .end - (off + at))
   unfolding records
-  row-empty k same = let alike : eqb (f .start - at) (f .end - at) ≡ true = eq-eqb (f .start - at) (f .end - at) (omega (arith, same)) in rw (k, alike)
+  row-empty k same =
+      let alike : eqb (f .start - at) (f .end - at) ≡ true = eq-eqb (f .start - at) (f .end - at) (omega (arith, same)) in
+      let long : f .end - at ≡ off + f .end - (off + at) = omega arith in
+      rw (k, alike, long)
 
-  pub row-none : f .kind ≡ packedHead → f .start ≡ f .end → (room : List ℕ) (to : ℕ) → left (Go to) room ≡ emit room to recs
-  unfolding emit
-  row-none k same room to = sym (ap (emit room to) (row-empty k same))
+  pub row-dropped : f .kind ≡ packedHead → f .start ≡ f .end → (room : List ℕ) (to : ℕ) {x : Left}
+      → x ≡ emit room to (span mode depth (f .number) (off + at) (off + f .end - (off + at))) → x ≡ emit room to recs
+  row-dropped k same room to e = e ∙ sym (ap (emit room to) (row-empty k same))
 
   pub row-value : (f .kind ≡ messageKind → ⊥) → (f .kind ≡ packedHead → ⊥) → recs ≡ (this then Done)
   unfolding records
@@ -127,6 +132,26 @@ pub put-only : (room : List ℕ) (to : ℕ) {room′ : List ℕ} {to′ : ℕ} {
     → room′ ≡ placed room to r → to′ ≡ to + stride → left (Go to′) room′ ≡ emit room to all
 unfolding emit
 put-only room to e l is next = put-then room to e l is next refl
+
+-- ---- what is dropped: no record, or one with its span
+
+module _ (mode : Mode) (depth m tag end : ℕ) (room : List ℕ) (to : ℕ) where
+  abbrev dropping : Reading
+  dropping = span mode depth m tag (end - tag)
+
+  pub span-passed : mode .dropped ≡ false → left (Go to) room ≡ emit room to dropping
+  unfolding emit
+  span-passed h = sym (ap (emit room to) (span-none mode depth m tag (end - tag) h))
+
+  module _ (h : mode .dropped ≡ true) where
+    pub span-full : to ≤ length room → length room - to < stride → left (Stop noRoom to tag) room ≡ emit room to dropping
+    span-full i l = sym (ap (emit room to) (span-asked mode depth m tag (end - tag) h) ∙ emit-full room to _ Done (omega arith))
+
+    pub span-stored : tag ≤ end → to + stride ≤ length room → {room′ : List ℕ} {to′ : ℕ} → room′ ≡ placed room to (row depth m droppedSpan 0 tag end tag) → to′ ≡ to + stride
+        → left (Go to′) room′ ≡ emit room to dropping
+    span-stored i l is next =
+        let there : tag + (end - tag) ≡ end = omega arith in
+        put-only room to (span-asked mode depth m tag (end - tag) h ∙ rw there) l is next
 
 -- the same place of a loop, said otherwise
 pub moved : {f : ℕ → List ℕ → Reading} {s : List ℕ} {off : ℕ} {room₀ : List ℕ} {from b : ℕ} {room : List ℕ} {at to : ℕ} {room′ : List ℕ} {at′ to′ : ℕ}
@@ -161,13 +186,37 @@ module _ (look : Look) (depth ty : ℕ) where
     unfolding records used _followed-by_
     value m k v a e is = turned (spec.Value m k v a e) is
 
-    dropped : (m e : ℕ) → stands (spec.Dropped m e) → todo at ≡ todo (at + e)
-    unfolding records used _followed-by_
-    dropped m e is = turned (spec.Dropped m e) is
-
     fault : (k p : ℕ) → stands (spec.Fault k p) → todo at ≡ Refused k (off + at + p)
     unfolding records used _followed-by_
     fault k p is = turned (spec.Fault k p) is
+
+-- The field at a place gives the records of a row, and ends where the row does.
+pub record Given (look : Look) (depth ty : ℕ) (s : List ℕ) (off at : ℕ) (f : Row) : Type 0 where
+  pub held : Held depth at (length s) f
+  pub same : records (look .mode) (read look (depth + 1)) depth (off + at) (drop at s) (spec.field look depth ty (drop at s))
+      ≡ records (look .mode) (read look (depth + 1)) depth (off + at) (drop at s) (rowField at f)
+  pub ends : at + used (spec.field look depth ty (drop at s)) ≡ f .end
+
+used-row : {depth at most : ℕ} {f : Row} → Held depth at most f → at + used (rowField at f) ≡ f .end
+unfolding used
+used-row {at = at} {f = f} held =
+    by-test (eqb (f .kind) messageKind)
+    (λ k. rw (eqb-true (f .kind) messageKind k) (omega (arith, held .behind, held .ordered)))
+    (λ j. by-test (eqb (f .kind) packedHead)
+    (λ k. rw (eqb-true (f .kind) packedHead k) (omega (arith, held .behind, held .ordered)))
+    (λ k. rw (j, k) (omega (arith, held .behind, held .ordered))))
+
+-- a group that was skipped: its row is that of an empty packed field
+group-row : {look : Look} {depth ty : ℕ} {s : List ℕ} {off at m end : ℕ} → spec.field look depth ty (drop at s) ≡ spec.Dropped m (end - at) → at < end → end ≤ length s
+    → Given look depth ty s off at (skippedRow m end)
+unfolding records used
+group-row {look} {depth} {ty} {s} {off} {at} {m} {end} same i j =
+    let alike : eqb (end - at) (end - at) ≡ true = eq-eqb (end - at) (end - at) refl in
+    record {
+      held = record { behind = i; ordered = omega arith; inside = j; shallow = λ e. absurd (omega arith); message-zero = λ e. refl; packed-zero = λ e. refl };
+      same = rw (same, alike);
+      ends = rw same (omega arith);
+    }
 
 -- ---- a loop over the fields
 
@@ -181,6 +230,29 @@ module _ (look : Look) (depth ty : ℕ) {s : List ℕ} {off : ℕ} {room₀ : Li
 
   pub fields-end : length s ≤ at → left (Go to) room ≡ all
   fields-end l = from-first (ends (h .further) (ap (read look depth ty (off + at)) (drop-of-length-le s {i = at} l) ∙ read-nil look depth ty (off + at)))
+
+  -- a field, whose records another stores
+  module _ (lt : at < length s) {f : Row} (g : Given look depth ty s off at f) {a : Step} {room′ : List ℕ}
+      (called : left a room′ ≡ emit room to (records (look .mode) (read look (depth + 1)) depth (off + at) (drop at s) (rowField at f))) where
+    there : emit room₀ from (read look depth ty (off + 0) (drop 0 s))
+        ≡ emit room to (records (look .mode) (read look (depth + 1)) depth (off + at) (drop at s) (rowField at f) followed-by read look depth ty (off + f .end) (drop (f .end) s))
+    there = h .further .same ∙ ap (emit room to) (turned look depth ty s off at lt _ refl ∙ rw (g .same, g .ends))
+
+    pub row-stops : {k n p : ℕ} → a ≡ Stop k n p → left (Stop k n p) room′ ≡ all
+    row-stops z = ap (λ (x : Step). left x room′) (sym z) ∙ from-first (call-stop room to _ _ there called z)
+
+    pub row-goes : {n : ℕ} → a ≡ Go n → length room′ ≡ length room → Here (read look depth ty) s off room₀ 0 from room′ (f .end) n
+    row-goes {n} z l =
+        record {
+          further =
+              record {
+                same = call-go room to _ _ there called z;
+                on = omega arith;
+                inside = g .held .inside;
+                fits = goes-on (subst Fits (sym called ∙ ap (λ (x : Step). left x room′) z) (emit-fits _ room to (h .further .fits)));
+                kept = l ∙ h .further .kept;
+              };
+        }
 
   module _ (lt : at < length s) {r : Field} (e : resolved depth at s r ≡ spec.field look depth ty (drop at s)) where
     is-field : {x : Field} → r ≡ x → resolved depth at s x ≡ spec.field look depth ty (drop at s)
@@ -199,39 +271,16 @@ module _ (look : Look) (depth ty : ℕ) {s : List ℕ} {off : ℕ} {room₀ : Li
           from-first (stops (h .further) (fault look depth ty s off at lt k (refusedIn k (drop at s)) (is-field is) ∙ rw q))
 
     -- a record, which another stores
-    module _ {f : Row} (is : r ≡ field.Of f) (held : Held depth at (length s) f) {a : Step} {room′ : List ℕ}
-        (called : left a room′ ≡ emit room to (records (look .mode) (read look (depth + 1)) depth (off + at) (drop at s) (rowField at f))) where
-      used-row : at + used (rowField at f) ≡ f .end
-      unfolding used
-      used-row =
-          by-test (eqb (f .kind) messageKind)
-          (λ k. rw (eqb-true (f .kind) messageKind k) (omega (arith, held .behind, held .ordered)))
-          (λ j. by-test (eqb (f .kind) packedHead)
-          (λ k. rw (eqb-true (f .kind) packedHead k) (omega (arith, held .behind, held .ordered)))
-          (λ k. rw (j, k) (omega (arith, held .behind, held .ordered))))
-
-      there : emit room₀ from (read look depth ty (off + 0) (drop 0 s))
-          ≡ emit room to (records (look .mode) (read look (depth + 1)) depth (off + at) (drop at s) (rowField at f) followed-by read look depth ty (off + f .end) (drop (f .end) s))
-      unfolding resolved
-      there =
-          h .further .same
-          ∙ ap (emit room to) (turned look depth ty s off at lt (rowField at f) (is-field is) ∙ rw used-row)
-
-      pub row-stops : {k n p : ℕ} → a ≡ Stop k n p → left (Stop k n p) room′ ≡ all
-      row-stops z = ap (λ (x : Step). left x room′) (sym z) ∙ from-first (call-stop room to _ _ there called z)
-
-      pub row-goes : {n : ℕ} → a ≡ Go n → length room′ ≡ length room → Here (read look depth ty) s off room₀ 0 from room′ (f .end) n
-      row-goes {n} z l =
-          record {
-            further =
-                record {
-                  same = call-go room to _ _ there called z;
-                  on = omega arith;
-                  inside = held .inside;
-                  fits = goes-on (subst Fits (sym called ∙ ap (λ (x : Step). left x room′) z) (emit-fits _ room to (h .further .fits)));
-                  kept = l ∙ h .further .kept;
-                };
-          }
+    pub row-given : {f : Row} → r ≡ field.Of f → r ≡ asked look depth ty at s → Given look depth ty s off at f
+    unfolding resolved
+    row-given {f} is asks =
+        let held = asked-held look depth ty at s f (sym asks ∙ is) in
+        let same : spec.field look depth ty (drop at s) ≡ rowField at f = sym (is-field is) in
+        record {
+          held = held;
+          same = ap (records (look .mode) (read look (depth + 1)) depth (off + at) (drop at s)) same;
+          ends = ap (λ (x : spec.Field). at + used x) same ∙ used-row held;
+        }
 
     -- a group, which is skipped
     module _ {m next : ℕ} (is : r ≡ field.Group m next) {q : Past} (skipped : skip.past next q ≡ outerGroup depth (drop next s)) where
@@ -242,33 +291,16 @@ module _ (look : Look) (depth ty : ℕ) {s : List ℕ} {off : ℕ} {room₀ : Li
           let at-once : off + at + 0 ≡ off + at = omega arith in
           from-first (stops (h .further) (fault look depth ty s off at lt k 0 (ap (λ (x : Read). spec.given x (λ v l. spec.Dropped m (next - at + l))) (sym none-there) ∙ is-field is) ∙ rw at-once))
 
-      module _ (asks : r ≡ asked look depth ty at s) {end : ℕ} (z : q ≡ past.To end) where
-        took-group : outerGroup depth (drop next s) ≡ Took 0 (end - next)
-        took-group = sym skipped ∙ ap (skip.past next) z
-
-        next-in : at < next
-        next-in = asked-group look depth ty at s (sym asks ∙ is) .0
-
-        pub group-within : (at < end) × (end ≤ length s)
-        group-within =
-            let k = took-in (takes-outer depth (drop next s)) took-group in
-            (omega (arith, next-in, k .0), omega (arith, k .0, k .1, length-drop next s))
-
-        pub group-past : Here (read look depth ty) s off room₀ 0 from room end to
-        unfolding resolved spec.given
-        group-past =
-            let k = took-in (takes-outer depth (drop next s)) took-group in
-            let behind : at + (next - at + (end - next)) ≡ end = omega (arith, next-in, k .0) in
-            record {
-              further =
-                  record {
-                    same = h .further .same ∙ ap (emit room to) (dropped look depth ty s off at lt m (next - at + (end - next)) (ap (λ (x : Read). spec.given x (λ v l. spec.Dropped m (next - at + l))) (sym took-group) ∙ is-field is) ∙ rw behind);
-                    on = omega arith;
-                    inside = group-within .1;
-                    fits = h .further .fits;
-                    kept = h .further .kept;
-                  };
-            }
+      pub group-given : r ≡ asked look depth ty at s → {end : ℕ} → q ≡ past.To end → {f : Row} → f ≡ skippedRow m end → Given look depth ty s off at f
+      unfolding resolved spec.given
+      group-given asks {end} z {f} row =
+          let took-group : outerGroup depth (drop next s) ≡ Took 0 (end - next) = sym skipped ∙ ap (skip.past next) z in
+          let in-it = asked-group look depth ty at s (sym asks ∙ is) in
+          let k = took-in (takes-outer depth (drop next s)) took-group in
+          let long : next - at + (end - next) ≡ end - at = omega (arith, in-it .0, k .0) in
+          let same : spec.field look depth ty (drop at s) ≡ spec.Dropped m (end - at) =
+          sym (ap (λ (x : Read). spec.given x (λ v l. spec.Dropped m (next - at + l))) (sym took-group) ∙ is-field is) ∙ ap (spec.Dropped m) long in
+          rw row (group-row same (omega (arith, in-it .0, k .0)) (omega (arith, k .0, k .1, length-drop next s)))
 
 -- ---- a short integer after a tag of one byte
 
@@ -276,7 +308,7 @@ tag-one : (c : ℕ) (l : List ℕ) → 8 ≤ c → c < 128 → c % 8 ≡ varintW
 unfolding tag varint require
 tag-one c l h j z = rw (lt-ltb c 128 j, z, le-leb 1 (c / 8) (omega arith))
 
-shaped-one : (mode : spec.Mode) (x : Shape) (depth inner m kind n : ℕ) (l : List ℕ) {w z : ℕ} → scalarOf x l ≡ Took w z → spec.shaped mode x depth inner m kind n l ≡ spec.Value m kind w n (n + z)
+shaped-one : (mode : Mode) (x : Shape) (depth inner m kind n : ℕ) (l : List ℕ) {w z : ℕ} → scalarOf x l ≡ Took w z → spec.shaped mode x depth inner m kind n l ≡ spec.Value m kind w n (n + z)
 unfolding spec.shaped scalarOf spec.given
 shaped-one mode (one c) depth inner m kind n l e = rw e
 shaped-one mode (other x) depth inner m kind n l e = let z : _≡_ {A = ℕ} 0 1 = cc in absurd (omega arith)
@@ -306,14 +338,13 @@ module _ (look : Look) (depth ty : ℕ) {s : List ℕ} {off : ℕ} {room₀ : Li
       let tagged : tag (drop at s) ≡ Took c 1 = ap tag front ∙ tag-one c (drop (suc at) s) (q .0) (q .1) (q .2) in
       sym (rw (tagged, drop-drop, q .3) (shaped-one (look .mode) (shape k) depth (look .says ty c .inner) (c / 8) k 1 (drop (at + 1) s) int-here))
 
-  pub int-stored : {room′ : List ℕ} {to′ : ℕ} → to + stride ≤ length room
-      → room′ ≡ placed room to (row depth (c / 8) k w (off + at + 1) (off + at + 1 + n) 0) → to′ ≡ to + stride
-      → Here (read look depth ty) s off room₀ from b room′ (at + (1 + n)) to′
-  unfolding numbers
-  int-stored l put next =
-      let end : off + at + 1 + n ≡ off + at + (1 + n) = omega arith in
+  pub int-stored : {tag : ℕ} → tag ≡ off + at → {room′ : List ℕ} {to′ : ℕ} → to + stride ≤ length room
+      → room′ ≡ placed room to (row depth (c / 8) k w (tag + 1) (tag + (n + 1)) tag) → to′ ≡ to + stride
+      → Here (read look depth ty) s off room₀ from b room′ (at + (n + 1)) to′
+  int-stored {tag} here l put next =
+      let size : 1 + n ≡ n + 1 = omega arith in
       record {
         further =
-            stored (h .further) (value look depth ty s off at (omega arith) (c / 8) k w 1 (1 + n) int-field) (omega arith) (omega (arith, int-within .1)) l
-            (put ∙ ap (λ (x : ℕ). placed room to (row depth (c / 8) k w (off + at + 1) x 0)) end) next;
+            stored (h .further) (value look depth ty s off at (omega arith) (c / 8) k w 1 (n + 1) (rw size at int-field) ∙ rw (sym here)) (omega arith) (omega (arith, int-within .1)) l
+            put next;
       }

@@ -13,7 +13,7 @@ use Rattle.spec.specs.Names.{noRoom}
 use Rattle.spec.specs.Base.{Read, Took, No, meaning, require}
 use Rattle.spec.specs.Varint.{unzigzag}
 use Rattle.spec.specs.Kind.{Scalar, int32, uint32, uint64, bool, sint32, sint64, fixed32, sfixed32, fixed64, Shape, one, other, shape, isScalar, scalar}
-use Rattle.spec.specs.Record.{Record, row, stride, numbers}
+use Rattle.spec.specs.Record.{Record, row, stride}
 use Rattle.spec.specs.Reading.{Reading, Done, Refused, _then_, element, elements, contents}
 use Rattle.spec.proofs.Laws.{Takes, took, none, takes-scalar}
 use Rattle.spec.proofs.ReadingLaws.{elements-cons}
@@ -213,9 +213,8 @@ module _ (depth number kind tag : ℕ) {p : List ℕ} {off : ℕ} {room₀ : Lis
     element-within is = found-size p off depth number kind tag lt is e
 
     pub element-stored : {v next : ℕ} → r ≡ found.Value v next → {room′ : List ℕ} {to′ : ℕ} → to + stride ≤ length room
-        → room′ ≡ placed room to (row depth number kind v (off + at) (off + next) 0) → to′ ≡ to + stride
+        → room′ ≡ placed room to (row depth number kind v (off + at) (off + next) tag) → to′ ≡ to + stride
         → Here (contents (shape kind) depth number kind tag) p off room₀ 0 from room′ next to′
-    unfolding numbers
     element-stored is l put next =
         let k = element-within is in
         record { further = stored (h .further) (found-here p off depth number kind tag lt is e) (omega (arith, k .0)) (k .1) l put next }
@@ -230,9 +229,12 @@ module _ (depth number kind tag : ℕ) {p : List ℕ} {off : ℕ} {room₀ : Lis
   pub short-within : (1 ≤ n) × (at + n ≤ length p)
   short-within = element-size p off depth number kind tag lt {v = w} {n = n} this
 
-  pub short-stored : {room′ : List ℕ} {to′ : ℕ} → to + stride ≤ length room
-      → room′ ≡ placed room to (row depth number kind w (off + at) (off + (at + n)) 0) → to′ ≡ to + stride
+  pub short-stored : {start : ℕ} → start ≡ off + at → {room′ : List ℕ} {to′ : ℕ} → to + stride ≤ length room
+      → room′ ≡ placed room to (row depth number kind w start (start + n) tag) → to′ ≡ to + stride
       → Here (contents (shape kind) depth number kind tag) p off room₀ from b room′ (at + n) to′
-  unfolding numbers
-  short-stored l put next =
-      record { further = stored (h .further) (element-here p off depth number kind tag lt {v = w} {n = n} this) (omega arith) (short-within .1) l put next }
+  short-stored {start} here l put next =
+      let end : off + (at + n) ≡ start + n = omega arith in
+      record {
+        further =
+            stored (h .further) (element-here p off depth number kind tag lt {v = w} {n = n} this ∙ rw (sym here, end)) (omega arith) (short-within .1) l put next;
+      }

@@ -193,6 +193,10 @@ asField m kind inner v a e =
 abbrev pub rowField : ℕ → Row → spec.Field
 rowField at r = asField (r .number) (r .kind) (r .inner) (r .value) (r .start - at) (r .end - at)
 
+-- A group that was skipped up to `end`, as the row of an empty packed field: both are dropped in the same way.
+abbrev pub skippedRow : (number end : ℕ) → Row
+skippedRow m e = record { number = m; kind = packedHead; inner = 0; value = 0; start = e; end = e }
+
 unfoldable pub resolved : (depth at : ℕ) → List ℕ → Field → spec.Field
 resolved depth at s (field.Of r) = rowField at r
 resolved depth at s (field.Group m next) = spec.given (outerGroup depth (drop next s)) λ v l. spec.Dropped m (next - at + l)

@@ -4,7 +4,8 @@ use Prim.Native.Nat.{ℕ}
 use mathlib.Core.Path.{_≡_}
 use mathlib.Core.List.{List}
 use Rattle.spec.specs.Schema.{Schema, badSchema}
-use Rattle.spec.specs.Reading.{Mode, Look, readingBy, readingAs}
+use Rattle.spec.specs.declared.Mode.{Mode}
+use Rattle.spec.specs.Reading.{Look, readingBy, readingAs}
 use Rattle.schema.specs.Tables.{keysOf, infoOf, tableSays}
 
 -- what two tables say, and the mode

@@ -7,7 +7,8 @@ ghost use lib.ListN.{length, drop};
 ghost use Rattle.spec.specs.Varint.{tag};
 ghost use Rattle.spec.specs.Kind.{shape, headKind};
 ghost use Rattle.spec.specs.Skip.{content};
-ghost use Rattle.spec.specs.Reading.{plainly, field};
+ghost use Rattle.spec.specs.declared.Mode.{Mode};
+ghost use Rattle.spec.specs.Reading.{field};
 ghost use Rattle.schema.specs.Layout.{keyCount};
 ghost use Rattle.schema.specs.Tables.{tableSays};
 ghost use Rattle.skip.specs.Spans.{spanAt};
@@ -309,8 +310,8 @@ pub fn field_at(
     ty: u32,
     depth: u32,
 ) -> Field
-    ensures { λ r. ⌜ (resolved depth at (now (s .entry)) r ≡ field (prepared plainly (now (keys .entry)) (now (info .entry))) depth ty (drop at (now (s .entry))))
-        × (r ≡ asked (prepared plainly (now (keys .entry)) (now (info .entry))) depth ty at (now (s .entry))) ⌝ }
+    ensures { λ r. ⌜ ((mode : Mode) → (resolved depth at (now (s .entry)) r ≡ field (prepared mode (now (keys .entry)) (now (info .entry))) depth ty (drop at (now (s .entry))))
+        × (r ≡ asked (prepared mode (now (keys .entry)) (now (info .entry))) depth ty at (now (s .entry)))) ⌝ }
 {
     match tag_at(keys, info, s, at, ty) {
         Tag::Of {

@@ -3,9 +3,10 @@ ghost use mathlib.Core.Path.{_≡_};
 ghost use Prim.Native.Nat.{_+_, _^_, _≤_, _<_};
 ghost use lib.ListN.{length, drop};
 ghost use Rattle.spec.specs.Names.{mostLevels, mostTypes};
-ghost use Rattle.spec.specs.Reading.{plainly, records, read};
+ghost use Rattle.spec.specs.declared.Mode.{Mode};
+ghost use Rattle.spec.specs.Reading.{records, read};
 ghost use Rattle.schema.specs.Tables.{tableSays};
-ghost use Rattle.read.specs.Answers.{Held, Tells, rowField};
+ghost use Rattle.read.specs.Answers.{Held, Tells, rowField, skippedRow};
 ghost use Rattle.read.specs.Emit.{left, emit, Further};
 ghost use Rattle.read.specs.Prepared.{prepared};
 use crate::classify::Field;
@@ -16,6 +17,7 @@ use crate::packed::packed;
 use crate::room::Spot;
 use crate::room::Step;
 use crate::room::put;
+use crate::room::put_span;
 use crate::scalar::Meant;
 use crate::scalar::Short;
 use crate::scalar::index;
@@ -25,6 +27,7 @@ use crate::scalar::wide;
 use schema::layout;
 use skip::field::Past;
 use skip::unknown_or_group::skip_unknown_group;
+use spec::Mode;
 use spec::columns::STRIDE;
 use spec::kinds;
 use spec::limits;
@@ -67,17 +70,23 @@ fn short_ints(
     from: Spot,
 ) -> Spot
     requires { ⌜ (from .at < length (now s)) × (off + length (now s) < 2 ^ 64) × (from .to ≤ length (now room)) × (ty < mostTypes) ⌝ }
-    ensures { λ r. ⌜ Further (length (now (s .entry))) (λ at. read (prepared plainly (now (keys .entry)) (now (info .entry))) depth ty (off + at) (drop at (now (s .entry))))
-        (now (room .entry)) (from .at) (from .to) (now (room .exit)) (r .at) (r .to) ⌝ }
+    ensures { λ r. ⌜ ((mode : Mode) → Further (length (now (s .entry))) (λ at. read (prepared mode (now (keys .entry)) (now (info .entry))) depth ty (off + at) (drop at (now (s .entry))))
+        (now (room .entry)) (from .at) (from .to) (now (room .exit)) (r .at) (r .to)) ⌝ }
 {
     let mut at = from.at;
     let mut to = from.to;
+    // first, as a field with a content returns here: all that follows is needed by the loop alone
+    if s[at] % 8 != wire_types::VARINT {
+        return Spot { at, to };
+    }
     let last = s.len() - 1;
     if room.len() < STRIDE {
         return Spot { at, to };
     }
     // the last place where a record has room: one bound for the whole loop, which keeps a register free
     let most = room.len() - STRIDE;
+    // `off + at`, kept beside `at`: a record costs one addition less
+    let mut here = off + at;
     while at < last {
         if most < to {
             return Spot { at, to };
@@ -92,20 +101,27 @@ fn short_ints(
         let Meant::Is(v) = meaning_of(kind, value) else {
             return Spot { at, to };
         };
-        let start = off + at + 1;
-        to = put(
-            room,
-            to,
-            depth,
-            (c / 8) as u64,
-            kind,
-            v,
-            start,
-            start + size,
-        );
-        at += 1 + size;
+        let n = size + 1;
+        let tag = here;
+        here += n;
+        at += n;
+        to = put(room, to, depth, (c / 8) as u64, kind, v, tag + 1, here, tag);
     }
     Spot { at, to }
+}
+
+// A group that was skipped up to `end`, as the row of an empty packed field: both are dropped in the same way.
+fn skipped(number: u64, end: usize) -> Row
+    ensures { λ r. ⌜ r ≡ skippedRow number end ⌝ }
+{
+    Row {
+        number,
+        kind: kinds::PACKED_HEAD,
+        inner: 0,
+        value: 0,
+        start: end,
+        end,
+    }
 }
 
 // Does what a field asks, whose tag is at `at`: stores its record, and for a head what lies below it.
@@ -116,20 +132,21 @@ fn store(
     off: usize,
     at: usize,
     depth: u32,
+    mode: Mode,
     f: Row,
     room: &mut [u64],
     from: usize,
 ) -> Step
     requires { ⌜ (depth ≤ mostLevels) × (off + length (now s) < 2 ^ 64) × (from ≤ length (now room)) × Held depth at (length (now s)) f ⌝ }
     ensures { λ r. ⌜ left r (now (room .exit)) ≡ emit (now (room .entry)) from
-        (records plainly (read (prepared plainly (now (keys .entry)) (now (info .entry))) (depth + 1)) depth (off + at) (drop at (now (s .entry))) (rowField at f)) ⌝ }
+        (records mode (read (prepared mode (now (keys .entry)) (now (info .entry))) (depth + 1)) depth (off + at) (drop at (now (s .entry))) (rowField at f)) ⌝ }
 {
     let start = f.start;
     let end = f.end;
     let kind = f.kind;
     if kind == kinds::PACKED_HEAD {
         if start == end {
-            return Step::Go(from);
+            return put_span(mode, depth, f.number, off + at, off + end, room, from);
         }
     }
     if room.len() - from < STRIDE {
@@ -148,6 +165,7 @@ fn store(
         f.value,
         off + start,
         off + end,
+        off + at,
     );
     if kind == kinds::MESSAGE {
         return message(
@@ -157,6 +175,7 @@ fn store(
             off + start,
             f.inner,
             depth + 1,
+            mode,
             room,
             to,
         );
@@ -184,11 +203,12 @@ pub(crate) fn message(
     off: usize,
     ty: u32,
     depth: u32,
+    mode: Mode,
     room: &mut [u64],
     from: usize,
 ) -> Step
     requires { ⌜ (depth ≤ mostLevels) × (off + length (now s) < 2 ^ 64) × (from ≤ length (now room)) ⌝ }
-    ensures { λ r. ⌜ left r (now (room .exit)) ≡ emit (now (room .entry)) from (read (prepared plainly (now (keys .entry)) (now (info .entry))) depth ty off (now (s .entry))) ⌝ }
+    ensures { λ r. ⌜ left r (now (room .exit)) ≡ emit (now (room .entry)) from (read (prepared mode (now (keys .entry)) (now (info .entry))) depth ty off (now (s .entry))) ⌝ }
 {
     let mut at: usize = 0;
     let mut to = from;
@@ -201,45 +221,40 @@ pub(crate) fn message(
                 return Step::Go(to);
             }
         }
-        match field_at(keys, info, s, at, ty, depth) {
-            Field::Of(f) => {
-                match store(keys, info, s, off, at, depth, f, room, to) {
-                    Step::Go(n) => {
-                        to = n;
-                        at = f.end;
-                    }
-                    Step::Stop {
+        let f = match field_at(keys, info, s, at, ty, depth) {
+            Field::Of(f) => f,
+            Field::Group { number, next } => match skip_unknown_group(s, next, depth) {
+                Past::To(end) => skipped(number, end),
+                Past::Refused(number) => {
+                    return Step::Stop {
                         number,
-                        to: n,
-                        place,
-                    } => {
-                        return Step::Stop {
-                            number,
-                            to: n,
-                            place,
-                        };
-                    }
+                        to,
+                        place: off + at,
+                    };
                 }
-            }
-            Field::Group { number: _, next } => {
-                match skip_unknown_group(s, next, depth) {
-                    Past::To(e) => {
-                        at = e;
-                    }
-                    Past::Refused(k) => {
-                        return Step::Stop {
-                            number: k,
-                            to,
-                            place: off + at,
-                        };
-                    }
-                }
-            }
+            },
             Field::Bad(number) => {
                 return Step::Stop {
                     number,
                     to,
                     place: off + refused_at(s, at, number),
+                };
+            }
+        };
+        match store(keys, info, s, off, at, depth, mode, f, room, to) {
+            Step::Go(n) => {
+                to = n;
+                at = f.end;
+            }
+            Step::Stop {
+                number,
+                to: n,
+                place,
+            } => {
+                return Step::Stop {
+                    number,
+                    to: n,
+                    place,
                 };
             }
         }

@@ -1,6 +1,6 @@
 // The elements of a packed field to records.
 ghost use mathlib.Core.Path.{_≡_};
-ghost use Prim.Native.Nat.{ℕ, _+_, _^_, _≤_, _<_};
+ghost use Prim.Native.Nat.{_+_, _^_, _≤_, _<_};
 ghost use lib.ListN.{length, drop};
 ghost use mathlib.Core.Bool.{true};
 ghost use Rattle.spec.specs.Kind.{shape, isScalar};
@@ -22,10 +22,11 @@ use spec::columns::STRIDE;
 use spec::refusals;
 use wire::found::Found;
 
-// Reads on while elements are short and there is room. Whatever it leaves, `packed_ints` does.
+// Reads on while elements are short and there is room. Whatever it leaves, `packed_ints` does. `tag` is the place of the field's tag.
 fn short_elements(
     p: &[u8],
     off: usize,
+    tag: usize,
     depth: u32,
     number: u64,
     kind: u64,
@@ -33,8 +34,8 @@ fn short_elements(
     from: Spot,
 ) -> Spot
     requires { ⌜ (from .at ≤ length (now p)) × (off + length (now p) < 2 ^ 64) × (from .to ≤ length (now room)) ⌝ }
-    ensures { λ r. ⌜ ((tag : ℕ) → Further (length (now (p .entry))) (λ at. contents (shape kind) depth number kind tag (off + at) (drop at (now (p .entry))))
-        (now (room .entry)) (from .at) (from .to) (now (room .exit)) (r .at) (r .to)) ⌝ }
+    ensures { λ r. ⌜ Further (length (now (p .entry))) (λ at. contents (shape kind) depth number kind tag (off + at) (drop at (now (p .entry))))
+        (now (room .entry)) (from .at) (from .to) (now (room .exit)) (r .at) (r .to) ⌝ }
 {
     let mut at = from.at;
     let mut to = from.to;
@@ -43,6 +44,8 @@ fn short_elements(
     }
     // the last place where a record has room: one bound for the whole loop, which keeps a register free
     let most = room.len() - STRIDE;
+    // `off + at`, kept beside `at`
+    let mut start = off + at;
     while at < p.len() {
         if most < to {
             return Spot { at, to };
@@ -53,9 +56,10 @@ fn short_elements(
         let Meant::Is(v) = meaning_of(kind, value) else {
             return Spot { at, to };
         };
-        let start = off + at;
+        let end = start + size;
         at += size;
-        to = put(room, to, depth, number, kind, v, start, off + at);
+        to = put(room, to, depth, number, kind, v, start, end, tag);
+        start = end;
     }
     Spot { at, to }
 }
@@ -77,7 +81,7 @@ fn packed_ints(
     let mut at: usize = 0;
     let mut to = from;
     while at < p.len() {
-        let x = short_elements(p, off, depth, number, kind, room, Spot { at, to });
+        let x = short_elements(p, off, tag, depth, number, kind, room, Spot { at, to });
         at = x.at;
         to = x.to;
         if at == p.len() {
@@ -92,7 +96,17 @@ fn packed_ints(
                         place: tag,
                     };
                 }
-                to = put(room, to, depth, number, kind, value, off + at, off + next);
+                to = put(
+                    room,
+                    to,
+                    depth,
+                    number,
+                    kind,
+                    value,
+                    off + at,
+                    off + next,
+                    tag,
+                );
                 at = next;
             }
             Found::Refused(k) => {
@@ -132,7 +146,17 @@ fn packed_fixed(
                         place: tag,
                     };
                 }
-                to = put(room, to, depth, number, kind, value, off + at, off + next);
+                to = put(
+                    room,
+                    to,
+                    depth,
+                    number,
+                    kind,
+                    value,
+                    off + at,
+                    off + next,
+                    tag,
+                );
                 at = next;
             }
             Found::Refused(k) => {

@@ -39,7 +39,7 @@ const INPUT: usize = 131072;
 // The bytes of a word: a line of the longest has fewer.
 const BYTES: usize = 32768;
 
-// The numbers of a list or of the entries of a schema: a line of the longest has fewer. The room of a reading, at most 4,096 records and the 12 numbers
+// The numbers of a list or of the entries of a schema: a line of the longest has fewer. The room of a reading, at most 4,096 records and the 14 numbers
 // that are watched after them, stands here too.
 const NUMBERS: usize = 32768;
 
@@ -97,7 +97,8 @@ fn answer_to(
 ) -> usize {
     match verb {
         verbs::ENCODE => leaves::encode(c.wide, out),
-        verbs::READ => readings::read(c.types, numbers, s, c.first, list, out),
+        verbs::READ => readings::read(false, c.types, numbers, s, c.first, list, out),
+        verbs::READDROPPED => readings::read(true, c.types, numbers, s, c.first, list, out),
         verbs::RECORDS => readings::records(c.types, numbers, s, list, out),
         verbs::PULL => pulls::pull(c.first, line, c.steps, s, out),
         verbs::SEGREAD => segments::read(s, c.first, list, out),

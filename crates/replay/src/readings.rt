@@ -1,5 +1,5 @@
-// The verbs that read a message: `read` and `records`. The room of `read` is filled with a pattern before the call. What the call was not lent, and what
-// stands after the records that it says it stored, is watched. `segread` (segments) uses the same room in the same way.
+// The verbs that read a message: `read`, `readdropped` and `records`. The room of the first two is filled with a pattern before the call. What the call was not
+// lent, and what stands after the records that it says it stored, is watched. `segread` (segments) uses the same room in the same way.
 use crate::answers::put_answer;
 use crate::answers::three;
 use crate::answers::touched;
@@ -7,8 +7,9 @@ use printing::put_listing;
 use printing::put_rows;
 use printing::put_text;
 use read::Answer;
-use spec::columns::END;
+use spec::Mode;
 use spec::columns::STRIDE;
+use spec::columns::TAG;
 
 // What each number of the room is where nothing is stored.
 const PATTERN: u64 = 0xa5c3_5a3c_a5c3_5a3c;
@@ -44,10 +45,25 @@ fn changed(part: &[u64]) -> bool {
     bad
 }
 
+// Reads into the room: with dropped spans by the call that is told of them, without them by the plain one.
+fn read_by(dropped: bool, types: u32, numbers: &[u32], s: &[u8], room: &mut [u64]) -> Answer {
+    if dropped {
+        return entries::read_numbers_as(Mode { dropped: true }, types, numbers, s, room);
+    }
+    entries::read_numbers(types, numbers, s, room)
+}
+
 // Reads into the first `n` numbers of the room.
-fn read_into(types: u32, numbers: &[u32], s: &[u8], n: usize, room: &mut [u64]) -> Answer {
+fn read_into(
+    dropped: bool,
+    types: u32,
+    numbers: &[u32],
+    s: &[u8],
+    n: usize,
+    room: &mut [u64],
+) -> Answer {
     if n <= room.len() {
-        return entries::read_numbers(types, numbers, s, &mut room[0..n]);
+        return read_by(dropped, types, numbers, s, &mut room[0..n]);
     }
     Answer {
         number: 0,
@@ -87,11 +103,12 @@ fn put_reading(r: Answer, room: &[u64], out: &mut [u8]) -> usize {
     if room.len() / STRIDE < count {
         return touched(true, to, out);
     }
-    put_room(room, count * STRIDE, END, b',', to, out)
+    put_room(room, count * STRIDE, TAG, b',', to, out)
 }
 
 // Reads into the first `n` numbers of a part, the whole of which is watched.
 fn read_watched(
+    dropped: bool,
     types: u32,
     numbers: &[u32],
     s: &[u8],
@@ -100,12 +117,13 @@ fn read_watched(
     out: &mut [u8],
 ) -> usize {
     fill(part);
-    let r = read_into(types, numbers, s, n, part);
+    let r = read_into(dropped, types, numbers, s, n, part);
     put_reading(r, part, out)
 }
 
-// `read SCHEMA ROOM HEX`.
+// `read SCHEMA ROOM HEX`, and `readdropped SCHEMA ROOM HEX`.
 pub fn read(
+    dropped: bool,
     types: u32,
     numbers: &[u32],
     s: &[u8],
@@ -121,7 +139,7 @@ pub fn read(
     if room.len() < end {
         return 0;
     }
-    read_watched(types, numbers, s, n, &mut room[0..end], out)
+    read_watched(dropped, types, numbers, s, n, &mut room[0..end], out)
 }
 
 // The listing.
@@ -136,6 +154,6 @@ fn put_listed(r: Answer, room: &[u64], out: &mut [u8]) -> usize {
 
 // `records SCHEMA HEX`: what the program `records` would print under that schema, with `/` between lines.
 pub fn records(types: u32, numbers: &[u32], s: &[u8], room: &mut [u64], out: &mut [u8]) -> usize {
-    let r = read_into(types, numbers, s, LISTED, room);
+    let r = read_into(false, types, numbers, s, LISTED, room);
     put_listed(r, room, out)
 }

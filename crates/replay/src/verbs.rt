@@ -53,23 +53,25 @@ pub const LOOKUP: usize = 21;
 
 pub const READ: usize = 22;
 
-pub const RECORDS: usize = 23;
+pub const READDROPPED: usize = 23;
 
-pub const SIZE: usize = 24;
+pub const RECORDS: usize = 24;
 
-pub const WRITE: usize = 25;
+pub const SIZE: usize = 25;
 
-pub const PULL: usize = 26;
+pub const WRITE: usize = 26;
+
+pub const PULL: usize = 27;
 
 // Verbs on segment files.
-pub const SEGREAD: usize = 27;
+pub const SEGREAD: usize = 28;
 
-pub const SEGWRITE: usize = 28;
+pub const SEGWRITE: usize = 29;
 
 // The verb that a line begins with.
 pub fn verb_in(line: &[u8]) -> Many {
     name_in(
-        b"vsize zdec64 zenc32 zenc64 msgsize encode tagsize zdec32 tag wire maketag fieldsize varint64 varint32 utf8 utf8prefix document skip group packedsize schema lookup read records size write pull segread segwrite",
+        b"vsize zdec64 zenc32 zenc64 msgsize encode tagsize zdec32 tag wire maketag fieldsize varint64 varint32 utf8 utf8prefix document skip group packedsize schema lookup read readdropped records size write pull segread segwrite",
         line,
         0,
     )
@@ -127,7 +129,7 @@ pub fn shape_of(verb: usize) -> Shape {
         SEGREAD => plain(1, true, false),
         PACKEDSIZE => bare(2, 1, false, false),
         LOOKUP => under(2, 0, false, false),
-        READ => under(1, 0, true, false),
+        READ | READDROPPED => under(1, 0, true, false),
         RECORDS => under(0, 0, true, false),
         SIZE => under(0, STRIDE, true, false),
         WRITE => under(0, STRIDE, true, true),

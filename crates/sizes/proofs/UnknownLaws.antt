@@ -5,50 +5,44 @@ use mathlib.Core.Bool.{false}
 use mathlib.Core.List.{List, [], _∷_}
 use native.Mathlib.Omega.{arith}
 use lib.Dec.{eqb}
-use lib.ListN.{length, drop, getD, length-drop}
-use lib.Seq.{getD-drop, drop-drop}
+use lib.ListN.{length, drop, length-drop}
 use borrow.Author.Tests.{le-leb}
-use Rattle.spec.specs.Names.{unknownBytes, depthColumn, kindColumn, numberColumn, startColumn, stopColumn, unknownFixed32, unknownVarint, valueColumn}
+use Rattle.spec.specs.Names.{unknownBytes, unknownFixed32, unknownVarint}
 use Rattle.spec.specs.Base.{if_then_else_, between}
 use Rattle.spec.specs.Varint.{tagSize}
 use Rattle.spec.specs.Kind.{shapes, shape}
-use Rattle.spec.specs.Record.{Record, row, recordsOf, stride}
+use Rattle.spec.specs.Record.{row, recordsOf, stride, recordAt}
 use Rattle.spec.specs.Sizes.{scalarSize, valueSize, bodySize, unknownsSize}
-use Rattle.spec.proofs.FlatLaws.{records-nil, records-broken, records-cons}
+use Rattle.spec.proofs.FlatLaws.{records-nil, records-broken}
+use Rattle.spec.proofs.RunLaws.{records-at}
 
 -- the four unknown kinds are numbers and bytes
-body : (d n v a e j : ℕ) → j < 4 → bodySize (shape (unknownVarint + j)) (row d n (unknownVarint + j) v a e 0) 0 ≡ valueSize (shape (unknownVarint + j)) (if eqb (unknownVarint + j) unknownBytes then e - a else v)
+body : (d n v a e t j : ℕ) → j < 4 → bodySize (shape (unknownVarint + j)) (row d n (unknownVarint + j) v a e t) 0 ≡ valueSize (shape (unknownVarint + j)) (if eqb (unknownVarint + j) unknownBytes then e - a else v)
 unfolding shapes shape scalarSize valueSize bodySize
-body d n v a e zero h = refl
-body d n v a e (suc zero) h = refl
-body d n v a e (suc (suc zero)) h = refl
-body d n v a e (suc (suc (suc zero))) h = refl
-body d n v a e (suc (suc (suc (suc j)))) h = absurd (omega arith)
+body d n v a e t zero h = refl
+body d n v a e t (suc zero) h = refl
+body d n v a e t (suc (suc zero)) h = refl
+body d n v a e t (suc (suc (suc zero))) h = refl
+body d n v a e t (suc (suc (suc (suc j)))) h = absurd (omega arith)
 
-pub unknown-record : (d n k v a e : ℕ) → unknownVarint ≤ k → k ≤ unknownFixed32
-    → unknownsSize (row d n k v a e 0 ∷ []) ≡ tagSize n + valueSize (shape k) (if eqb k unknownBytes then e - a else v)
+pub unknown-record : (d n k v a e t : ℕ) → unknownVarint ≤ k → k ≤ unknownFixed32
+    → unknownsSize (row d n k v a e t ∷ []) ≡ tagSize n + valueSize (shape k) (if eqb k unknownBytes then e - a else v)
 unfolding unknownsSize
-unknown-record d n k v a e l h =
+unknown-record d n k v a e t l h =
     let here : unknownVarint + (k - unknownVarint) ≡ k = omega arith in
-    let is = subst (λ (m : ℕ). bodySize (shape m) (row d n m v a e 0) 0 ≡ valueSize (shape m) (if eqb m unknownBytes then e - a else v)) here (body d n v a e (k - unknownVarint) (omega arith)) in
+    let is = subst (λ (m : ℕ). bodySize (shape m) (row d n m v a e t) 0 ≡ valueSize (shape m) (if eqb m unknownBytes then e - a else v)) here (body d n v a e t (k - unknownVarint) (omega arith)) in
     simp (le-leb unknownVarint k l, le-leb k unknownFixed32 h) (omega (arith, is))
 
-pub other-record : (d n k v a e : ℕ) → between unknownVarint unknownFixed32 k ≡ false → unknownsSize (row d n k v a e 0 ∷ []) ≡ 0
+pub other-record : (d n k v a e t : ℕ) → between unknownVarint unknownFixed32 k ≡ false → unknownsSize (row d n k v a e t ∷ []) ≡ 0
 unfolding unknownsSize
-other-record d n k v a e h = simp h
+other-record d n k v a e t h = simp h
 
 -- ---- the list, from a place on
-
--- the record at a place
-abbrev pub recordAt : List ℕ → ℕ → Record
-recordAt ns i = row (getD (drop i ns) depthColumn 0) (getD ns (i + numberColumn) 0) (getD ns (i + kindColumn) 0) (getD ns (i + valueColumn) 0) (getD ns (i + startColumn) 0) (getD ns (i + stopColumn) 0) 0
 
 pub unknown-step : (ns : List ℕ) (i : ℕ) → i + stride ≤ length ns
     → unknownsSize (recordsOf (drop i ns)) ≡ unknownsSize (recordAt ns i ∷ []) + unknownsSize (recordsOf (drop (i + stride) ns))
 unfolding unknownsSize
-unknown-step ns i h =
-    rw (records-cons (drop i ns) (omega (arith, length-drop i ns)))
-    (simp (getD-drop, drop-drop) (omega arith))
+unknown-step ns i h = rw (records-at ns i h) (omega arith)
 
 pub unknown-end : (ns : List ℕ) (i : ℕ) → length ns < i + stride → unknownsSize (recordsOf (drop i ns)) ≡ 0
 unfolding unknownsSize

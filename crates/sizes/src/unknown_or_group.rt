@@ -1,4 +1,4 @@
-// The size of unknown fields: src/rt/unknown_or_group.rs. They are in a list of records, STRIDE numbers each: depth, number, kind, value, start, end.
+// The size of unknown fields: src/rt/unknown_or_group.rs. They are in a list of records, STRIDE numbers each: depth, number, kind, value, start, end, tag.
 ghost use mathlib.Core.Path.{_≡_};
 ghost use mathlib.Core.List.{[], _∷_};
 ghost use Prim.Native.Nat.{ℕ, _-_, _^_, _<_};
@@ -48,9 +48,9 @@ fn value_of(kind: u64, value: u64, start: u64, stop: u64) -> u64
     value
 }
 
-// What a record takes, whatever its depth, which is nothing if it is of no unknown kind; anything above the limit if it takes more than that.
+// What a record takes, whatever its depth and the place of its tag, which is nothing if it is of no unknown kind; anything above the limit if it takes more than that.
 fn record_size(number: u64, kind: u64, value: u64, start: u64, stop: u64) -> u64
-    ensures { λ r. ⌜ ((d : ℕ) → capped r ≡ capped (unknownsSize (row d number kind value start stop 0 ∷ []))) ⌝ }
+    ensures { λ r. ⌜ ((d t : ℕ) → capped r ≡ capped (unknownsSize (row d number kind value start stop t ∷ []))) ⌝ }
     ensures { λ r. ⌜ r < 2 ^ 32 ⌝ }
 {
     if kind < kinds::UNKNOWN_VARINT {

@@ -1,5 +1,5 @@
 -- The schemas A and B of the user's rules, and the cases that the rules mark to be proved, as one list under one statement; the numbers of the rules' tables; sizes at each rung of the ladder;
--- groups that end under their own number, and under another; where letters are broken.
+-- groups that end under their own number, and under another; where letters are broken; dropped spans.
 -- Assumes nothing.
 use Prim.Native.Nat.{ℕ}
 use mathlib.Core.Path.{_≡_, refl}
@@ -7,7 +7,7 @@ use mathlib.Core.Bool.{Bool, true, false}
 use mathlib.Core.List.{List, [], _∷_, _++_, map}
 use lib.ListN.{replicate}
 use lib.Count.{leadingZeros}
-use Rattle.spec.specs.Names.{badMark, badTag, badVarint, boolKind, bytesKind, delimitedWire, doubleKind, endGroupWire, endsEarly, enumKind, fixed32Kind, fixed32Wire, fixed64Kind, fixed64Wire, floatKind, groupKind, int32Kind, int64Kind, invalidList, invalidSchema, largestNumber, messageKind, mostEntries, mostLevels, mostTypes, noGroupOpen, noRoom, notUtf8, otherVersion, outOfRange, outputShort, packedHead, sfixed32Kind, sfixed64Kind, sint32Kind, sint64Kind, startGroupWire, stringKind, tooDeep, tooLarge, uint32Kind, uint64Kind, unknownBytes, unknownFixed32, unknownFixed64, unknownVarint, varintWire}
+use Rattle.spec.specs.Names.{droppedSpan, depthColumn, numberColumn, kindColumn, valueColumn, startColumn, stopColumn, tagColumn, badMark, badTag, badVarint, boolKind, bytesKind, delimitedWire, doubleKind, endGroupWire, endsEarly, enumKind, fixed32Kind, fixed32Wire, fixed64Kind, fixed64Wire, floatKind, groupKind, int32Kind, int64Kind, invalidList, invalidSchema, largestNumber, messageKind, mostEntries, mostLevels, mostTypes, noGroupOpen, noRoom, notUtf8, otherVersion, outOfRange, outputShort, packedHead, sfixed32Kind, sfixed64Kind, sint32Kind, sint64Kind, startGroupWire, stringKind, tooDeep, tooLarge, uint32Kind, uint64Kind, unknownBytes, unknownFixed32, unknownFixed64, unknownVarint, varintWire}
 use Rattle.spec.specs.Base.{Read, Took, No, meaning, require, longer, _>>=_, digit, limited}
 use Rattle.spec.specs.Varint.{varint, size, unzigzag, fixed, tag}
 use Rattle.spec.specs.Utf8.{lead, followers, behind, char, chars, validPrefix}
@@ -15,9 +15,9 @@ use Rattle.spec.specs.Kind.{kindWires, ownWires, wires, wire, shapes, sh
 use Rattle.spec.specs.Schema.{Schema, goodEntry, badEntry, badSchema, lookup, unknownKind, kindOf, says, saysOf}
 use Rattle.spec.specs.Skip.{content, plain, skipField, skipGroup, skipFieldForTag, readUnknownOrSkipGroup}
 use Rattle.spec.specs.Document.{passed, closed, step, goOn, isRun, isDocument}
-use Rattle.spec.specs.Record.{numbers}
+use Rattle.spec.specs.Record.{stride, numbers}
 use Rattle.spec.specs.Pull as pull
-use Rattle.spec.specs.Reading.{given, shaped, field, used, _followed-by_, element, elements, contents, records, fields, read, within, refusedOr, called, readingBy, readingAs, reading, number, place, listed}
+use Rattle.spec.specs.Reading.{plainly, asking, given, shaped, field, used, _followed-by_, element, elements, contents, span, records, fields, read, within, refusedOr, called, readingBy, readingAs, reading, number, place, listed}
 use Rattle.spec.specs.declared.Entry.{Entry}
 
 abbrev entry : ℕ → ℕ → ℕ → Bool → ℕ → Entry
@@ -45,6 +45,10 @@ schemaB = record {
 abbrev reads : Schema → List ℕ → List (List ℕ)
 reads sch s = let q = reading sch 1024 s in (number q ∷ place q ∷ []) ∷ map numbers (listed q)
 
+-- with dropped spans, and this room
+abbrev spans : ℕ → Schema → List ℕ → List (List ℕ)
+spans room sch s = let q = readingAs (asking true plainly) sch room s in (number q ∷ place q ∷ []) ∷ map numbers (listed q)
+
 abbrev answer : Read → List (List ℕ)
 answer (Took v n) = (0 ∷ n ∷ []) ∷ []
 answer (No k) = (k ∷ 0 ∷ []) ∷ []
@@ -63,8 +67,8 @@ refused k p = (k ∷ p ∷ []) ∷ []
 abbrev well : List (List ℕ) → List (List ℕ)
 well rows = (0 ∷ 0 ∷ []) ∷ rows
 
-abbrev six : ℕ → ℕ → ℕ → ℕ → ℕ → ℕ → List ℕ
-six d n k v a e = d ∷ n ∷ k ∷ v ∷ a ∷ e ∷ []
+abbrev seven : ℕ → ℕ → ℕ → ℕ → ℕ → ℕ → ℕ → List ℕ
+seven d n k v a e t = d ∷ n ∷ k ∷ v ∷ a ∷ e ∷ t ∷ []
 
 abbrev listing : List ℕ
 listing = 0x08 ∷ 0x96 ∷ 0x01 ∷ 0x12 ∷ 0x02 ∷ 0x4f ∷ 0x4b ∷ 0x1a ∷ 0x04 ∷ 0x08 ∷ 0x05 ∷ 0x12 ∷ 0x00 ∷ 0x22 ∷ 0x04 ∷ 0x01 ∷ 0x02 ∷ 0x80 ∷ 0x01 ∷ []
@@ -72,18 +76,18 @@ listing = 0x08 ∷ 0x96 ∷ 0x01 ∷ 0x12 ∷ 0x02 ∷ 0x4f ∷ 0x4b ∷ 0x1a �
 pub cases : List Case
 cases =
     (reads schemaA listing gives well (
-    six 0 1 5 150 1 3 ∷ six 0 2 9 0 5 7 ∷ six 0 3 11 0 9 13 ∷ six 1 1 13 5 10 11 ∷ six 1 2 12 0 13 13
-    ∷ six 0 4 20 0 15 19 ∷ six 1 4 17 18446744073709551615 15 16 ∷ six 1 4 17 1 16 17 ∷ six 1 4 17 64 17 19 ∷ []))
+    seven 0 1 5 150 1 3 0 ∷ seven 0 2 9 0 5 7 3 ∷ seven 0 3 11 0 9 13 7 ∷ seven 1 1 13 5 10 11 9 ∷ seven 1 2 12 0 13 13 11
+    ∷ seven 0 4 20 0 15 19 13 ∷ seven 1 4 17 18446744073709551615 15 16 13 ∷ seven 1 4 17 1 16 17 13 ∷ seven 1 4 17 64 17 19 13 ∷ []))
     ∷ (reads schemaB listing gives well (
-    six 0 1 5 150 1 3 ∷ six 0 2 9 0 5 7 ∷ six 0 3 11 0 9 13 ∷ six 1 1 13 5 10 11 ∷ six 1 2 23 0 13 13 ∷ six 0 4 23 0 15 19 ∷ []))
+    seven 0 1 5 150 1 3 0 ∷ seven 0 2 9 0 5 7 3 ∷ seven 0 3 11 0 9 13 7 ∷ seven 1 1 13 5 10 11 9 ∷ seven 1 2 23 0 13 13 11 ∷ seven 0 4 23 0 15 19 13 ∷ []))
     ∷ (reads schemaA [] gives well [])
     ∷ (reads schemaA (0x08 ∷ []) gives refused 1 0)
     ∷ (reads schemaA (0x0c ∷ []) gives refused 4 0)
     ∷ (reads schemaA (0x08 ∷ 0x80 ∷ 0x80 ∷ 0x80 ∷ 0x80 ∷ 0x08 ∷ []) gives refused 5 0)
-    ∷ (reads schemaA (0x08 ∷ replicate 9 0xff ++ 0x01 ∷ []) gives well (six 0 1 5 18446744073709551615 1 11 ∷ []))
+    ∷ (reads schemaA (0x08 ∷ replicate 9 0xff ++ 0x01 ∷ []) gives well (seven 0 1 5 18446744073709551615 1 11 0 ∷ []))
     ∷ (reads schemaA (0x08 ∷ replicate 9 0xff ++ 0x02 ∷ []) gives refused 2 0)
-    ∷ (reads schemaA (0x88 ∷ 0x00 ∷ 0x05 ∷ []) gives well (six 0 1 5 5 2 3 ∷ []))
-    ∷ (reads schemaA (0x1a ∷ 0x06 ∷ 0x08 ∷ 0x80 ∷ 0x80 ∷ 0x80 ∷ 0x80 ∷ 0x10 ∷ []) gives ((2 ∷ 2 ∷ []) ∷ six 0 3 11 0 2 8 ∷ []))
+    ∷ (reads schemaA (0x88 ∷ 0x00 ∷ 0x05 ∷ []) gives well (seven 0 1 5 5 2 3 0 ∷ []))
+    ∷ (reads schemaA (0x1a ∷ 0x06 ∷ 0x08 ∷ 0x80 ∷ 0x80 ∷ 0x80 ∷ 0x80 ∷ 0x10 ∷ []) gives ((2 ∷ 2 ∷ []) ∷ seven 0 3 11 0 2 8 0 ∷ []))
     ∷ (reads schemaA (0x12 ∷ 0x01 ∷ 0xff ∷ []) gives refused 6 2)
     ∷ (reads schemaA (0x0b ∷ 0x14 ∷ []) gives well [])
     ∷ (reads schemaA (0x0b ∷ 0x13 ∷ []) gives refused 1 0)
@@ -92,7 +96,7 @@ cases =
     ∷ []
 
 pub all-right : map (λ (c : Case). c .is) cases ≡ map (λ (c : Case). c .should) cases
-unfolding cases schemaA schemaB meaning require longer _>>=_ digit varint unzigzag fixed tag lead followers behind char chars validPrefix kindWires ownWires wires wire shapes shape isScalar extend scalar goodEntry badEntry badSchema lookup unknownKind kindOf says saysOf content plain skipField skipGroup skipFieldForTag given shaped field used _followed-by_ element elements contents records fields read within refusedOr called readingBy readingAs reading number place listed numbers
+unfolding cases schemaA schemaB meaning require longer _>>=_ digit varint unzigzag fixed tag lead followers behind char chars validPrefix kindWires ownWires wires wire shapes shape isScalar extend scalar goodEntry badEntry badSchema lookup unknownKind kindOf says saysOf content plain skipField skipGroup skipFieldForTag given shaped field used _followed-by_ element elements contents span records fields read within refusedOr called readingBy readingAs reading number place listed numbers
 all-right = refl
 
 -- ---- the numbers that the rules give to the names of specs/Names
@@ -104,9 +108,12 @@ refusals-are = refl
 
 pub kinds-are :
     doubleKind ∷ floatKind ∷ int64Kind ∷ uint64Kind ∷ int32Kind ∷ fixed64Kind ∷ fixed32Kind ∷ boolKind ∷ stringKind ∷ groupKind ∷ messageKind ∷ bytesKind
-    ∷ uint32Kind ∷ enumKind ∷ sfixed32Kind ∷ sfixed64Kind ∷ sint32Kind ∷ sint64Kind ∷ packedHead ∷ unknownVarint ∷ unknownFixed64 ∷ unknownBytes ∷ unknownFixed32 ∷ []
-    ≡ 1 ∷ 2 ∷ 3 ∷ 4 ∷ 5 ∷ 6 ∷ 7 ∷ 8 ∷ 9 ∷ 10 ∷ 11 ∷ 12 ∷ 13 ∷ 14 ∷ 15 ∷ 16 ∷ 17 ∷ 18 ∷ 20 ∷ 21 ∷ 22 ∷ 23 ∷ 24 ∷ []
+    ∷ uint32Kind ∷ enumKind ∷ sfixed32Kind ∷ sfixed64Kind ∷ sint32Kind ∷ sint64Kind ∷ packedHead ∷ unknownVarint ∷ unknownFixed64 ∷ unknownBytes ∷ unknownFixed32 ∷ droppedSpan ∷ []
+    ≡ 1 ∷ 2 ∷ 3 ∷ 4 ∷ 5 ∷ 6 ∷ 7 ∷ 8 ∷ 9 ∷ 10 ∷ 11 ∷ 12 ∷ 13 ∷ 14 ∷ 15 ∷ 16 ∷ 17 ∷ 18 ∷ 20 ∷ 21 ∷ 22 ∷ 23 ∷ 24 ∷ 25 ∷ []
 kinds-are = refl
+
+pub columns-are : depthColumn ∷ numberColumn ∷ kindColumn ∷ valueColumn ∷ startColumn ∷ stopColumn ∷ tagColumn ∷ stride ∷ [] ≡ 0 ∷ 1 ∷ 2 ∷ 3 ∷ 4 ∷ 5 ∷ 6 ∷ 7 ∷ []
+columns-are = refl
 
 pub wires-are : varintWire ∷ fixed64Wire ∷ delimitedWire ∷ startGroupWire ∷ endGroupWire ∷ fixed32Wire ∷ [] ≡ 0 ∷ 1 ∷ 2 ∷ 3 ∷ 4 ∷ 5 ∷ []
 wires-are = refl
@@ -165,9 +172,9 @@ pub letters-are :
     -- the length comes first, and it is refused at the tag; an unknown content is not checked
     ∷ (0x12 ∷ 0x02 ∷ 0xff ∷ []) ∷ (0x1a ∷ 0x01 ∷ 0xff ∷ []) ∷ [])
     ≡ refused 6 3 ∷ refused 6 5
-    ∷ ((6 ∷ 6 ∷ []) ∷ six 0 2 9 0 2 3 ∷ []) ∷ ((6 ∷ 7 ∷ []) ∷ six 0 1 11 0 2 8 ∷ six 1 1 11 0 4 8 ∷ [])
-    ∷ refused 1 0 ∷ well (six 0 3 23 0 2 3 ∷ []) ∷ []
-unfolding nested meaning require longer _>>=_ digit varint unzigzag fixed tag lead followers behind char chars validPrefix kindWires ownWires wires wire shapes shape isScalar extend scalar goodEntry badEntry badSchema lookup unknownKind kindOf says saysOf content plain skipField skipGroup skipFieldForTag given shaped field used _followed-by_ element elements contents records fields read within refusedOr called readingBy readingAs reading number place listed numbers
+    ∷ ((6 ∷ 6 ∷ []) ∷ seven 0 2 9 0 2 3 0 ∷ []) ∷ ((6 ∷ 7 ∷ []) ∷ seven 0 1 11 0 2 8 0 ∷ seven 1 1 11 0 4 8 2 ∷ [])
+    ∷ refused 1 0 ∷ well (seven 0 3 23 0 2 3 0 ∷ []) ∷ []
+unfolding nested meaning require longer _>>=_ digit varint unzigzag fixed tag lead followers behind char chars validPrefix kindWires ownWires wires wire shapes shape isScalar extend scalar goodEntry badEntry badSchema lookup unknownKind kindOf says saysOf content plain skipField skipGroup skipFieldForTag given shaped field used _followed-by_ element elements contents span records fields read within refusedOr called readingBy readingAs reading number place listed numbers
 letters-are = refl
 
 -- the pull reader's place is in its own bytes, and it stays
@@ -176,3 +183,23 @@ pub pulled-are :
     ≡ pull.says (pull.Refused 6 1) 0 ∷ pull.says (pull.Refused 6 5) 1 ∷ []
 unfolding pull.stepAt pull.spelled pull.moved content varint digit lead followers behind char chars validPrefix
 pulled-are = refl
+
+-- ---- dropped spans, where they are asked for
+
+-- groups and empty packed fields, in a message and in a message in it, between other fields
+abbrev dropping : List ℕ
+dropping = 0x08 ∷ 0x05 ∷ 0x1a ∷ 0x06 ∷ 0x1b ∷ 0x08 ∷ 0x01 ∷ 0x1c ∷ 0x08 ∷ 0x07 ∷ 0x22 ∷ 0x80 ∷ 0x00 ∷ []
+
+pub spans-are :
+    spans 1 schemaA (0x0b ∷ 0x14 ∷ []) ∷ spans 1 schemaA (0x22 ∷ 0x00 ∷ []) ∷ spans 5 schemaA dropping ∷ reads schemaA dropping
+    -- a group in a group is in its span; what the schema does not have is not dropped
+    ∷ spans 1 schemaA (0x0b ∷ 0x13 ∷ 0x14 ∷ 0x0c ∷ []) ∷ spans 1 schemaB (0x22 ∷ 0x00 ∷ [])
+    -- no room: judged when the group has been skipped or the zero length read, so what is wrong with them comes first
+    ∷ spans 0 schemaA (0x0b ∷ 0x0c ∷ []) ∷ spans 0 schemaA (0x0b ∷ 0x13 ∷ []) ∷ spans 1 schemaA (0x08 ∷ 0x05 ∷ 0x22 ∷ 0x00 ∷ []) ∷ spans 0 schemaA (0x22 ∷ 0x80 ∷ []) ∷ []
+    ≡ well (seven 0 1 25 0 0 2 0 ∷ []) ∷ well (seven 0 4 25 0 0 2 0 ∷ [])
+    ∷ well (seven 0 1 5 5 1 2 0 ∷ seven 0 3 11 0 4 10 2 ∷ seven 1 3 25 0 4 8 4 ∷ seven 1 1 13 7 9 10 8 ∷ seven 0 4 25 0 10 13 10 ∷ [])
+    ∷ well (seven 0 1 5 5 1 2 0 ∷ seven 0 3 11 0 4 10 2 ∷ seven 1 1 13 7 9 10 8 ∷ [])
+    ∷ well (seven 0 1 25 0 0 4 0 ∷ []) ∷ well (seven 0 4 23 0 2 2 0 ∷ [])
+    ∷ refused 8 0 ∷ refused 1 0 ∷ ((8 ∷ 2 ∷ []) ∷ seven 0 1 5 5 1 2 0 ∷ []) ∷ refused 1 0 ∷ []
+unfolding schemaA schemaB meaning require longer _>>=_ digit varint unzigzag fixed tag lead followers behind char chars validPrefix kindWires ownWires wires wire shapes shape isScalar extend scalar goodEntry badEntry badSchema lookup unknownKind kindOf says saysOf content plain skipField skipGroup skipFieldForTag given shaped field used _followed-by_ element elements contents span records fields read within refusedOr called readingBy readingAs reading number place listed numbers
+spans-are = refl

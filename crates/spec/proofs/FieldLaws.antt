@@ -8,7 +8,7 @@ use mathlib.Core.List.{List, _∷_}
 use lib.ListN.{length, drop}
 use lib.Dec.{leb, eqb}
 use borrow.Author.Tests.{leb-true, leb-false, le-leb, eq-eqb, ne-eqb}
-use Rattle.spec.specs.Names.{badVarint, delimitedWire, endGroupWire, endsEarly, fixed32Wire, fixed64Wire, messageKind, mostLevels, noGroupOpen, notUtf8, packedHead, startGroupWire, tooDeep, varintWire, groupEnd, groupStart, unknownBytes, unknownFixed32, unknownFixed64, unknownVarint}
+use Rattle.spec.specs.Names.{droppedSpan, badVarint, delimitedWire, endGroupWire, endsEarly, fixed32Wire, fixed64Wire, messageKind, mostLevels, noGroupOpen, notUtf8, packedHead, startGroupWire, tooDeep, varintWire, groupEnd, groupStart, unknownBytes, unknownFixed32, unknownFixed64, unknownVarint}
 use Rattle.spec.specs.Base.{if_then_else_, part, Read, Took, No, longer, _>>=_, digit}
 use Rattle.spec.specs.Varint.{varint, varint32, varint64, fixed, tag}
 use Rattle.spec.specs.Utf8.{utf8, validEnd}
@@ -16,7 +16,7 @@ use Rattle.spec.specs.Kind.{int32, uint32, uint64, bool, sint32, sint64,
 use Rattle.spec.specs.Schema.{Schema, lookup, unknownKind, kindOf, insideOf, saysOf, says}
 use Rattle.spec.specs.Skip.{content, skipField, innerGroup, outerGroup}
 use Rattle.spec.specs.Record.{row}
-use Rattle.spec.specs.Reading.{Mode, Look, looking, Field, Value, Message, Packed, Dropped, Fault, given, shaped, field, Reading, Done, _then_, contents, records}
+use Rattle.spec.specs.Reading.{Mode, Look, looking, Field, Value, Message, Packed, Dropped, Fault, given, shaped, field, Reading, Done, _then_, contents, span, records}
 use Rattle.spec.proofs.Laws.{if-so, if-not}
 use Rattle.spec.proofs.KindLaws.{wireOne, wireOf, wire-shape}
 use Rattle.spec.proofs.SkipLaws.{group-too-deep, group-closes, group-field-refused, tag-read}
@@ -206,7 +206,7 @@ module _ (mode : Mode) (sch : Schema) (depth type : ℕ) (s : List ℕ) (t n : �
         ∙ given-no _ (group-field-refused (No endsEarly) depth (drop n s) u m tooDeep r (λ x. omega arith)
         (ap (λ (x : ℕ). skipField innerGroup depth x (drop m (drop n s))) c ∙ group-too-deep innerGroup depth (drop m (drop n s)) h))
 
--- ---- the records of a packed field: its elements stand one deeper than the head, and with none there is no head
+-- ---- the records of a packed field: its elements stand one deeper than the head, and with none it is dropped
 
 module _ (mode : Mode) (inner : ℕ → ℕ → List ℕ → Reading) (depth at : ℕ) (s : List ℕ) (m kind a z : ℕ) where
   pub packed-records : a < z → records mode inner depth at s (Packed m kind a z)
@@ -214,6 +214,17 @@ module _ (mode : Mode) (inner : ℕ → ℕ → List ℕ → Reading) (depth at 
   unfolding records
   packed-records h = simp (ne-eqb a z (λ e. omega arith))
 
-  pub packed-empty : a ≡ z → records mode inner depth at s (Packed m kind a z) ≡ Done
+  pub packed-empty : a ≡ z → records mode inner depth at s (Packed m kind a z) ≡ span mode depth m at z
   unfolding records
   packed-empty h = simp (eq-eqb a z h)
+
+-- ---- what is dropped
+
+module _ (mode : Mode) (depth m at e : ℕ) where
+  pub span-none : mode .dropped ≡ false → span mode depth m at e ≡ Done
+  unfolding span
+  span-none h = ap (λ (b : Bool). if b then row depth m droppedSpan 0 at (at + e) at then Done else Done) h
+
+  pub span-asked : mode .dropped ≡ true → span mode depth m at e ≡ row depth m droppedSpan 0 at (at + e) at then Done
+  unfolding span
+  span-asked h = ap (λ (b : Bool). if b then row depth m droppedSpan 0 at (at + e) at then Done else Done) h

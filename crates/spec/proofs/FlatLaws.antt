@@ -1,8 +1,8 @@
--- Laws of records as numbers: what was stored is loaded again, but for the tags' places, which writing ignores; and the equations of
--- `recordsOf` with no count. Assumes nothing.
+-- Laws of records as numbers: what was stored is loaded again; writing ignores the tags' places; and the equations of `recordsOf` with no count.
+-- Assumes nothing.
 use Prim.Native.Nat.{ℕ, zero, suc, _+_, _≤_, _<_}
 use native.Mathlib.Omega.{arith}
-use mathlib.Core.Path.{_≡_, refl, ap, ap₂, _∙_}
+use mathlib.Core.Path.{_≡_, refl, sym, ap, ap₂, _∙_}
 use mathlib.Core.Bool.{Bool, true, false, not, _&&_}
 use mathlib.Core.List.{List, [], _∷_, _++_, map}
 use lib.ListN.{length, take, drop, length-map, length-drop}
@@ -13,8 +13,9 @@ use Rattle.spec.specs.Base.{if_then_else_, part}
 use Rattle.spec.specs.Utf8.{utf8}
 use Rattle.spec.specs.Kind.{Shape, one, other, string, bytes, message, packed, startGroup, endGroup, nothing, shape}
 use Rattle.spec.specs.Schema.{Schema, badSchema}
-use Rattle.spec.specs.Record.{Record, row, stride, numbers, loaded, stored, broken, recordsUpTo, recordsOf, deeper}
+use Rattle.spec.specs.Record.{Record, stride, numbers, loaded, stored, broken, recordsUpTo, recordsOf, deeper}
 use Rattle.spec.specs.Writing.{body, tagOf, bytesOf, written, Place, Fields, Elements, expected, fitting, nextDeeper, around, inside, recordFault, Verdict, orElse, listFault, schemaFirst, listCheck, judged, sized, writing}
+use Rattle.spec.specs.Spans.{untagged, IgnoresTags}
 
 -- ---- the records that numbers are
 
@@ -50,15 +51,14 @@ records-cons (n ∷ ns) h =
 
 -- ---- there and back
 
-abbrev pub untagged : Record → Record
-untagged r = row (r .depth) (r .number) (r .kind) (r .value) (r .start) (r .stop) 0
-
-pub records-stored : (rs : List Record) → recordsOf (stored rs) ≡ map untagged rs
+pub records-stored : (rs : List Record) → recordsOf (stored rs) ≡ rs
 unfolding recordsOf recordsUpTo stored numbers
 records-stored [] = refl
 records-stored (r ∷ rs) =
     records-cons (numbers r ++ stored rs) (omega arith)
-    ∙ ap (_∷_ (untagged r)) (records-stored rs)
+    ∙ ap (_∷_ r) (records-stored rs)
+
+-- ---- writing, and the list check, ignore the tags' places
 
 take-map : (n : ℕ) (rs : List Record) → take n (map untagged rs) ≡ map untagged (take n rs)
 take-map zero rs = refl
@@ -148,12 +148,18 @@ module _ (sch : Schema) (payload : List ℕ) where
       ap₂ (λ (k : ℕ) (v : Verdict). orElse k i v) (fault-untagged here r rs)
       (ap (λ (x : List Place). listFault sch payload (i + 1) x (map untagged rs)) (inside-untagged here r) ∙ list-untagged (i + 1) (inside sch here r) rs)
 
-  pub writing-untagged : (space : ℕ) (rs : List Record) → writing sch space payload (map untagged rs) ≡ writing sch space payload rs
-  unfolding writing listCheck written
+  check-untagged : (rs : List Record) → listCheck sch payload (map untagged rs) ≡ listCheck sch payload rs
+  unfolding listCheck
+  check-untagged rs = ap (schemaFirst (badSchema sch)) (list-untagged 0 (Fields 0 ∷ []) rs)
+
+  writing-untagged : (space : ℕ) (rs : List Record) → writing sch space payload (map untagged rs) ≡ writing sch space payload rs
+  unfolding writing written
   writing-untagged space rs =
-      ap₂ (λ (v : Verdict) (s : List ℕ). judged (schemaFirst (badSchema sch) v) (sized space s)) (list-untagged 0 (Fields 0 ∷ []) rs)
+      ap₂ (λ (v : Verdict) (s : List ℕ). judged v (sized space s)) (check-untagged rs)
       (ap (λ (k : ℕ). bytesOf k true payload (map untagged rs)) (length-map rs untagged) ∙ bytes-untagged (length rs) true payload rs)
 
-  -- what reading stored as numbers is written as the list was
-  pub writing-stored : (space : ℕ) (rs : List Record) → writing sch space payload (recordsOf (stored rs)) ≡ writing sch space payload rs
-  writing-stored space rs = ap (writing sch space payload) (records-stored rs) ∙ writing-untagged space rs
+pub ignores-tags : IgnoresTags
+ignores-tags sch space payload rs qs e = (
+  sym (check-untagged sch payload rs) ∙ ap (listCheck sch payload) e ∙ check-untagged sch payload qs,
+  sym (writing-untagged sch payload space rs) ∙ ap (writing sch space payload) e ∙ writing-untagged sch payload space qs,
+)

@@ -17,7 +17,7 @@ use Rattle.spec.specs.Kind.{Scalar, Shape, one, other, string, bytes, me
 use Rattle.spec.specs.Schema.{badSchema}
 use Rattle.spec.specs.Skip.{content}
 use Rattle.spec.specs.Record.{row}
-use Rattle.spec.specs.Reading.{Mode, Look, looking, Field, Value, Message, Packed, Dropped, Fault, given, shaped, field, used, Reading, Refused, _then_, _followed-by_, element, elements, contents, records, read, within, refusedOr, called, readingBy, readingAs}
+use Rattle.spec.specs.Reading.{Mode, Look, looking, Field, Value, Message, Packed, Dropped, Fault, given, shaped, field, used, Reading, Refused, _then_, _followed-by_, element, elements, contents, span, records, read, within, refusedOr, called, readingBy, readingAs}
 use Rattle.spec.specs.Pull as pull
 use Rattle.spec.specs.Letter as letter
 use Rattle.spec.specs.Letter.{BrokenAt, FieldAt, BrokenLetter, TellsLetter, ToldLetter, PullTellsLetter}
@@ -26,7 +26,7 @@ use Rattle.spec.proofs.VarintLaws.{lower-or-not}
 use Rattle.spec.proofs.Utf8Laws.{prefix-valid, prefix-short, prefix-no-longer}
 use Rattle.spec.proofs.UnicodeLaws.{text-valid, valid-text}
 use Rattle.spec.proofs.FieldLaws.{message-head, message-too-deep}
-use Rattle.spec.proofs.ReadingLaws.{Sound, is-value, is-message, is-packed, is-dropped, is-fault, read-nil, read-cons, field-sound, refused-first}
+use Rattle.spec.proofs.ReadingLaws.{Sound, is-value, is-message, is-packed, is-dropped, is-fault, taken-or-fault, read-nil, read-cons, field-sound, refused-first}
 use Rattle.spec.proofs.RoundTrip.{Stands, stands-self, stands-lies}
 use Rattle.spec.proofs.ListLaws.{is-string-kind}
 use Rattle.spec.proofs.MadeLaws.{part-length, part-behind, stands-inside, stands-behind, content-is}
@@ -131,11 +131,7 @@ module _ (look : Look) (type : ℕ) (w : List ℕ) where
 
 used-in : {most : ℕ} {x : Field} → Sound most x → used x ≤ most
 unfolding used
-used-in (is-value h) = h .2
-used-in (is-message h) = h .2
-used-in (is-packed h) = h .2
-used-in (is-dropped h) = h .2
-used-in (is-fault h) = omega arith
+used-in {most} ok = taken-or-fault (λ (x : Field). used x ≤ most) ok (λ h l. l) (λ k p. omega arith)
 
 message-bounds : {most m c a e : ℕ} → Sound most (Message m c a e) → (1 ≤ a) × (a ≤ e) × (e ≤ most)
 message-bounds (is-message h) = h
@@ -214,6 +210,10 @@ module _ (look : Look) (s : List ℕ) where
   contents-so (one c) d m kind t at u = elements-so (length u) c d m kind t at u
   contents-so (other x) d m kind t at u = none-at-all
 
+  span-so : (mode : Mode) (d m at e : ℕ) → Refusals So (span mode d m at e)
+  unfolding span
+  span-so mode d m at e = either-way (Refusals So) (mode .dropped) (after-it none-at-all) none-at-all
+
   -- The records of a field, whose content reads so, and then the rest, which nothing reads after a fault.
   field-so : (inner : ℕ → ℕ → List ℕ → Reading) (rest : Reading) {d t at : ℕ} {w : List ℕ} (x : Field) → FieldAt look s d t at w → Told look t w x → Sound (length w) x
       → ((m c a e : ℕ) → x ≡ Message m c a e → Refusals So (inner c (at + a) (part a e w)))
@@ -223,8 +223,8 @@ module _ (look : Look) (s : List ℕ) where
   field-so inner rest (Value m k v a e) f told (is-value h) g r = refusals-followed So (after-it none-at-all) (r (omega arith))
   field-so inner rest (Message m c a e) f told (is-message h) g r = refusals-followed So (after-it (g m c a e refl)) (r (omega arith))
   field-so inner rest {d} {at = at} {w} (Packed m k a e) f told (is-packed h) g r =
-      refusals-followed So (either-way (Refusals So) (eqb a e) none-at-all (after-it (contents-so (shape k) (d + 1) m k at (at + a) (part a e w)))) (r (omega arith))
-  field-so inner rest (Dropped m e) f told (is-dropped h) g r = refusals-followed So none-at-all (r (omega arith))
+      refusals-followed So (either-way (Refusals So) (eqb a e) (span-so (look .mode) d m at e) (after-it (contents-so (shape k) (d + 1) m k at (at + a) (part a e w)))) (r (omega arith))
+  field-so inner rest {d} {at = at} (Dropped m e) f told (is-dropped h) g r = refusals-followed So (span-so (look .mode) d m at e) (r (omega arith))
   field-so inner rest {at = at} (Fault k p) f (a-fault o) (is-fault h) g r = subst (Refusals So) (sym (refused-first k (at + p) rest)) (refused-so (λ e. absurd (not-ordinary o e)))
   field-so inner rest {at = at} (Fault k p) f (a-letter l) (is-fault h) g r = subst (Refusals So) (sym (refused-first notUtf8 (at + p) rest)) (refused-so (λ e. in-message look s f l))
 

@@ -25,3 +25,4 @@ pub mod MadeLaws
 pub mod ValidLaws
 pub mod RefusalLaws
 pub mod LetterLaws
+pub mod SpanLaws

@@ -9,13 +9,13 @@ use lib.ListN.{length, take, drop, getD, length-append}
 use lib.Seq.{take-append-seam, drop-append-seam}
 use lib.Dec.{leb, eqb}
 use borrow.Author.Tests.{leb-true, leb-false, eqb-true, lt-ltb, le-ltb, eq-eqb}
-use Rattle.spec.specs.Names.{fixed32Wire, largestNumber, messageKind, mostLevels, packedHead, stringKind, delimitedWire, invalidList, sint64Kind, unknownBytes}
+use Rattle.spec.specs.Names.{fixed32Wire, largestNumber, messageKind, mostLevels, packedHead, stringKind, delimitedWire, invalidList, sint64Kind}
 use Rattle.spec.specs.Base.{if_then_else_, between, part, limit}
 use Rattle.spec.specs.Utf8.{utf8}
 use Rattle.spec.specs.Kind.{Scalar, Shape, Special, one, other, string, bytes, message, packed, startGroup, endGroup, nothing, shapes, shape, wire, isScalar, encoded, fits}
 use mathlib.Core.Option.{Option, none, some}
 use Rattle.spec.specs.Schema.{Schema, badSchema, lookup, unknownKind, kindOf}
-use Rattle.spec.proofs.Laws.{both, by-test}
+use Rattle.spec.proofs.Laws.{either-way, chosen, both, by-test}
 use Rattle.spec.specs.Record.{Record, deeper}
 use Rattle.spec.specs.declared.Entry.{Entry}
 use Rattle.spec.specs.Reading.{Mode, looking, Done, read, after}
@@ -136,15 +136,21 @@ deeper-run d (y ∷ ys) over-nil l = ap (λ (b : Bool). if b then deeper d ys + 
 deeper-run d ys (over-cons {r} {rs} h a) l =
     ap (λ (b : Bool). if b then deeper d (rs ++ ys) + 1 else 0) (lt-ltb d (r .depth) (omega arith)) ∙ omega (arith, deeper-run d ys a l)
 
+module _ (d : ℕ) {xs : List Record} (ys : List Record) (o : Over (d + 1) xs) (l : Low (d + 1) ys) where
+  pub take-run : take (deeper d (xs ++ ys)) (xs ++ ys) ≡ xs
+  take-run = ap (λ (n : ℕ). take n (xs ++ ys)) (deeper-run d ys o l) ∙ take-append-seam xs ys
+
+  pub drop-run : drop (deeper d (xs ++ ys)) (xs ++ ys) ≡ ys
+  drop-run = ap (λ (n : ℕ). drop n (xs ++ ys)) (deeper-run d ys o l) ∙ drop-append-seam xs ys
+
 -- the bytes of a record, of those in it and of those after it
 pub bytes-run : (tags : Bool) (payload : List ℕ) (r : Record) (xs ys : List Record) → Over (r .depth + 1) xs → Low (r .depth + 1) ys
     → bytesIn tags payload (r ∷ (xs ++ ys))
     ≡ tagOf tags r ++ body (shape (r .kind)) payload r (bytesIn (not (eqb (r .kind) packedHead)) payload xs) ++ bytesIn tags payload ys
 bytes-run tags payload r xs ys o l =
-    let n : deeper (r .depth) (xs ++ ys) ≡ length xs = deeper-run (r .depth) ys o l in
     bytes-cons tags payload r (xs ++ ys)
     ∙ ap₂ (λ (x y : List Record). tagOf tags r ++ body (shape (r .kind)) payload r (bytesIn (not (eqb (r .kind) packedHead)) payload x) ++ bytesIn tags payload y)
-    (ap (λ (k : ℕ). take k (xs ++ ys)) n ∙ take-append-seam xs ys) (ap (λ (k : ℕ). drop k (xs ++ ys)) n ∙ drop-append-seam xs ys)
+    (take-run (r .depth) ys o l) (drop-run (r .depth) ys o l)
 
 -- ---- kinds of values, and of records
 
@@ -153,15 +159,24 @@ unfolding isScalar
 scalar-shape (one c) e = (c, refl)
 scalar-shape (other y) e = absurd (false≢true e)
 
-pub packed-shape : (e : Entry) → e .kind ≤ sint64Kind → kindOf e delimitedWire ≡ packedHead → (c : Scalar) × (shape (e .kind) ≡ one c)
-unfolding kindOf unknownKind
-packed-shape e h p = go (eqb delimitedWire (wire (e .kind))) (e .repeated) (isScalar (shape (e .kind))) refl p
-  where
-    go : (a b c : Bool) → isScalar (shape (e .kind)) ≡ c → (if a then e .kind else if b && c && true then packedHead else unknownBytes) ≡ packedHead → (c : Scalar) × (shape (e .kind) ≡ one c)
-    go true b c q p = absurd (omega arith)
-    go false true true q p = scalar-shape (shape (e .kind)) q
-    go false true false q p = absurd (omega arith)
-    go false false c q p = absurd (omega arith)
+unknown-unpacked : (w : ℕ) → unknownKind w ≡ packedHead → ⊥
+unfolding unknownKind
+unknown-unpacked zero e = omega arith
+unknown-unpacked (suc zero) e = omega arith
+unknown-unpacked (suc (suc zero)) e = omega arith
+unknown-unpacked (suc (suc (suc zero))) e = omega arith
+unknown-unpacked (suc (suc (suc (suc zero)))) e = omega arith
+unknown-unpacked (suc (suc (suc (suc (suc zero))))) e = omega arith
+unknown-unpacked (suc (suc (suc (suc (suc (suc n)))))) e = omega arith
+
+pub packed-shape : (e : Entry) (w : ℕ) → e .kind ≤ sint64Kind → kindOf e w ≡ packedHead → (c : Scalar) × (shape (e .kind) ≡ one c)
+unfolding kindOf
+packed-shape e w h =
+    let P : ℕ → Type 0 = λ k. k ≡ packedHead → (c : Scalar) × (shape (e .kind) ≡ one c) in
+    let x : Bool = isScalar (shape (e .kind)) in
+    either-way P (eqb w (wire (e .kind))) (λ p. absurd (omega arith))
+    (chosen P (e .repeated && x && eqb w delimitedWire)
+    (λ q p. scalar-shape (shape (e .kind)) (both (e .repeated) x (both (e .repeated && x) (eqb w delimitedWire) q .0) .1)) (λ q p. absurd (unknown-unpacked w p)))
 
 pub recorded-small : (w : ℕ) → recorded w ≡ true → w ≤ fixed32Wire
 recorded-small w e = go (leb w delimitedWire) (eqb w fixed32Wire) refl refl e
@@ -444,7 +459,7 @@ module _ (sch : Schema) (payload : List ℕ) where
         (λ p. by-test (eqb (r .kind) packedHead)
         (λ q.
         let kin : r .kind ≡ packedHead = eqb-true (r .kind) packedHead q in
-        let c = packed-shape e (kinds t (r .number)) (ap (λ (k : ℕ). kindOf e (wire k)) (sym kin) ∙ expects t r (ok .is-expected) .reads ∙ kin) in
+        let c = packed-shape e (wire packedHead) (kinds t (r .number)) (ap (λ (k : ℕ). kindOf e (wire k)) (sym kin) ∙ expects t r (ok .is-expected) .reads ∙ kin) in
         let g : GrownV (c .0) (r .number) (e .kind) (Fields t ∷ out) rs =
         growV (c .0) (r .number) (e .kind) (c .1) (Fields t ∷ out) rs (i + 1) (ap₂ (λ (a b : Bool). listFault sch payload (i + 1) (next a b) rs) (sym p) (sym q) ∙ later) in
         let short : length (g .rest) ≤ f = omega (arith, ap length (g .is), length-append (g .xs) (g .rest)) in

@@ -3,7 +3,7 @@
 use Prim.Native.Nat.{ℕ, zero, suc, _+_, _-_, _*_, _/_, _%_, _^_, _≤_, _<_}
 use native.Mathlib.Omega.{arith}
 use mathlib.Core.Path.{_≡_, refl, sym, ap, ap₂, _∙_, subst}
-use mathlib.Core.Bool.{Bool, true, _&&_}
+use mathlib.Core.Bool.{Bool, true, false, _&&_}
 use mathlib.Core.List.{List, [], _∷_, _++_, append-assoc}
 use lib.ListN.{length, take, drop, length-append, length-drop, take-append-drop}
 use lib.Seq.{drop-drop, length-take-le}
@@ -17,14 +17,14 @@ use Rattle.spec.specs.Kind.{Scalar, Shape, one, other, string, bytes, me
 use Rattle.spec.specs.Schema.{Schema, lookup, unknownKind, kindOf, insideOf, saysOf, says}
 use Rattle.spec.specs.Record.{Record, row}
 use Rattle.spec.specs.Skip.{outerGroup}
-use Rattle.spec.specs.Reading.{Mode, looking, Field, Value, Message, Packed, Dropped, Fault, given, shaped, field, used, Reading, Done, Refused, _then_, _followed-by_, after, element, elements, contents, records, read}
+use Rattle.spec.specs.Reading.{Mode, looking, Field, Value, Message, Packed, Dropped, Fault, given, shaped, field, used, Reading, Done, Refused, _then_, _followed-by_, after, element, elements, contents, span, records, read}
 use Rattle.spec.specs.Writing.{prefixed, lies}
 use Rattle.spec.specs.declared.Entry.{Entry}
 use Rattle.spec.proofs.Laws.{by-test, both, both-true, chosen, Takes, took, takes-tag, takes-scalar}
 use Rattle.spec.proofs.SkipLaws.{tag-read}
 use Rattle.spec.proofs.VarintLaws.{lower-or-not, varint-took}
-use Rattle.spec.proofs.FieldLaws.{message-head, message-too-deep}
-use Rattle.spec.proofs.ReadingLaws.{read-nil, read-cons, elements-cons, field-sound}
+use Rattle.spec.proofs.FieldLaws.{message-head, message-too-deep, span-none}
+use Rattle.spec.proofs.ReadingLaws.{taken-or-fault, read-nil, read-cons, elements-cons, field-sound}
 use Rattle.spec.proofs.ReadingLaws as reads
 use Rattle.spec.proofs.ListLaws.{is-message-kind, is-packed-head, packed-shape}
 use Rattle.spec.proofs.RoundTrip.{Stands, stands-lies, stands-part, Expected, again, tagBytes, Values, no-value, value, Tree, no-field, number, text, blob, inner, row-of}
@@ -57,6 +57,13 @@ both-read (r then p) q rs e =
     let f = first-read r (p followed-by q) rs e in
     let g = both-read p q (f .0) (f .2) in
     (r ∷ g .0, g .1, ap (_then_ r) (g .2), g .3, f .1 ∙ ap (_∷_ r) (g .4))
+
+-- a field that gave records, or none, and no refusal, took some bytes
+pub some-used : {most : ℕ} (mode : Mode) (i : ℕ → ℕ → List ℕ → Reading) (d at : ℕ) (w : List ℕ) (x : Field) → reads.Sound most x → (xs : List Record)
+    → records mode i d at w x ≡ after xs Done → (1 ≤ used x) × (used x ≤ most)
+unfolding records
+some-used {most} mode i d at w x ok xs =
+    taken-or-fault (λ (y : Field). records mode i d at w y ≡ after xs Done → (1 ≤ used y) × (used y ≤ most)) ok (λ h l e. (h, l)) (λ k q e. never-refused k (at + q) xs e)
 
 -- ---- the wire type of what a field is read as is the field's
 
@@ -137,7 +144,7 @@ record Frame (most m k a e : ℕ) : Type 0 where
   inside : e ≤ most
   long : (x : ℕ) → x ≤ e - a → tagLength m k + length (encode x) ≤ a
 
-module _ (mode : Mode) (sch : Schema) (kinds : (t m : ℕ) → lookup (sch .entries) t m .kind ≤ sint64Kind) where
+module _ (mode : Mode) (unasked : mode .dropped ≡ false) (sch : Schema) (kinds : (t m : ℕ) → lookup (sch .entries) t m .kind ≤ sint64Kind) where
   abbrev Known : ℕ → ℕ → ℕ → Type 0
   Known t m k = Expected sch t (row 0 m k 0 0 0 0)
 
@@ -191,7 +198,7 @@ module _ (mode : Mode) (sch : Schema) (kinds : (t m : ℕ) → lookup (sch .entr
     shaped-found (other packed) sh =
         let kin : k ≡ 20 = is-packed-head k sh in
         let is : Known t m 20 = subst (Known t m) kin known in
-        let c = packed-shape (lookup (sch .entries) t m) (kinds t m) (is .reads) in
+        let c = packed-shape (lookup (sch .entries) t m) delimitedWire (kinds t m) (is .reads) in
         found-framed (content-framed 9 1 (drop n u) (omega arith)) λ a e f.
         let same : lookup (sch .entries) t m .kind ≡ insideOf k (lookup (sch .entries) t m) = sym (ap (λ (j : ℕ). insideOf j (lookup (sch .entries) t m)) kin) in
         a-row (c .0) is same (ap shape (sym same) ∙ c .1) (subst (λ (j : ℕ). Frame (length u) m j (n + a) (n + e)) kin f)
@@ -328,13 +335,13 @@ module _ (mode : Mode) (sch : Schema) (kinds : (t m : ℕ) → lookup (sch .entr
       made-one (Packed m k a e) (a-row c known kin sh f) (reads.is-packed i) xs ys p (b, tree, l) =
           by-test (eqb a e)
           (λ q.
-          let z : xs ≡ [] = nothing-read xs (sym (ap (λ (w : Bool). if w then Done else (row d m packedHead 0 (at + a) (at + e) at then contents (shape k) (d + 1) m k at (at + a) (part a e u))) q) ∙ p) in
+          let z : xs ≡ [] = nothing-read xs (sym (span-none mode d m at e unasked) ∙ sym (ap (λ (w : Bool). if w then span mode d m at e else (row d m packedHead 0 (at + a) (at + e) at then contents (shape k) (d + 1) m k at (at + a) (part a e u))) q) ∙ p) in
           (b, subst (λ (x : List Record). Tree sch s t d (x ++ ys) b) (sym z) tree, omega (arith, f .inside)))
           (λ q.
           let r : Record = row d m packedHead 0 (at + a) (at + e) at in
           let w : List ℕ = part a e u in
           let y = first-read r (contents (shape k) (d + 1) m k at (at + a) w) xs
-          (sym (ap (λ (x : Bool). if x then Done else (r then contents (shape k) (d + 1) m k at (at + a) w)) q) ∙ p) in
+          (sym (ap (λ (x : Bool). if x then span mode d m at e else (r then contents (shape k) (d + 1) m k at (at + a) w)) q) ∙ p) in
           let g = made-values (length w) c m k (d + 1) at (at + a) w (omega arith) (bytes-take (e - a) (drop a u) (bytes-drop a u bs)) (y .0)
           (ap (λ (x : Shape). contents x (d + 1) m k at (at + a) w) (sym sh) ∙ y .2) in
           let vs : Values c m (lookup (sch .entries) t m .kind) (d + 1) (y .0) (g .0) = subst (λ (n : ℕ). Values c m n (d + 1) (y .0) (g .0)) (sym kin) (g .1) in
@@ -345,18 +352,9 @@ module _ (mode : Mode) (sch : Schema) (kinds : (t m : ℕ) → lookup (sch .entr
             framed-length (length u) m 20 a e (g .0) b f (omega (arith, g .2, part-length a e u (f .in-order) (f .inside))) l,
           ))
       made-one (Dropped m e) a-group (reads.is-dropped i) xs ys p (b, tree, l) =
-          let z : xs ≡ [] = nothing-read xs p in
+          let z : xs ≡ [] = nothing-read xs (sym (span-none mode d m at e unasked) ∙ p) in
           (b, subst (λ (x : List Record). Tree sch s t d (x ++ ys) b) (sym z) tree, omega arith)
       made-one (Fault k q) a-fault (reads.is-fault h) xs ys p g = never-refused k (at + q) xs p
-
-    -- a field that gave records, or none, and no refusal, took some bytes
-    some-used : (i : ℕ → ℕ → List ℕ → Reading) (d at most : ℕ) (w : List ℕ) (x : Field) → reads.Sound most x → (xs : List Record) → records mode i d at w x ≡ after xs Done → (1 ≤ used x) × (used x ≤ most)
-    unfolding records used
-    some-used i d at most w (Value m k v a e) (reads.is-value h) xs p = omega arith
-    some-used i d at most w (Message m c a e) (reads.is-message h) xs p = omega arith
-    some-used i d at most w (Packed m k a e) (reads.is-packed h) xs p = omega arith
-    some-used i d at most w (Dropped m e) (reads.is-dropped h) xs p = omega arith
-    some-used i d at most w (Fault k q) (reads.is-fault h) xs p = never-refused k (at + q) xs p
 
     pub made : (f : ℕ) (u : List ℕ) → length u ≤ f → (d t at : ℕ) → Stands s at u → Bytes u → (rs : List Record) → read (looking mode sch) d t at u ≡ after rs Done → Made t d rs (length u)
     made zero [] h d t at st bs rs e =
@@ -371,7 +369,7 @@ module _ (mode : Mode) (sch : Schema) (kinds : (t m : ℕ) → lookup (sch .entr
         let x : Field = field (looking mode sch) d t w in
         let g = both-read (records mode (λ c a v. read (looking mode sch) (d + 1) c a v) d at w x) (read (looking mode sch) d t (at + used x) (drop (used x) w)) rs (sym (read-cons (looking mode sch) d t at b u) ∙ e) in
         let ok = field-sound (looking mode sch) d t w in
-        let n = some-used (λ c a v. read (looking mode sch) (d + 1) c a v) d at (length w) w x ok (g .0) (g .2) in
+        let n = some-used mode (λ c a v. read (looking mode sch) (d + 1) c a v) d at w x ok (g .0) (g .2) in
         let long : length (drop (used x) w) ≡ length w - used x = length-drop (used x) w in
         let rest : Made t d (g .1) (length w - used x) =
         subst (Made t d (g .1)) long (made f (drop (used x) w) (omega (arith, n)) d t (at + used x) (stands-behind s (used x) w (n .1) st) (bytes-drop (used x) w bs) (g .1) (g .3)) in

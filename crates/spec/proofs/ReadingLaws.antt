@@ -9,7 +9,7 @@ use Rattle.spec.specs.Names.{endsEarly, messageKind, mostLevels}
 use Rattle.spec.specs.Base.{part, Read, No}
 use Rattle.spec.specs.Utf8.{utf8}
 use Rattle.spec.specs.Kind.{Scalar, Shape, one, other, string, bytes, message, packed, startGroup, endGroup, nothing, shape, scalar}
-use Rattle.spec.specs.Reading.{Mode, Look, Field, Value, Message, Packed, Dropped, Fault, given, shaped, field, used, Reading, Done, Refused, _then_, _followed-by_, element, elements, records, fields, read}
+use Rattle.spec.specs.Reading.{Mode, Look, Field, Value, Message, Packed, Dropped, Fault, given, shaped, field, used, Reading, Done, Refused, _then_, _followed-by_, element, elements, span, records, fields, read}
 use Rattle.spec.specs.Record.{row}
 use Rattle.spec.proofs.Laws.{either-way, Takes, took, none, takes-tag, takes-scalar, takes-varint, Holds, holds, content-holds}
 use Rattle.spec.proofs.VarintLaws.{lower-or-not}
@@ -28,6 +28,15 @@ pub data Sound (most : ℕ) : Field → Type 0 where
   is-packed : {m k a e : ℕ} → In a e most → Sound most (Packed m k a e)
   is-dropped : {m e : ℕ} → In e e most → Sound most (Dropped m e)
   is-fault : {n p : ℕ} → p ≤ most → Sound most (Fault n p)
+
+-- such a field took some of them, or is a fault
+pub taken-or-fault : (P : Field → Type 0) {most : ℕ} {x : Field} → Sound most x → (1 ≤ used x → used x ≤ most → P x) → ((k p : ℕ) → P (Fault k p)) → P x
+unfolding used
+taken-or-fault P (is-value h) f g = f (omega arith) (omega arith)
+taken-or-fault P (is-message h) f g = f (omega arith) (omega arith)
+taken-or-fault P (is-packed h) f g = f (omega arith) (omega arith)
+taken-or-fault P (is-dropped h) f g = f (omega arith) (omega arith)
+taken-or-fault P (is-fault {n} {p} h) f g = g n p
 
 -- the same as functions, whose arguments are read off what is to be proved
 value-in : {most m k v a e : ℕ} → In a e most → Sound most (Value m k v a e)
@@ -112,7 +121,7 @@ field-cong mode p q p′ q′ depth at s (Message m c a e) (is-message h) inner 
     (inner c (at + a) (part a e s) (omega (arith, length-part a e s))) (rest (omega arith) (omega arith))
 field-cong mode p q p′ q′ depth at s (Packed m k a e) (is-packed h) inner rest =
     ap (λ (r : Reading). records mode p depth at s (Packed m k a e) followed-by r) (rest (omega arith) (omega arith))
-field-cong mode p q p′ q′ depth at s (Dropped m e) (is-dropped h) inner rest = ap (λ (r : Reading). Done followed-by r) (rest (omega arith) (omega arith))
+field-cong mode p q p′ q′ depth at s (Dropped m e) (is-dropped h) inner rest = ap (λ (r : Reading). span mode depth m at e followed-by r) (rest (omega arith) (omega arith))
 field-cong mode p q p′ q′ depth at s (Fault n i) (is-fault h) inner rest = refused-first n (at + i) p′ ∙ sym (refused-first n (at + i) q′)
 
 pub fields-enough : (f g : ℕ) (look : Look) (depth type at : ℕ) (s : List ℕ) → length s ≤ f → length s ≤ g

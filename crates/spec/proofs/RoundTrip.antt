@@ -17,7 +17,7 @@ use Rattle.spec.proofs.VarintLaws.{lower-or-not, shortest-ends, shortes
 use Rattle.spec.specs.Utf8.{utf8}
 use Rattle.spec.specs.Kind.{Scalar, Shape, Special, one, other, string, bytes, message, packed, startGroup, endGroup, nothing, shape, wire, scalar, encoded, fits}
 use Rattle.spec.specs.Schema.{Schema, lookup, insideOf, saysOf}
-use Rattle.spec.specs.Reading.{Mode, looking, Field, Value, Message, Packed, given, shaped, field, used, Reading, Done, _then_, _followed-by_, element, elements, contents, records, read, after}
+use Rattle.spec.specs.Reading.{Mode, looking, Field, Value, Message, Packed, given, shaped, field, used, Reading, Done, _then_, _followed-by_, element, elements, contents, span, records, read, after}
 use Rattle.spec.specs.Writing.{prefixed, lies}
 use Rattle.spec.proofs.Laws.{both-true, Takes, took, takes-scalar}
 use Rattle.spec.proofs.ReadingLaws.{read-nil, read-cons, elements-cons}
@@ -370,7 +370,7 @@ module _ (sch : Schema) (payload s : List ℕ) where
       (ap (field (looking mode sch) d t) (append-assoc (tagBytes r) (prefixed i) b) ∙ field-is mode sch d t r (prefixed i ++ b) ex (other packed) (ap shape kin ∙ shape-packed) packedHead kin
       ∙ packed-written mode d (y .kind) (r .number) (r .kind) (length (tagBytes r)) i b small)
       refl (omega (arith, encode-pos 9 (r .number * 8 + wire (r .kind)))) dep kin val (ap hasContent shape-packed)
-      (ap (λ (w : Bool). if w then Done else (top then contents (shape (y .kind)) (d + 1) (r .number) (y .kind) at (at + a) (part a z (x ++ b)))) apart
+      (ap (λ (w : Bool). if w then span mode d (r .number) at z else (top then contents (shape (y .kind)) (d + 1) (r .number) (y .kind) at (at + a) (part a z (x ++ b)))) apart
       ∙ ap (_then_ top)
       (ap (λ (w : Shape). contents w (d + 1) (r .number) (y .kind) at (at + a) (part a z (x ++ b))) sh
       ∙ ap (λ (u : List ℕ). elements (length u) c (d + 1) (r .number) (y .kind) at (at + a) u) (inner-part t d at r i b) ∙ xs .1))

@@ -9,16 +9,16 @@ use mathlib.Core.Logic.{_≢_}
 use mathlib.Core.Bool.{Bool, true, false, not, false≢true}
 use mathlib.Core.List.{List, [], _∷_, _++_, append-assoc, append-nil}
 use mathlib.Core.Option.{none}
-use lib.ListN.{length, take, drop, getD, length-append, length-drop, drop-of-length-le, List·getD-eq-default}
-use lib.Seq.{take-append-seam, drop-append-seam, drop-drop, drop-nil, getD-drop}
+use lib.ListN.{length, drop, getD, length-append, length-drop, drop-of-length-le, List·getD-eq-default}
+use lib.Seq.{drop-append-seam, drop-drop, drop-nil, getD-drop}
 use lib.Dec.{leb, eqb}
 use borrow.Author.Tests.{le-leb, lt-leb, leb-true, leb-false}
-use Rattle.spec.specs.Names.{groupStart, largestNumber, messageKind, mostLevels, packedHead, allKinds, deepest, delimitedWire, groupEnd, kindColumn, numberColumn, recordKinds, startColumn, stopColumn, valueColumn}
+use Rattle.spec.specs.Names.{groupStart, largestNumber, messageKind, mostLevels, packedHead, allKinds, deepest, delimitedWire, groupEnd, kindColumn, numberColumn, recordKinds, startColumn, stopColumn, tagColumn, valueColumn}
 use Rattle.spec.specs.Base.{if_then_else_, part}
 use Rattle.spec.specs.Varint.{encode, tagSize}
 use Rattle.spec.specs.Kind.{Scalar, int32, uint32, uint64, bool, sint32, sint64, fixed32, sfixed32, fixed64, Shape, one, other, string, bytes, message, packed, startGroup, endGroup, nothing, shapes, shape, wire, encoded, fits}
 use Rattle.spec.specs.Schema.{Schema, badSchema, lookup}
-use Rattle.spec.specs.Record.{Record, deeper, stride, recordsOf, recordAt, recordsFrom}
+use Rattle.spec.specs.Record.{Record, stride, recordsOf, recordAt, recordsFrom}
 use Rattle.spec.specs.Sizes.{bodySize, sizeOf}
 use Rattle.spec.specs.Writing.{prefixed, body, tagOf, written, Fields, lies, Fine, listFault}
 use Rattle.spec.proofs.Laws.{both, chosen, either-way}
@@ -28,7 +28,7 @@ use Rattle.spec.proofs.WritingLaws.{bytesIn}
 use Rattle.spec.proofs.FlatLaws.{records-nil, records-broken, records-cons}
 use Rattle.spec.proofs.RoundTrip.{hasContent, tagBytes, Values, no-value, value, Tree, no-field, number, text, blob, inner, row-of, shape-message, shape-packed, encode-pos, encoded-pos}
 use Rattle.spec.proofs.SchemaLaws.{schema-kinds}
-use Rattle.spec.proofs.ListLaws.{is-message-kind, is-packed-head, Over, over-nil, over-cons, Low, deeper-run, bytes-run, values-low, tree-low, valid-tree}
+use Rattle.spec.proofs.ListLaws.{is-message-kind, is-packed-head, Over, over-nil, over-cons, Low, take-run, drop-run, bytes-run, values-low, tree-low, valid-tree}
 use Rattle.spec.proofs.TreeLaws.{low-append, low-weaker}
 use Rattle.spec.proofs.SizeLaws.{sizeIn, size-cons, size-written}
 
@@ -114,10 +114,9 @@ pub size-run : (tags : Bool) (r : Record) (xs ys : List Record) → Over (r .dep
     → sizeIn tags (r ∷ (xs ++ ys))
     ≡ (if tags then tagSize (r .number) else 0) + bodySize (shape (r .kind)) r (sizeIn (not (eqb (r .kind) packedHead)) xs) + sizeIn tags ys
 size-run tags r xs ys o l =
-    let n : deeper (r .depth) (xs ++ ys) ≡ length xs = deeper-run (r .depth) ys o l in
     size-cons tags r (xs ++ ys)
     ∙ ap₂ (λ (x y : List Record). (if tags then tagSize (r .number) else 0) + bodySize (shape (r .kind)) r (sizeIn (not (eqb (r .kind) packedHead)) x) + sizeIn tags y)
-    (ap (λ (k : ℕ). take k (xs ++ ys)) n ∙ take-append-seam xs ys) (ap (λ (k : ℕ). drop k (xs ++ ys)) n ∙ drop-append-seam xs ys)
+    (take-run (r .depth) ys o l) (drop-run (r .depth) ys o l)
 
 -- a run's first record: the run in it, and the rest of the run
 module _ (d : ℕ) (r : Record) (rs : List Record) (up : d ≤ r .depth) where
@@ -373,7 +372,7 @@ pub records-at : (ns : List ℕ) (b : ℕ) → b + stride ≤ length ns
 records-at ns b h =
     let zeroth : getD (drop b ns) 0 0 ≡ getD ns b 0 = rw add-zero at (getD-drop b ns 0 0) in
     records-cons (drop b ns) (omega (arith, length-drop b ns))
-    ∙ rw (zeroth, getD-drop b ns numberColumn 0, getD-drop b ns kindColumn 0, getD-drop b ns valueColumn 0, getD-drop b ns startColumn 0, getD-drop b ns stopColumn 0, drop-drop stride b ns) refl
+    ∙ rw (zeroth, getD-drop b ns numberColumn 0, getD-drop b ns kindColumn 0, getD-drop b ns valueColumn 0, getD-drop b ns startColumn 0, getD-drop b ns stopColumn 0, getD-drop b ns tagColumn 0, drop-drop stride b ns) refl
 
 pub records-end : (ns : List ℕ) (b : ℕ) → length ns ≤ b → recordsFrom ns b ≡ []
 records-end ns b h = ap recordsOf (drop-of-length-le ns {i = b} h) ∙ records-nil

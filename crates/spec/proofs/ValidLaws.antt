@@ -59,9 +59,9 @@ goes bad look room s h v =
 
 pub reading-valid : ReadingValid
 unfolding readingAs listCheck schemaFirst
-reading-valid mode sch room s rs bs e =
+reading-valid mode unasked sch room s rs bs e =
     let x = ended (badSchema sch) (looking mode sch) room s rs e in
-    let m = made mode sch (schema-kinds sch (x .good)) s (length s) s (omega arith) 0 0 0 (stands-self s) bs rs (x .reads) in
+    let m = made mode unasked sch (schema-kinds sch (x .good)) s (length s) s (omega arith) 0 0 0 (stands-self s) bs rs (x .reads) in
     record {
       valid = ap (λ (o : Option ℕ). schemaFirst o (listFault sch s 0 (Fields 0 ∷ []) rs)) (x .good) ∙ tree-valid sch s (m .1);
       no-longer = omega (arith, m .2, ap length (tree-written sch s (m .1)));

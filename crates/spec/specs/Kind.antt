@@ -29,7 +29,8 @@ kindWires =
     ∷ fixed32Wire ∷ varintWire ∷ delimitedWire ∷ noWire ∷ delimitedWire ∷ delimitedWire  -- fixed32 bool string - message bytes
     ∷ varintWire ∷ varintWire ∷ fixed32Wire ∷ fixed64Wire ∷ varintWire ∷ varintWire ∷ []  -- uint32 enum sfixed32 sfixed64 sint32 sint64
 
--- The same of our own kinds, from `ownKinds` on: none, the packed head, the four unknown ones; the start and the end of a group, which give no record.
+-- The same of our own kinds, from `ownKinds` on: none, the packed head, the four unknown ones; the start and the end of a group. A dropped span has the
+-- number of the start, so no list may have it.
 unfoldable pub ownWires : List ℕ
 ownWires = noWire ∷ delimitedWire ∷ varintWire ∷ fixed64Wire ∷ delimitedWire ∷ fixed32Wire ∷ startGroupWire ∷ endGroupWire ∷ []
 

@@ -15,3 +15,4 @@ pub mod Tree
 pub mod Valid
 pub mod Pull
 pub mod Letter
+pub mod Spans

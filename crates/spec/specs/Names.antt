@@ -138,14 +138,18 @@ unknownBytes = 23
 abbrev pub unknownFixed32 : ℕ
 unknownFixed32 = 24
 
--- the start and the end of a group, which give no record
+-- the start and the end of a group
 abbrev pub groupStart : ℕ
 groupStart = 25
 
 abbrev pub groupEnd : ℕ
 groupEnd = 26
 
--- records have the kinds below this one; there are no kinds from the second on
+-- A record of what reading drops, a skipped group or an empty packed field, where it is asked for. It has the number of a group's start: no list may have either.
+abbrev pub droppedSpan : ℕ
+droppedSpan = 25
+
+-- the records of a list have the kinds below this one; there are no kinds from the second on
 abbrev pub recordKinds : ℕ
 recordKinds = 25
 
@@ -195,6 +199,9 @@ startColumn = 4
 
 abbrev pub stopColumn : ℕ
 stopColumn = 5
+
+abbrev pub tagColumn : ℕ
+tagColumn = 6
 
 -- ---- the columns of an entry (how many there are: `Schema.entryStride`)
 

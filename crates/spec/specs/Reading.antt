@@ -1,10 +1,11 @@
 -- What bytes read as under a schema. Assumes nothing: these are definitions. Public promises cite it.
 use Prim.Native.Nat.{ℕ, zero, suc, _+_, _/_}
+use mathlib.Core.Bool.{Bool, false}
 use mathlib.Core.List.{List, [], _∷_}
 use mathlib.Core.Option.{Option, none, some}
 use lib.ListN.{length, drop}
 use lib.Dec.{leb, ltb, eqb}
-use Rattle.spec.specs.Names.{badTag, invalidSchema, messageKind, mostLevels, noGroupOpen, noRoom, notUtf8, packedHead, tooDeep, tooLarge}
+use Rattle.spec.specs.Names.{badTag, droppedSpan, invalidSchema, messageKind, mostLevels, noGroupOpen, noRoom, notUtf8, packedHead, tooDeep, tooLarge}
 use Rattle.spec.specs.Base.{if_then_else_, part, filled, limit, Read, Took, No}
 use Rattle.spec.specs.Varint.{varint32, varint64, tag}
 use Rattle.spec.specs.Utf8.{utf8, validEnd}
@@ -12,15 +13,18 @@ use Rattle.spec.specs.Kind.{Scalar, Shape, one, other, string, bytes, me
 use Rattle.spec.specs.Schema.{Schema, badSchema, Says, says}
 use Rattle.spec.specs.Skip.{content, outerGroup}
 use Rattle.spec.specs.Record.{Record, row, stored}
-
 -- ---- how a message is read
 
--- What a caller may choose; there is no choice yet.
-pub record Mode : Type 0 where
+-- What a caller may choose: whether what is dropped, a skipped group or an empty packed field, gives a record with its whole span. The code has the same type (src/).
+pub use Rattle.spec.specs.declared.Mode.{Mode}
 
 -- the mode that is meant where none is named
 abbrev pub plainly : Mode
-plainly = record {}
+plainly = record { dropped = false }
+
+-- a mode that asks for dropped spans, or does not, and is otherwise the same
+abbrev pub asking : Bool → Mode → Mode
+asking b mode = record { dropped = b }
 
 -- what is known of a tag in a message of a type, and the mode
 pub record Look : Type 0 where
@@ -38,7 +42,7 @@ pub data Field : Type 0 where
   Value : (number kind value start end : ℕ) → Field  -- one record
   Message : (number child start end : ℕ) → Field  -- a head, with fields of the type `child` for its content
   Packed : (number kind start end : ℕ) → Field  -- a head, with values of this kind for its content
-  Dropped : (number end : ℕ) → Field  -- a group that is skipped
+  Dropped : (number end : ℕ) → Field  -- a group, which is skipped
   Fault : (number place : ℕ) → Field  -- a refusal; its place counts from the tag too
 
 unfoldable pub given : Read → (ℕ → ℕ → Field) → Field
@@ -113,16 +117,19 @@ unfoldable pub contents : Shape → (depth number kind t at : ℕ) → List ℕ 
 contents (one c) d m kind t at s = elements (length s) c d m kind t at s
 contents (other x) d m kind t at s = Done
 
+-- What is dropped gives no record, or, where it is asked for, one with its whole span: from its tag's place to the first byte after it.
+unfoldable pub span : Mode → (depth m at e : ℕ) → Reading
+span mode depth m at e = if mode .dropped then row depth m droppedSpan 0 at (at + e) at then Done else Done
+
 -- The records of one field of a message at this depth, whose tag stands at `at`; `inner` reads the content of a message.
--- Skipped groups and empty packed fields give no record.
 unfoldable pub records : Mode → (ℕ → ℕ → List ℕ → Reading) → ℕ → ℕ → List ℕ → Field → Reading
 records mode inner depth at s (Value m kind v a e) = row depth m kind v (at + a) (at + e) at then Done
 records mode inner depth at s (Message m child a e) =
     row depth m messageKind 0 (at + a) (at + e) at then inner child (at + a) (part a e s)
 records mode inner depth at s (Packed m kind a e) =
     let all = row depth m packedHead 0 (at + a) (at + e) at then contents (shape kind) (depth + 1) m kind at (at + a) (part a e s) in
-    if eqb a e then Done else all
-records mode inner depth at s (Dropped m e) = Done
+    if eqb a e then span mode depth m at e else all
+records mode inner depth at s (Dropped m e) = span mode depth m at e
 records mode inner depth at s (Fault m p) = Refused m (at + p)
 
 -- The fields s of a message of this depth and type, which stand at `at`. k is no less than the number of bytes.

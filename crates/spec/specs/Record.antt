@@ -4,9 +4,9 @@ use mathlib.Core.List.{List, [], _∷_, _++_}
 use lib.ListN.{length, drop, getD}
 use lib.Dec.{ltb}
 use Rattle.spec.specs.Base.{if_then_else_}
-use Rattle.spec.specs.Names.{numberColumn, kindColumn, valueColumn, startColumn, stopColumn}
+use Rattle.spec.specs.Names.{numberColumn, kindColumn, valueColumn, startColumn, stopColumn, tagColumn}
 
--- the numbers of a record, and the place of its field's tag, which is the place of refusal 8
+-- A record; `tag` is the place of its field's tag, for a packed element that of its head. Writing and the list check ignore it.
 pub record Record : Type 0 where
   pub depth : ℕ
   pub number : ℕ
@@ -30,13 +30,13 @@ deeper d (r ∷ rs) =
 
 -- how many numbers a record has; those that are stored; the record whose numbers begin at a place, and at the front
 abbrev pub stride : ℕ
-stride = 6
+stride = 7
 
 unfoldable pub numbers : Record → List ℕ
-numbers r = r .depth ∷ r .number ∷ r .kind ∷ r .value ∷ r .start ∷ r .stop ∷ []
+numbers r = r .depth ∷ r .number ∷ r .kind ∷ r .value ∷ r .start ∷ r .stop ∷ r .tag ∷ []
 
 abbrev pub recordAt : List ℕ → ℕ → Record
-recordAt ns at = row (getD ns at 0) (getD ns (at + numberColumn) 0) (getD ns (at + kindColumn) 0) (getD ns (at + valueColumn) 0) (getD ns (at + startColumn) 0) (getD ns (at + stopColumn) 0) 0
+recordAt ns at = row (getD ns at 0) (getD ns (at + numberColumn) 0) (getD ns (at + kindColumn) 0) (getD ns (at + valueColumn) 0) (getD ns (at + startColumn) 0) (getD ns (at + stopColumn) 0) (getD ns (at + tagColumn) 0)
 
 abbrev pub loaded : List ℕ → Record
 loaded ns = recordAt ns 0

@@ -1,6 +1,7 @@
--- What reading accepts is a list that writing takes. Assumes nothing: these are definitions. Only laws cite it.
+-- What reading without dropped spans accepts is a list that writing takes. Assumes nothing: these are definitions. Only laws cite it.
 use Prim.Native.Nat.{ℕ, _≤_, _<_}
 use mathlib.Core.Path.{_≡_}
+use mathlib.Core.Bool.{false}
 use mathlib.Core.List.{List}
 use lib.ListN.{length, getD}
 use Rattle.spec.specs.Schema.{Schema}
@@ -17,6 +18,8 @@ pub record IsValid (sch : Schema) (s : List ℕ) (rs : List Record) : Type 0 whe
   pub valid : listCheck sch s rs ≡ Fine
   pub no-longer : length (written s rs) ≤ length s
 
--- So it is of what was read of s, where reading ended well: its writing refuses no record, and no size. ValidLaws.reading-valid proves it.
+-- So it is of what was read of s, where reading ended well and was not asked for dropped spans: its writing refuses no record, and no size. ValidLaws.reading-valid proves it.
 abbrev pub ReadingValid : Type 0
-ReadingValid = (mode : Mode) (sch : Schema) (room : ℕ) (s : List ℕ) (rs : List Record) → Bytes s → readingAs mode sch room s ≡ after rs Done → IsValid sch s rs
+ReadingValid =
+    (mode : Mode) → mode .dropped ≡ false → (sch : Schema) (room : ℕ) (s : List ℕ) (rs : List Record) → Bytes s
+    → readingAs mode sch room s ≡ after rs Done → IsValid sch s rs

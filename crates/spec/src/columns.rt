@@ -13,8 +13,10 @@ pub const START: usize = 4;
 
 pub const END: usize = 5;
 
+pub const TAG: usize = 6;
+
 // How many numbers a record has.
-pub const STRIDE: usize = 6;
+pub const STRIDE: usize = 7;
 
 // An entry of a schema; its owner is where the entry begins.
 pub const ENTRY_OWNER: usize = 0;

@@ -48,12 +48,15 @@ pub const UNKNOWN_BYTES: u64 = 23;
 
 pub const UNKNOWN_FIXED32: u64 = 24;
 
-// The start and the end of a group, which give no record.
+// The start and the end of a group.
 pub const GROUP_START: u64 = 25;
 
 pub const GROUP_END: u64 = 26;
 
-// How many numbers there are up to the last kind of descriptor.proto, of a record, and of all.
+// A record of what reading drops, a skipped group or an empty packed field, where it is asked for. It has the number of a group's start: no list may have either.
+pub const DROPPED_SPAN: u64 = 25;
+
+// How many numbers there are up to the last kind of descriptor.proto, of a list's record, and of all.
 pub const OWN_KINDS: usize = 19;
 
 pub const RECORD_KINDS: usize = 25;

@@ -1,4 +1,4 @@
-// The definitions are in specs/ and the laws about them in proofs/; the only code is names for the numbers of the rules, and what a schema is made of.
+// The definitions are in specs/ and the laws about them in proofs/; the only code is names for the numbers of the rules, what a schema is made of, and how a message is read.
 pub mod columns;
 pub mod kinds;
 pub mod kinds32;
@@ -13,4 +13,10 @@ pub struct Entry {
     pub kind: u32,
     pub repeated: bool,
     pub child: u32,
+}
+
+// How a message is read, where the caller chooses: with `dropped`, what is dropped, a skipped group or an empty packed field, gives a record of the kind
+// `kinds::DROPPED_SPAN` with its whole span.
+pub struct Mode {
+    pub dropped: bool,
 }

@@ -1,8 +1,8 @@
 -- What the steps of a copy leave for one another: the bytes at the front of an output, and the records at the front of a room. Assumes nothing.
 use Prim.Native.Nat.{ℕ, _-_, _*_, _/_, _≤_}
 use native.Mathlib.Omega.{arith}
-use mathlib.Core.Path.{_≡_, refl, ap, ap₂, _∙_}
-use mathlib.Core.List.{List, [], _∷_, map}
+use mathlib.Core.Path.{_≡_, ap, _∙_}
+use mathlib.Core.List.{List}
 use mathlib.Core.Option.{Option, none, some}
 use lib.ListN.{length, take, drop}
 use lib.Seq.{take-at}
@@ -14,10 +14,8 @@ use Rattle.spec.specs.Reading.{Reading, plainly, looking, read, within, refused
 use Rattle.spec.specs.Writing.{Writing, number, size, sentSize, writing}
 use Rattle.spec.proofs.Laws.{either-way}
 use Rattle.spec.proofs.RecordLaws.{within-fits, stored-length, room-kept}
-use Rattle.spec.proofs.FlatLaws.{untagged, records-stored}
+use Rattle.spec.proofs.FlatLaws.{records-stored}
 use Rattle.spec.proofs.SizeLaws.{writing-answered, Leaves, answered-leaves}
-use Rattle.onward.specs.Onward.{seen}
-use Rattle.onward.proofs.OnwardLaws.{same-seen}
 use Rattle.write.specs.Answers.{answerOfWriting}
 use Rattle.write.specs.declared.Answer.{Answer}
 use Rattle.trip.specs.Copy.{reads}
@@ -56,18 +54,9 @@ module _ (sch : Schema) (s room : List ℕ) {count : ℕ} {room′ : List ℕ} (
   room-same = ap length holds ∙ room-kept (reads sch s room) room (reading-fits sch (length room / stride) s)
 
   -- the records that were listed stand at its front
-  pub room-front : (k : ℕ) → k ≡ stride * count → take k room′ ≡ stored (listed (reads sch s room))
-  room-front k is =
+  pub room-records : (k : ℕ) → k ≡ stride * count → recordsOf (take k room′) ≡ listed (reads sch s room)
+  room-records k is =
       let l : List Record = listed (reads sch s room) in
-      ap (take k) holds ∙ take-at (stored l) (drop (length (stored l)) room) k (omega (arith, stored-length l))
-
--- and show what the records show: where a tag stood is not looked at
-seen-untagged : (s : List ℕ) (r : Record) → seen s (untagged r) ≡ seen s r
-seen-untagged s r = same-seen (record { depths = refl; numbers = refl; kinds = refl; values = refl; contents = λ c. refl })
-
-map-untagged : (s : List ℕ) (rs : List Record) → map (seen s) (map untagged rs) ≡ map (seen s) rs
-map-untagged s [] = refl
-map-untagged s (r ∷ rs) = ap₂ (_∷_) (seen-untagged s r) (map-untagged s rs)
-
-pub seen-stored : (s : List ℕ) (rs : List Record) → map (seen s) (recordsOf (stored rs)) ≡ map (seen s) rs
-seen-stored s rs = ap (map (seen s)) (records-stored rs) ∙ map-untagged s rs
+      ap (λ (x : List ℕ). recordsOf (take k x)) holds
+      ∙ ap recordsOf (take-at (stored l) (drop (length (stored l)) room) k (omega (arith, stored-length l)))
+      ∙ records-stored l

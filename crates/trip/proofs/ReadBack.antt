@@ -7,7 +7,7 @@ use mathlib.Core.List.{List, map}
 use lib.ListN.{length, take}
 use Rattle.spec.specs.Base.{limit}
 use Rattle.spec.specs.Schema.{Schema}
-use Rattle.spec.specs.Record.{Record, stride, stored, recordsOf}
+use Rattle.spec.specs.Record.{Record, stride, recordsOf}
 use Rattle.spec.specs.Reading.{plainly, reading, number}
 use Rattle.spec.specs.Writing as spec
 use Rattle.spec.proofs.SizeLaws.{Answered, wrote, short, above, faulty, writing-answered}
@@ -20,7 +20,7 @@ use Rattle.write.specs.Answers.{answerOfWriting}
 use Rattle.write.specs.declared.Answer.{Answer}
 use Rattle.write.proofs.CallLaws as write-laws
 use Rattle.trip.specs.Copy.{writes, reads}
-use Rattle.trip.proofs.CopyLaws.{room-front, seen-stored}
+use Rattle.trip.proofs.CopyLaws.{room-records}
 use Rattle.trip.proofs.TripLaws.{told-front}
 
 -- a writing that is not refused
@@ -53,8 +53,7 @@ module _ (sch : Schema) (list payload out room : List ℕ) where
       let sends : take (a .size) out′ ≡ s = told-front (is .0) (w .0) out (w .1) in
       let there = subst (λ (x : List ℕ). read-laws.Answers (reads sch x room) b room room′) sends r in
       let answer = onward-answer (g .0) in
-      let lists : recordsOf (take (stride * b .count) room′) ≡ recordsOf (stored (g .0 .list)) =
-      ap recordsOf (room-front sch s room (there .2) (there .3) (stride * b .count) refl ∙ ap stored (answer .2)) in (
+      let lists : recordsOf (take (stride * b .count) room′) ≡ g .0 .list = room-records sch s room (there .2) (there .3) (stride * b .count) refl ∙ answer .2 in (
         there .0 ∙ answer .0,
-        ap₂ (λ (x : List ℕ) (y : List Record). map (seen x) y) sends lists ∙ seen-stored s (g .0 .list) ∙ g .0 .shows ∙ g .1,
+        ap₂ (λ (x : List ℕ) (y : List Record). map (seen x) y) sends lists ∙ g .0 .shows ∙ g .1,
       )

@@ -6,11 +6,10 @@ use lib.ListN.{length, take, drop}
 use lib.Seq.{take-at}
 use Rattle.spec.specs.Base.{part}
 use Rattle.spec.specs.Schema.{Schema}
-use Rattle.spec.specs.Record.{Record, stride, stored, recordsOf}
-use Rattle.spec.specs.Reading.{Reading, plainly, reading, number, listed}
+use Rattle.spec.specs.Record.{Record, stride, recordsOf}
+use Rattle.spec.specs.Reading.{plainly, reading, number, listed}
 use Rattle.spec.specs.Writing as spec
 use Rattle.spec.specs.Writing.{sent}
-use Rattle.spec.proofs.FlatLaws.{writing-stored}
 use Rattle.onward.specs.Onward.{seen, GoesOnward}
 use Rattle.onward.proofs.OnwardLaws.{demand-three}
 use Rattle.onward.proofs.RoomLaws.{onward-answer}
@@ -21,7 +20,7 @@ use Rattle.write.specs.declared.Answer.{Answer}
 use Rattle.write.proofs.CallLaws as write-laws
 use Rattle.trip.specs.Copy.{writes, reads, rewrites, PassedOn, Copied, Demanded, message, Unharmed}
 use Rattle.trip.specs.declared.Trip.{Trip}
-use Rattle.trip.proofs.CopyLaws.{part-front, room-front, seen-stored}
+use Rattle.trip.proofs.CopyLaws.{part-front, room-records}
 
 -- ---- from the promises of the steps
 
@@ -32,8 +31,7 @@ pub passed-on : (old : Schema) (s room again : List ℕ) (k : ℕ) {got : read.A
     → k ≡ stride * got .count → PassedOn old s room again got rewrote room′ again′
 passed-on old s room again k {rewrote = rewrote} {room′ = room′} {again′} r v is =
     let same : spec.writing old (length again) s (recordsOf (part 0 k room′)) ≡ rewrites old s room again =
-    ap (λ (x : List ℕ). spec.writing old (length again) s (recordsOf x)) (part-front k room′ ∙ room-front old s room (r .2) (r .3) k is)
-    ∙ writing-stored old s (length again) (listed (reads old s room)) in
+    ap (spec.writing old (length again) s) (ap recordsOf (part-front k room′) ∙ room-records old s room (r .2) (r .3) k is) in
     let back = subst (λ (x : spec.Writing). write-laws.Answers x rewrote again again′) same v in
     record { number-is = r .0; place-is = r .1; count-is = r .2; room-holds = r .3; rewrote-is = back .0; again-holds = back .1 }
 
@@ -101,14 +99,13 @@ module _ (new old : Schema) (list payload bytes room again : List ℕ) (d : Dema
       let v : rewrites old (sent (writes new list payload bytes)) room again ≡ spec.Wrote s =
       ap (λ (x : List ℕ). rewrites old x room again) went ∙ ap (spec.writing old (length again) s) (answer .2) ∙ g .again in
       let sends : message t bytes′ ≡ s = told-front w (c .wrote-is) bytes (c .bytes-hold) in
-      let lists : recordsOf (take (stride * t .read .count) room′) ≡ recordsOf (stored (g .list)) =
-      ap recordsOf (room-front old (sent (writes new list payload bytes)) room (p .count-is) (p .room-holds) (stride * t .read .count) refl
-      ∙ ap (λ (x : Reading). stored (listed x)) q ∙ ap stored (answer .2)) in
+      let lists : recordsOf (take (stride * t .read .count) room′) ≡ g .list =
+      room-records old (sent (writes new list payload bytes)) room (p .count-is) (p .room-holds) (stride * t .read .count) refl ∙ ap listed q ∙ answer .2 in
       record {
         writes-well = told-well w (c .wrote-is);
         reads-well = p .number-is ∙ ap number q ∙ answer .0;
         rewrites-well = told-well v (p .rewrote-is);
         bytes-of-list = sends;
-        shows = ap₂ (λ (x : List ℕ) (y : List Record). map (seen x) y) sends lists ∙ seen-stored s (g .list) ∙ g .shows;
+        shows = ap₂ (λ (x : List ℕ) (y : List Record). map (seen x) y) sends lists ∙ g .shows;
         same-bytes = told-front v (p .rewrote-is) again (p .again-holds) ∙ sym sends;
       }

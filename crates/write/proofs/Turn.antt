@@ -12,7 +12,7 @@ use Rattle.spec.specs.Names.{delimitedWire, messageKind, packedHead, kindColumn
 use Rattle.spec.specs.Base.{if_then_else_, limit}
 use Rattle.spec.specs.Varint.{size, tagSize, zigzag}
 use Rattle.spec.specs.Kind.{int32, uint32, uint64, bool, sint32, sint64, fixed32, sfixed32, fixed64, Shape, one, other, string, bytes, message, packed, startGroup, endGroup, nothing, shape, wire, isScalar, headKind}
-use Rattle.spec.specs.Record.{Record, row, recordsOf, stride, recordsFrom}
+use Rattle.spec.specs.Record.{Record, row, recordsOf, stride, recordAt, recordsFrom}
 use Rattle.spec.specs.Sizes.{scalarSize, prefixedSize, valueSize, bodySize, sizeUpTo}
 use Rattle.spec.proofs.VarintLaws.{lower-or-not}
 use Rattle.spec.proofs.RoundTrip.{hasContent, shape-message, shape-packed}
@@ -65,7 +65,7 @@ module _ {tags : Bool} {list : List ℕ} {from d at size : ℕ} (h : Here tags l
   module _ (lt : at < length list) where
     -- the record here
     abbrev pub this : Record
-    this = row (getD list at 0) (getD list (at + numberColumn) 0) (getD list (at + kindColumn) 0) (getD list (at + valueColumn) 0) (getD list (at + startColumn) 0) (getD list (at + stopColumn) 0) 0
+    this = recordAt list at
 
     pub whole : at + stride ≤ length list
     whole = omega (arith, sane-whole (drop at list) (h .sane) (omega (arith, length-drop at list)), length-drop at list)
@@ -238,8 +238,7 @@ module _ {list : List ℕ} {from d at sum : ℕ} (h : Here true list from d at s
       (λ l. let z : q ∷ qs ≡ [] = sym e ∙ records-end list (at + stride) l in let y : _≡_ {A = ℕ} 0 1 = cc in absurd (omega arith)) in
       let s : Sane (recordsFrom list (at + stride)) = rest-sane h lt in
       let full : at + stride + stride ≤ length list = omega (arith, sane-whole (drop (at + stride) list) s (omega (arith, length-drop (at + stride) list)), length-drop (at + stride) list) in
-      let next : row (getD list (at + stride) 0) (getD list (at + stride + numberColumn) 0) (getD list (at + stride + kindColumn) 0) (getD list (at + stride + valueColumn) 0) (getD list (at + stride + startColumn) 0) (getD list (at + stride + stopColumn) 0) 0
-      ∷ recordsFrom list (at + stride + stride) ≡ q ∷ qs = sym (records-at list (at + stride) full) ∙ e in
+      let next : recordAt list (at + stride) ∷ recordsFrom list (at + stride + stride) ≡ q ∷ qs = sym (records-at list (at + stride) full) ∙ e in
       let kin : q .kind ≡ getD list (at + stride + kindColumn) 0 = sym (ap (λ (x : List Record). first x .kind) next) in
       record {
         lent = lent;

@@ -23,7 +23,8 @@ runFrom d list at = front d (recordsFrom list at)
 abbrev pub mostNumbers : ℕ
 mostNumbers = stride * limit
 
--- A record adds less than 2,400,000,000 to a size, which is more than a content that is cut off above the limit, with its length and its tag. This is the share of each of its numbers.
+-- A record adds less than 2,400,000,000 to a size: a content that is cut off above the limit, with its length and its tag, is far from it.
+-- This is the share of each of its numbers, rounded down.
 abbrev pub perNumber : ℕ
 perNumber = 2400000000 / stride
 

@@ -11,7 +11,7 @@ main-spec =
     tie.close
     (tie.spec
     (λ c. sym (length-replicate {A = ℕ} 65537 0))
-    (λ c. sym (length-replicate {A = ℕ} 6144 0))
+    (λ c. sym (length-replicate {A = ℕ} 7168 0))
     (λ c. sym (length-replicate {A = ℕ} 65536 0))
     (λ c κs. search needs)
     (λ c. search needs))

@@ -1,7 +1,6 @@
 -- `read::classify::field_at` meets its contract: the tag, and what comes after it. Assumes nothing.
 use mathlib.Core.Path.{sym, _∙_}
 use borrow.Author.Needs.{needs}
-use Rattle.spec.specs.Reading.{plainly}
 use Rattle.schema.specs.Tables.{tableSays}
 use Rattle.read.specs.Prepared.{prepared}
 use Rattle.read.proofs.ClassifyLaws.{tag-inside}
@@ -20,7 +19,7 @@ returns c =
     let n = c .before .before .before in
     let t = n .before .before in
     let a = t .before .before .args in
-    field-answer (prepared plainly (a .keys .now) (a .info .now)) (a .depth) (a .ty) (a .at) (a .s .now) (c .with-body .result)
+    λ mode. field-answer (prepared mode (a .keys .now) (a .info .now)) (a .depth) (a .ty) (a .at) (a .s .now) (c .with-body .result)
     (sym (n .number .given .1) ∙ t .tag-at .ensures)
     (c .before .body-at .ensures)
     (c .with-body .ensures)
@@ -29,7 +28,7 @@ returns-2 : tie.Need-returns-2
 returns-2 c =
     let t = c .before .before .before in
     let a = t .before .before .args in
-    fault-answer (prepared plainly (a .keys .now) (a .info .now)) (a .depth) (a .ty) (a .at) (a .s .now) (sym (c .before .k .given .1) ∙ t .tag-at .ensures)
+    λ mode. fault-answer (prepared mode (a .keys .now) (a .info .now)) (a .depth) (a .ty) (a .at) (a .s .now) (sym (c .before .k .given .1) ∙ t .tag-at .ensures)
 
 pub field-at-spec : {M : Type 1} → statement M
 field-at-spec =

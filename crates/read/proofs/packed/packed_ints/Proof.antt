@@ -26,37 +26,37 @@ short-elements-requires c κs = let h = c .before .before .loop .inv .further in
 returns : tie.Need-returns Inv-loop μ-loop
 returns c =
     let x = c .before .before .before in
-    elements-end _ _ _ _ (here-by (x .before .before .before .loop .inv) (x .short-elements .ensures _)) (omega (arith, c .if1 .taken))
+    elements-end _ _ _ _ (here-by (x .before .before .before .loop .inv) (x .short-elements .ensures)) (omega (arith, c .if1 .taken))
 
 sub-if2 : tie.Need-sub-if2 Inv-loop μ-loop
-sub-if2 c = omega (arith, c .before .before .before .before .before .before .before .short-elements .ensures 0 .fits)
+sub-if2 c = omega (arith, c .before .before .before .before .before .before .before .short-elements .ensures .fits)
 
 returns-2 : tie.Need-returns-2 Inv-loop μ-loop
 returns-2 c =
     let v = c .before .before in
     let a = v .before .before in
     let x = a .before .before .before .before in
-    element-full _ _ _ _ (here-by (x .before .before .before .loop .inv) (x .short-elements .ensures _)) (omega (arith, x .short-elements .ensures 0 .inside, a .before .if1 .left)) (a .int-at .ensures ∙ int-kind _ _ (x .before .before .before .before .before .before .pre .0)) (v .value .given .1) (c .if2 .taken)
+    element-full _ _ _ _ (here-by (x .before .before .before .loop .inv) (x .short-elements .ensures)) (omega (arith, x .short-elements .ensures .inside, a .before .if1 .left)) (a .int-at .ensures ∙ int-kind _ _ (x .before .before .before .before .before .before .pre .0)) (v .value .given .1) (c .if2 .taken)
 
 add-put : tie.Need-add-put Inv-loop μ-loop
-add-put c = omega (arith, c .before .before .before .before .before .before .before .before .before .short-elements .ensures 0 .inside)
+add-put c = omega (arith, c .before .before .before .before .before .before .before .before .before .short-elements .ensures .inside)
 
 add-put-2 : tie.Need-add-put-2 Inv-loop μ-loop
 add-put-2 c =
     let v = c .before .before .before in
     let a = v .before .before in
     let x = a .before .before .before .before in
-    omega (arith, element-within _ _ _ _ (here-by (x .before .before .before .loop .inv) (x .short-elements .ensures _)) (omega (arith, x .short-elements .ensures 0 .inside, a .before .if1 .left)) (a .int-at .ensures ∙ int-kind _ _ (x .before .before .before .before .before .before .pre .0)) (v .value .given .1))
+    omega (arith, element-within _ _ _ _ (here-by (x .before .before .before .loop .inv) (x .short-elements .ensures)) (omega (arith, x .short-elements .ensures .inside, a .before .if1 .left)) (a .int-at .ensures ∙ int-kind _ _ (x .before .before .before .before .before .before .pre .0)) (v .value .given .1))
 
 put-requires : tie.Need-put-requires Inv-loop μ-loop
-put-requires c κs = omega (arith, c .before .if2 .left, c .before .before .before .before .before .before .before .before .before .short-elements .ensures 0 .fits)
+put-requires c κs = omega (arith, c .before .if2 .left, c .before .before .before .before .before .before .before .before .before .short-elements .ensures .fits)
 
 loop-less : tie.Need-loop-less Inv-loop μ-loop
 loop-less c =
     let v = c .before .before .before .before .before .before in
     let a = v .before .before in
     let x = a .before .before .before .before in
-    omega (arith, x .short-elements .ensures 0 .on, element-within _ _ _ _ (here-by (x .before .before .before .loop .inv) (x .short-elements .ensures _)) (omega (arith, x .short-elements .ensures 0 .inside, a .before .if1 .left)) (a .int-at .ensures ∙ int-kind _ _ (x .before .before .before .before .before .before .pre .0)) (v .value .given .1))
+    omega (arith, x .short-elements .ensures .on, element-within _ _ _ _ (here-by (x .before .before .before .loop .inv) (x .short-elements .ensures)) (omega (arith, x .short-elements .ensures .inside, a .before .if1 .left)) (a .int-at .ensures ∙ int-kind _ _ (x .before .before .before .before .before .before .pre .0)) (v .value .given .1))
 
 loop-again : tie.Need-loop-again Inv-loop μ-loop
 loop-again c =
@@ -64,14 +64,14 @@ loop-again c =
     let v = p .before .before .before .before in
     let a = v .before .before in
     let x = a .before .before .before .before in
-    element-stored _ _ _ _ (here-by (x .before .before .before .loop .inv) (x .short-elements .ensures _)) (omega (arith, x .short-elements .ensures 0 .inside, a .before .if1 .left)) (a .int-at .ensures ∙ int-kind _ _ (x .before .before .before .before .before .before .pre .0)) (v .value .given .1)
-    (omega (arith, p .before .before .if2 .left, x .short-elements .ensures 0 .fits)) (p .put .ensures .0) (p .put .ensures .1)
+    element-stored _ _ _ _ (here-by (x .before .before .before .loop .inv) (x .short-elements .ensures)) (omega (arith, x .short-elements .ensures .inside, a .before .if1 .left)) (a .int-at .ensures ∙ int-kind _ _ (x .before .before .before .before .before .before .pre .0)) (v .value .given .1)
+    (omega (arith, p .before .before .if2 .left, x .short-elements .ensures .fits)) (p .put .ensures .0) (p .put .ensures .1)
 
 returns-3 : tie.Need-returns-3 Inv-loop μ-loop
 returns-3 c =
     let a = c .before .before .before in
     let x = a .before .before .before .before in
-    element-refused _ _ _ _ (here-by (x .before .before .before .loop .inv) (x .short-elements .ensures _)) (omega (arith, x .short-elements .ensures 0 .inside, a .before .if1 .left)) (a .int-at .ensures ∙ int-kind _ _ (x .before .before .before .before .before .before .pre .0)) (int-scalar (shape _) (x .before .before .before .before .before .before .pre .0)) (c .before .k .given .1)
+    element-refused _ _ _ _ (here-by (x .before .before .before .loop .inv) (x .short-elements .ensures)) (omega (arith, x .short-elements .ensures .inside, a .before .if1 .left)) (a .int-at .ensures ∙ int-kind _ _ (x .before .before .before .before .before .before .pre .0)) (int-scalar (shape _) (x .before .before .before .before .before .before .pre .0)) (c .before .k .given .1)
 
 returns-4 : tie.Need-returns-4 Inv-loop μ-loop
 returns-4 c = elements-end _ _ _ _ (c .before .loop .inv) (c .loop-test .left)

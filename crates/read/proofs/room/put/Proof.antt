@@ -6,7 +6,7 @@ use mathlib.Core.Path.{_≡_, refl, sym, ap}
 use mathlib.Core.List.{List}
 use lib.ListN.{set, length-set}
 use borrow.Author.Needs.{needs}
-use Rattle.spec.specs.Names.{numberColumn, kindColumn, valueColumn, startColumn, stopColumn}
+use Rattle.spec.specs.Names.{numberColumn, kindColumn, valueColumn, startColumn, stopColumn, tagColumn}
 use Rattle.spec.specs.Record.{row, numbers}
 use Rattle.read.specs.Emit.{storedFrom, placed}
 use Rattle.read.proofs.room.put.Statement.{statement}
@@ -27,16 +27,20 @@ slice-write-room-5 c = simp length-set (omega arith)
 slice-write-room-6 : tie.Need-slice-write-room-6
 slice-write-room-6 c = simp length-set (omega arith)
 
+slice-write-room-7 : tie.Need-slice-write-room-7
+slice-write-room-7 c = simp length-set (omega arith)
+
 -- the columns, one by one
-columns : (room : List ℕ) (b d n k v a e : ℕ)
-    → set (set (set (set (set (set room b d) (b + numberColumn) n) (b + kindColumn) k) (b + valueColumn) v) (b + startColumn) a) (b + stopColumn) e
-    ≡ placed room b (row d n k v a e 0)
+columns : (room : List ℕ) (b d n k v a e t : ℕ)
+    → set (set (set (set (set (set (set room b d) (b + numberColumn) n) (b + kindColumn) k) (b + valueColumn) v) (b + startColumn) a) (b + stopColumn) e) (b + tagColumn) t
+    ≡ placed room b (row d n k v a e t)
 unfolding numbers storedFrom
-columns room b d n k v a e =
-    ap (λ (i : ℕ). set (set (set (set (set (set room i d) (b + numberColumn) n) (b + kindColumn) k) (b + valueColumn) v) (b + startColumn) a) (b + stopColumn) e) (sym (add-zero b))
+columns room b d n k v a e t =
+    ap (λ (i : ℕ). set (set (set (set (set (set (set room i d) (b + numberColumn) n) (b + kindColumn) k) (b + valueColumn) v) (b + startColumn) a) (b + stopColumn) e) (b + tagColumn) t)
+    (sym (add-zero b))
 
 returns : tie.Need-returns
-returns c = (columns _ _ _ _ _ _ _ _, refl)
+returns c = (columns _ _ _ _ _ _ _ _ _, refl)
 
 pub put-spec : {M : Type 1} → statement M
 put-spec =
@@ -59,6 +63,9 @@ put-spec =
     (λ c. search needs)
     (λ c. search needs)
     slice-write-room-6
+    (λ c. search needs)
+    (λ c. search needs)
+    slice-write-room-7
     (λ c. search needs)
     (λ c. search needs)
     returns)

@@ -20,13 +20,13 @@ returns : tie.Need-returns
 returns c =
     let k : ℕ = c .before .args .kind in
     let none : between unknownVarint unknownFixed32 k ≡ false = simp (lt-leb unknownVarint k (omega arith)) in
-    ((λ d. ap capped (sym (other-record d _ k _ _ _ none))), omega arith)
+    ((λ d t. ap capped (sym (other-record d _ k _ _ _ t none))), omega arith)
 
 returns-2 : tie.Need-returns-2
 returns-2 c =
     let k : ℕ = c .before .before .args .kind in
     let none : between unknownVarint unknownFixed32 k ≡ false = simp (le-leb unknownVarint k (omega arith), lt-leb k unknownFixed32 (omega arith)) in
-    ((λ d. ap capped (sym (other-record d _ k _ _ _ none))), omega arith)
+    ((λ d t. ap capped (sym (other-record d _ k _ _ _ t none))), omega arith)
 
 add-result : tie.Need-add-result
 add-result c = record { fits = omega (arith, size-most (c .before .before .before .before .before .args .number * 8)) }
@@ -36,7 +36,7 @@ returns-3 c =
     let n : ℕ = c .before .before .before .before .before .args .number in
     let k : ℕ = c .before .before .before .before .before .args .kind in
     let body : c .value-size .result ≡ capped (valueSize (shape k) (if eqb k unknownBytes then c .before .before .before .before .before .args .stop - c .before .before .before .before .before .args .start else c .before .before .before .before .before .args .value)) = c .value-size .ensures ∙ ap (λ (x : ℕ). capped (valueSize (shape k) x)) (c .before .value-of .ensures) in
-    ((λ d. omega (arith, c .before .before .tag-size64 .ensures, body, unknown-record d n k (c .before .before .before .before .before .args .value) (c .before .before .before .before .before .args .start) (c .before .before .before .before .before .args .stop) (omega arith) (omega arith))), omega (arith, size-most (n * 8)))
+    ((λ d t. omega (arith, c .before .before .tag-size64 .ensures, body, unknown-record d n k (c .before .before .before .before .before .args .value) (c .before .before .before .before .before .args .start) (c .before .before .before .before .before .args .stop) t (omega arith) (omega arith))), omega (arith, size-most (n * 8)))
 
 pub record-size-spec : {M : Type 1} → statement M
 record-size-spec =

@@ -8,12 +8,12 @@ use borrow.Author.Needs.{needs}
 use borrow.Author.Tests.{le-leb}
 use lib.ListN.{length, drop}
 use Rattle.spec.specs.Base.{limit, limited}
-use Rattle.spec.specs.Record.{recordsOf, stride}
+use Rattle.spec.specs.Record.{recordsOf, stride, recordAt}
 use Rattle.spec.specs.Sizes.{unknownsSize, unknownFieldsSize}
 use Rattle.sizes.specs.SizeParts.{capped}
 use Rattle.sizes.proofs.Sums.{Summed, start, more, over, done}
 use Rattle.sizes.proofs.ValueSizes.{limited-same}
-use Rattle.sizes.proofs.UnknownLaws.{recordAt, unknown-step, unknown-end}
+use Rattle.sizes.proofs.UnknownLaws.{unknown-step, unknown-end}
 use Rattle.sizes.proofs.unknown_or_group.unknown_fields_size.Statement.{statement}
 use Rattle.sizes.proofs.unknown_or_group.unknown_fields_size.Tie as tie
 
@@ -35,7 +35,7 @@ returns c =
     let ns : List ℕ = c .before .before .before .before .before .before .before .before .before .before .args .records .now in
     let i : ℕ = c .before .before .before .before .before .before .before .before .loop .i in
     let e : ℕ = unknownsSize (recordAt ns i ∷ []) in
-    let high : limit + 1 ≡ capped (unknownsSize (recordsOf ns)) = over (i + stride) e (c .before .record-size .result) (c .before .before .before .before .before .before .before .before .loop .inv .1) (unknown-step ns i (omega arith)) (c .before .record-size .ensures .0 _) (omega arith) in
+    let high : limit + 1 ≡ capped (unknownsSize (recordsOf ns)) = over (i + stride) e (c .before .record-size .result) (c .before .before .before .before .before .before .before .before .loop .inv .1) (unknown-step ns i (omega arith)) (c .before .record-size .ensures .0 _ _) (omega arith) in
     limited-same (limit + 1) (unknownsSize (recordsOf ns)) (omega arith)
 
 loop-again : tie.Need-loop-again Inv-loop μ-loop
@@ -43,7 +43,7 @@ loop-again c =
     let ns : List ℕ = c .before .before .before .before .before .before .before .before .before .before .args .records .now in
     let i : ℕ = c .before .before .before .before .before .before .before .before .loop .i in
     let e : ℕ = unknownsSize (recordAt ns i ∷ []) in
-    (omega arith, more (i + stride) e (c .before .record-size .result) (c .before .before .before .before .before .before .before .before .loop .inv .1) (unknown-step ns i (omega arith)) (c .before .record-size .ensures .0 _) (omega arith))
+    (omega arith, more (i + stride) e (c .before .record-size .result) (c .before .before .before .before .before .before .before .before .loop .inv .1) (unknown-step ns i (omega arith)) (c .before .record-size .ensures .0 _ _) (omega arith))
 
 returns-2 : tie.Need-returns-2 Inv-loop μ-loop
 unfolding unknownFieldsSize limited
