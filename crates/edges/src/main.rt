@@ -4,7 +4,7 @@
 // schema numbers also end within one. An entry with `repeated` 2 is tried too, since the case lines make all calls but the schema check through lent
 // entries, where `repeated` is yes or no. The sizes of segments reach the limit, for which no case line is long enough. Of a string step that the pull reader
 // refuses, a case line shows the position, and not the place of the broken letter. Dropped spans are asked for under entries that are numbers, and under tables.
-// What must be printed stands in the file stdout, derived by hand from the rules. A remainder of one to six numbers is a broken record: 10 at its index, or at
+// What must be printed stands in the file stdout, derived from the rules: by hand, and the lines of records with oracle/model.py. A remainder of one to six numbers is a broken record: 10 at its index, or at
 // the index of a packed head right before it. An earlier fault comes first. Room is as many records, or ranges, as fit whole. A remainder after whole entries
 // is a wrong entry count, 9 at 0, before any entry is judged; a search passes over it, and a size counts nothing for it. A remainder after whole ranges is a
 // range outside the payload: 10 at its index.
