@@ -1,5 +1,7 @@
 // Reading under a schema that is lent as a slice of entries, exported for C, so that bench/ can count `entries::read`. A call that lends structs is
 // not exported, so this one takes five numbers an entry and makes an array of them, which is short, so that nearly all that is counted is the call.
+#![tactic(auto)]
+
 ghost use Rattle.std.specs.Prelude.{◌≡◌, [], ◌∷◌, ◌+◌, ◌*◌, ◌/◌, ◌<◌, ◌≤◌, length, take};
 ghost use Rattle.spec.specs.Names.{child_column};
 ghost use Rattle.spec.specs.Record.{stride};

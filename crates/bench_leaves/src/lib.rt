@@ -1,4 +1,6 @@
 // Loops over the varint leaves and the pull steps, exported for C, so that bench/ can count them.
+#![tactic(auto)]
+
 ghost use Rattle.std.specs.Prelude.{◌≡◌};
 ghost use Rattle.bench_leaves.specs.Loops.{varints, puts, pulled};
 

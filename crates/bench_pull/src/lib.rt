@@ -1,4 +1,6 @@
 // The pull loop over a message of bench/bench.proto, exported for C, so that bench/ can count the steps, each value by its type.
+#![tactic(auto)]
+
 pub mod message;
 pub mod tags;
 pub mod value;

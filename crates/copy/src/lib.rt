@@ -1,5 +1,7 @@
 // Bytes copied from one slice into another. Exactly the bytes are stored: they are put in pieces, of which one may overlap the one before it, but none
 // begins before the bytes or ends after them.
+#![tactic(auto)]
+
 ghost use Rattle.std.specs.Prelude.{◌≡◌, ◌+◌, ◌≤◌, ◌<◌, length, leb};
 ghost use Rattle.spec.specs.Base.{if◌then◌else◌};
 ghost use Rattle.wire.specs.Answers.{stored};

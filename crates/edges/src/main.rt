@@ -8,6 +8,8 @@
 // the index of a packed head right before it. An earlier fault comes first. Room is as many records, or ranges, as fit whole. A remainder after whole entries
 // is a wrong entry count, 9 at 0, before any entry is judged; a search passes over it, and a size counts nothing for it. A remainder after whole ranges is a
 // range outside the payload: 10 at its index.
+#![tactic(auto)]
+
 mod copies;
 mod finds;
 mod letters;

@@ -1,5 +1,7 @@
 // The calls over a schema that is lent as a slice of entry structs. The borrow checker covers no function with a `&[Entry]`, so `lookup`,
 // `copy` and the calls are proved by hand; each copies the entries once into numbers, and a covered function does the work.
+#![tactic(auto)]
+
 ghost use Rattle.std.specs.Prelude.{◌≡◌, ◌+◌, ◌*◌, ◌/◌, ◌<◌, ◌≤◌, length, take};
 ghost use Rattle.spec.specs.Names.{child_column, most_entries};
 ghost use Rattle.spec.specs.Record.{records_of, stride};

@@ -1,4 +1,6 @@
 // The list check: whether a list of records is what reading under a schema would give.
+#![tactic(auto)]
+
 ghost use Rattle.std.specs.Prelude.{◌≡◌};
 ghost use Rattle.spec.specs.Record.{records_of};
 ghost use Rattle.spec.specs.Schema.{schema_of};

@@ -1,4 +1,6 @@
 // The messages of a segment: those that are left when it is cut short, and the records of one, which is handed on as a part of the same slice.
+#![tactic(auto)]
+
 ghost use Rattle.std.specs.Prelude.{◌≡◌, ◌/◌, min, length};
 ghost use Rattle.spec.specs.Base.{part};
 ghost use Rattle.spec.specs.Record.{stride};

@@ -1,5 +1,7 @@
 // Text of answers, as far as a lent slice has room: bytes, words, numbers in decimal and hexadecimal, and the listings of records and of ranges.
 // Each function stores from `at` on and returns the position after what it stored; what finds no room is left out.
+#![tactic(auto)]
+
 ghost use Rattle.std.specs.Prelude.{◌≡◌, [], ◌∷◌, ◌<◌};
 ghost use Rattle.printing.specs.Text.{Shown, digits_of, decimal, glyph, hexadecimal, rows, verdict, lines, listing};
 

@@ -1,4 +1,6 @@
 // The pull reader over a slice: coded_input_stream/mod.rs of rust-protobuf.
+#![tactic(auto)]
+
 pub mod bytes;
 pub mod reader;
 pub mod step;

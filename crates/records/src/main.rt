@@ -1,4 +1,6 @@
 // The program that prints the records of one message on standard input, read under schema A of the rules: at most 65,536 bytes, and room for 1,024 records.
+#![tactic(auto)]
+
 use libc::{STDIN_FILENO, STDOUT_FILENO};
 use printing::{put_byte, put_listing};
 use read::Answer;

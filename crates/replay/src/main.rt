@@ -1,5 +1,7 @@
 // The program that answers case lines: one answer line for each line of standard input, written before the next line is waited for. docs/CASES.md has the
 // lines. A line is answered in three steps: its verb is found (verbs), its words are parsed (cases), and the call that the verb names is made and its answer printed.
+#![tactic(auto)]
+
 mod answers;
 mod cases;
 mod input;

@@ -1,5 +1,7 @@
 // A schema on numbers: valid or not, an entry by owner and number, and the tables that a reader makes once for each call.
 // An entry is five numbers: owner, number, kind, repeated (0 or 1), child.
+#![tactic(auto)]
+
 ghost use Rattle.std.specs.Prelude.{◌≡◌, ◌+◌, ◌^◌, ◌<◌, eqb, length, set};
 ghost use Rattle.spec.specs.Names.{child_column, delimited_wire, most_types};
 ghost use Rattle.spec.specs.Schema.{good_entry, bad_schema, schema_of};

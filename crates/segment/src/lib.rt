@@ -1,4 +1,6 @@
 // Segment files: the letters WFM, a version of two bytes, and then each message after its length.
+#![tactic(auto)]
+
 pub mod reading;
 pub mod writing;
 

@@ -1,4 +1,6 @@
 // The program that lists the messages of the segment on standard input, at most 65,536 bytes: where each starts and ends, a line each, and how the reading ended.
+#![tactic(auto)]
+
 use libc::{STDIN_FILENO, STDOUT_FILENO};
 use printing::{put_byte, put_lines};
 use segment::{Answer, RANGE_END, RANGE_STRIDE};

@@ -1,4 +1,6 @@
 // Sizes, as in src/rt of rust-protobuf. A size above the limit is refused as too large, and no sum wraps.
+#![tactic(auto)]
+
 ghost use Rattle.std.specs.Prelude.{◌≡◌};
 ghost use Rattle.std.specs.Int.{w64};
 ghost use Rattle.std.proofs.Common.{of_z};

@@ -266,10 +266,14 @@ module _ {r : Record} {rs : List Record} (f : Fit r rs) where
       go (a_row sh dep num q) e = absurd (no20 (is_packed_head r.kind e))
 
   pub is_message : r.kind ≡ message_kind → Low (r.depth + 1 + 1) rs
-  is_message k = go (subst (Nested r rs) (ap shape k ∙ shape_message) f.nested)
+  is_message k = go f.nested (ap shape k ∙ shape_message)
     where
-      go : Nested r rs (other message) → Low (r.depth + 1 + 1) rs
-      go (a_message l) = l
+      go : {qs : List Record} {x : Shape} → Nested r qs x → x ≡ other message → Low (r.depth + 1 + 1) qs
+      go (a_scalar fit l) e = cc
+      go (a_string o l) e = cc
+      go (a_bytes o l) e = cc
+      go (a_message l) e = l
+      go (a_row sh dep num w) e = cc
 
   pub is_row : r.kind ≡ packed_head → Nested r rs (other packed)
   is_row k = subst (Nested r rs) (ap shape k ∙ shape_packed) f.nested
@@ -296,6 +300,19 @@ module _ (sch : Schema) (payload : List ℕ) where
   in_order : (r : Record) → lies payload r ≡ true → r.start ≤ r.stop
   in_order r h = leb-true r.start r.stop (both (leb r.start r.stop) (leb r.stop (length payload)) h).0
 
+  -- a packed head before its values, of which there is at least one
+  row_sane : (c : Scalar) {r : Record} {k d : ℕ} {qs : List Record} {i : List ℕ} → r.depth ≡ d → r.number ≤ largest_number → r.kind ≡ packed_head → shape k ≡ one c
+      → Values c r.number k (d + 1) qs i → 1 ≤ length qs → d ≤ most_levels → (rest : List Record) → Low (d + 1) rest → Sane rest → Sane (r ∷ (qs ++ rest))
+  row_sane c dep small kin sh no_value long deep rest lo s = absurd (omega arith)
+  row_sane c {r} {k} {d} dep small kin sh (value {r = q} {rs = qs} dep' num' kin' f vs) long deep rest lo s =
+      let low : r.depth ≤ deepest = omega arith in
+      let one_down : q.depth ≡ r.depth + 1 = omega arith in
+      let w : Row (r.depth + 1) r.number q.kind (qs ++ rest) =
+      subst (λ (j : ℕ). Row (r.depth + 1) r.number j (qs ++ rest)) (sym kin')
+      (subst (λ (e : ℕ). Row (e + 1) r.number k (qs ++ rest)) (sym dep) (values_row vs rest lo)) in
+      joined (other packed) (ap shape kin ∙ shape_packed) small low (a_row (ap shape kin' ∙ sh) one_down num' w)
+      (values_sane sh (value dep' num' kin' f vs) small (omega arith) rest (low_weaker (d + 1) (d + 1 + 1) rest (omega arith) lo) s)
+
   tree_sane : {t d : ℕ} {xs : List Record} {b : List ℕ} → Tree sch payload t d xs b → d ≤ most_levels → (rest : List Record) → Low (d + 1) rest → Sane rest → Sane (xs ++ rest)
   tree_sane no_field deep rest lo s = s
   tree_sane {d = d} (number {r = r} {rs = rs} c dep ex sh f tr) deep rest lo s =
@@ -318,18 +335,9 @@ module _ (sch : Schema) (payload : List ℕ) where
       subst (λ (x : List Record). Sane (r ∷ x)) (sym (append_assoc qs rs rest))
       (joined (other message) (ap shape kin ∙ shape_message) ex.high low (a_message m)
       (tree_sane in_it (omega arith) (rs ++ rest) l (tree_sane tr deep rest lo s)))
-  tree_sane (row_of c dep ex kin val sh no_value long tr) deep rest lo s = absurd (omega arith)
-  tree_sane {t} {d} (row_of {r = r} {rs = rs} c dep ex kin val sh (value {r = q} {rs = qs} dep' num' kin' f vs) long tr) deep rest lo s =
-      let low : r.depth ≤ deepest = omega arith in
-      let one_down : q.depth ≡ r.depth + 1 = omega arith in
-      let l : Low (d + 1) (rs ++ rest) = low_append (d + 1) rs rest (tree_low sch payload tr) lo in
-      let w : Row (r.depth + 1) r.number q.kind (qs ++ (rs ++ rest)) =
-      subst (λ (k : ℕ). Row (r.depth + 1) r.number k (qs ++ (rs ++ rest))) (sym kin')
-      (subst (λ (e : ℕ). Row (e + 1) r.number (lookup sch.entries t r.number).kind (qs ++ (rs ++ rest))) (sym dep) (values_row vs (rs ++ rest) l)) in
-      subst (λ (x : List Record). Sane (r ∷ q ∷ x)) (sym (append_assoc qs rs rest))
-      (joined (other packed) (ap shape kin ∙ shape_packed) ex.high low (a_row (ap shape kin' ∙ sh) one_down num' w)
-      (values_sane sh (value dep' num' kin' f vs) ex.high (omega arith) (rs ++ rest)
-      (low_weaker (d + 1) (d + 1 + 1) (rs ++ rest) (omega arith) l) (tree_sane tr deep rest lo s)))
+  tree_sane {d = d} (row_of {r = r} {rs = rs} {qs = qs} c dep ex kin val sh vs long tr) deep rest lo s =
+      subst (λ (x : List Record). Sane (r ∷ x)) (sym (append_assoc qs rs rest))
+      (row_sane c dep ex.high kin sh vs long deep (rs ++ rest) (low_append (d + 1) rs rest (tree_low sch payload tr) lo) (tree_sane tr deep rest lo s))
 
   -- and no record is written as nothing
   values_long : {c : Scalar} {m k d : ℕ} {xs : List Record} {b : List ℕ} → Values c m k d xs b → length xs ≤ length b

@@ -1,4 +1,6 @@
 // The definitions are in specs/ and the laws about them in proofs/; the only code is names for the numbers of the rules, what a schema is made of, and how a message is read.
+#![tactic(auto)]
+
 pub mod columns;
 pub mod kinds;
 pub mod kinds32;

@@ -1,4 +1,6 @@
 // A message through an older reader: a list is written under the newer schema, read under the older one, and written again.
+#![tactic(auto)]
+
 ghost use Rattle.std.specs.Prelude.{◌≡◌, ◌*◌, ◌^◌, ◌<◌};
 ghost use Rattle.spec.specs.Record.{stride};
 ghost use Rattle.spec.specs.Schema.{schema_of};

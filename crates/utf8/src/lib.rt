@@ -1,4 +1,6 @@
 // UTF-8, by the table of RFC 3629: how much of some bytes is valid, and whether all is.
+#![tactic(auto)]
+
 ghost use Rattle.std.specs.Prelude.{◌≡◌, true, ◌&&◌, ◌+◌, ◌^◌, ◌<◌, ◌≤◌, length, drop, leb};
 ghost use Rattle.spec.specs.Base.{between};
 ghost use Rattle.spec.specs.Utf8.{followers, valid_prefix, utf8};

@@ -1,4 +1,6 @@
 // The list writer: the size of a list, and its bytes in a lent output.
+#![tactic(auto)]
+
 ghost use Rattle.std.specs.Prelude.{◌≡◌, List, ℕ, length};
 ghost use Rattle.spec.specs.Schema.{schema_of};
 ghost use Rattle.spec.specs.Record.{records_of};
