@@ -9,48 +9,48 @@ use Rattle.wire.proofs.FixedLaws.{four_bytes}
 use Rattle.wire.proofs.fixed.four.Statement.{statement}
 use Rattle.wire.proofs.fixed.four.Tie as tie
 
-cast-b0 : tie.Need-overflow-cast-b0
-cast-b0 c = omega (arith, c.shared-slice-known.given c.before.args.at)
+cast-b0 : tie.Need-overflow_cast-b0
+cast-b0 c = omega (arith, c.shared_slice_known-1.given c.before.args.at)
 
-cast-b1 : tie.Need-overflow-cast-b1
-cast-b1 c = omega (arith, c.shared-slice-known2.given (c.before.before.args.at + 1))
+cast-b1 : tie.Need-overflow_cast-b1
+cast-b1 c = omega (arith, c.shared_slice_known-2-1.given (c.before.before.args.at + 1))
 
-cast-b2 : tie.Need-overflow-cast-b2
-cast-b2 c = omega (arith, c.shared-slice-known3.given (c.before.before.before.args.at + 2))
+cast-b2 : tie.Need-overflow_cast-b2
+cast-b2 c = omega (arith, c.shared_slice_known-3-1.given (c.before.before.before.args.at + 2))
 
-cast-b3 : tie.Need-overflow-cast-b3
-cast-b3 c = omega (arith, c.shared-slice-known4.given (c.before.before.before.before.args.at + 3))
+cast-b3 : tie.Need-overflow_cast-b3
+cast-b3 c = omega (arith, c.shared_slice_known-4-1.given (c.before.before.before.before.args.at + 3))
 
 -- each sum is at most the last
-add-result-3 : tie.Need-overflow-add-result-3
+add-result-3 : tie.Need-overflow_add-result-3
 add-result-3 c =
     let at = c.before.before.before.before.args.at in
-    let byte = c.shared-slice-known4.given in
+    let byte = c.shared_slice_known-4-1.given in
     omega (arith, byte at, byte (at + 1), byte (at + 2), byte (at + 3))
 
-mul-result : tie.Need-overflow-mul-result
+mul-result : tie.Need-overflow_mul-result
 mul-result c = omega (arith, add-result-3 c)
 
-add-result : tie.Need-overflow-add-result
+add-result : tie.Need-overflow_add-result
 add-result c = omega (arith, add-result-3 c)
 
-mul-result-2 : tie.Need-overflow-mul-result-2
+mul-result-2 : tie.Need-overflow_mul-result-2
 mul-result-2 c = omega (arith, add-result-3 c)
 
-add-result-2 : tie.Need-overflow-add-result-2
+add-result-2 : tie.Need-overflow_add-result-2
 add-result-2 c = omega (arith, add-result-3 c)
 
-mul-result-3 : tie.Need-overflow-mul-result-3
+mul-result-3 : tie.Need-overflow_mul-result-3
 mul-result-3 c = omega (arith, add-result-3 c)
 
 returns : tie.Need-returns
 returns c =
     let a = c.before.before.before.before.args in
-    let byte = c.shared-slice-known4.given in
+    let byte = c.shared_slice_known-4-1.given in
     (omega (arith, byte a.at, byte (a.at + 1), byte (a.at + 2), byte (a.at + 3)), four_bytes a.s.now a.at c.before.before.before.before.requires ∙ ap (λ (x : ℕ). Took x 4) (omega arith))
 
-pub four-spec : {M : Type 1} → statement M
-four-spec =
+pub four_spec : {M : Type 1} → statement M
+four_spec =
     tie.close
     (tie.spec
     (λ c. search rules)

@@ -8,21 +8,21 @@ use Rattle.wire.proofs.PutLaws.{no_room, in_place}
 use Rattle.wire.proofs.fixed.put_fixed64.Statement.{statement}
 use Rattle.wire.proofs.fixed.put_fixed64.Tie as tie
 
-returns : tie.Need-returns
+returns : tie.Need-returns-then-out-at
 returns c = no_room (omega (arith, length_little 8 c.before.before.args.value))
 
-returns_2 : tie.Need-returns-2
+returns_2 : tie.Need-returns-then-out-at-lt8
 returns_2 c = no_room (omega (arith, length_little 8 c.before.before.before.args.value))
 
-returns_3 : tie.Need-returns-3
+returns_3 : tie.Need-returns
 returns_3 c =
     let first = c.before.before.before.before.before.before in
     let v = first.before.before.before.before.before.args.value in
     let long = length_little 8 v in
-    in_place (omega (arith, long)) (omega (arith, long)) (put_eight v _ _ first.store-four.ensures c.before.before.store-four2.ensures)
+    in_place (omega (arith, long)) (omega (arith, long)) (put_eight v _ _ first.store_four.ensures c.before.before.store_four-2.ensures)
 
-pub put-fixed64-spec : {M : Type 1} → statement M
-put-fixed64-spec =
+pub put_fixed64_spec : {M : Type 1} → statement M
+put_fixed64_spec =
     tie.close
     (tie.spec
     returns

@@ -9,13 +9,13 @@ use Rattle.spec.specs.Varint.{little}
 use Rattle.wire.proofs.fixed.store_four.Statement.{statement}
 use Rattle.wire.proofs.fixed.store_four.Tie as tie
 
-slice-write-out-2 : tie.Need-slice-write-out-2
+slice-write-out-2 : tie.Need-bounds-out-at-2
 slice-write-out-2 c = simp length-set (omega arith)
 
-slice-write-out-3 : tie.Need-slice-write-out-3
+slice-write-out-3 : tie.Need-bounds-out-at-3
 slice-write-out-3 c = simp length-set (omega arith)
 
-slice-write-out-4 : tie.Need-slice-write-out-4
+slice-write-out-4 : tie.Need-bounds-out-at-4
 slice-write-out-4 c = simp length-set (omega arith)
 
 returns : tie.Need-returns
@@ -26,8 +26,8 @@ returns c = let at = c.args.at in
     let three : at + 3 ≡ suc (suc (suc at)) = omega arith in
     rw (one, two, three)
 
-pub store-four-spec : {M : Type 1} → statement M
-store-four-spec =
+pub store_four_spec : {M : Type 1} → statement M
+store_four_spec =
     tie.close
     (tie.spec
     (λ c. search rules)

@@ -5,13 +5,13 @@ use Rattle.spec.specs.Base.{limit, limited}
 use Rattle.wire.proofs.wire_format.check_message_size.Statement.{statement}
 use Rattle.wire.proofs.wire_format.check_message_size.Tie as tie
 
-returns : tie.Need-returns
+returns : tie.Need-returns-then-size-le-MAX_MESSAGE_SIZE
 unfolding limited
 returns c = simp (le-leb c.before.args.size limit (omega arith))
 
-returns_2 : tie.Need-returns-2
+returns_2 : tie.Need-returns-else-size-le-MAX_MESSAGE_SIZE
 unfolding limited
 returns_2 c = simp (lt-leb c.before.args.size limit (omega arith))
 
-pub check-message-size-spec : {M : Type 1} → statement M
-check-message-size-spec = tie.close (tie.spec returns returns_2)
+pub check_message_size_spec : {M : Type 1} → statement M
+check_message_size_spec = tie.close (tie.spec returns returns_2)

@@ -9,5 +9,5 @@ returns : tie.Need-returns
 unfolding kind_wires
 returns c = refl
 
-pub kind-wires-spec : {M : Type 1} → statement M
-kind-wires-spec = tie.close (tie.spec returns)
+pub kind_wires_spec : {M : Type 1} → statement M
+kind_wires_spec = tie.close (tie.spec returns)

@@ -9,8 +9,8 @@ returns : tie.Need-returns
 unfolding kind_wires own_wires wires
 returns c = refl
 
-pub record-wires-spec : {M : Type 1} → statement M
-record-wires-spec =
+pub record_wires_spec : {M : Type 1} → statement M
+record_wires_spec =
     tie.close
     (tie.spec
     (λ c. search rules)

@@ -10,22 +10,22 @@ use Rattle.spec.proofs.Below.{equal_below}
 use Rattle.wire.proofs.wire_format.wire_of.Statement.{statement}
 use Rattle.wire.proofs.wire_format.wire_of.Tie as tie
 
-returns : tie.Need-returns
+returns : tie.Need-returns-then-kind-lt-OWN_KINDS
 unfolding kind_wires own_wires wires wire
 returns c = equal_below (λ k. get_or kind_wires k 0) wire own_kinds c.before.args.kind tt (omega arith)
 
-returns_2 : tie.Need-returns-2
+returns_2 : tie.Need-returns-then-kind-lt-ALL_KINDS
 unfolding kind_wires own_wires wires wire
 returns_2 c =
     let k : ℕ = c.before.before.args.kind in
     let back : own_kinds + (k - own_kinds) ≡ k = omega arith in
     equal_below (λ n. get_or own_wires n 0) (λ n. wire (own_kinds + n)) (all_kinds - own_kinds) (k - own_kinds) tt (omega arith) ∙ ap wire back
 
-returns_3 : tie.Need-returns-3
+returns_3 : tie.Need-returns
 unfolding kind_wires own_wires wires wire
 returns_3 c =
     let past : length wires ≤ c.before.before.args.kind = omega arith in
     sym (get_or-eq_default wires no_wire past)
 
-pub wire-of-spec : {M : Type 1} → statement M
-wire-of-spec = tie.close (tie.spec (λ c. search rules) returns (λ c. search rules) (λ c. search rules) returns_2 returns_3)
+pub wire_of_spec : {M : Type 1} → statement M
+wire_of_spec = tie.close (tie.spec (λ c. search rules) returns (λ c. search rules) (λ c. search rules) returns_2 returns_3)

@@ -7,13 +7,13 @@ use Rattle.spec.specs.Varint.{unzigzag}
 use Rattle.wire.proofs.zigzag.unzigzag.Statement.{statement}
 use Rattle.wire.proofs.zigzag.unzigzag.Tie as tie
 
-returns : tie.Need-returns
+returns : tie.Need-returns-then-n-eq0
 unfolding unzigzag
-returns c = simp (eq-eqb _ _ c.if1.true)
+returns c = simp (eq-eqb _ _ c.if-n-eq0.true)
 
-returns_2 : tie.Need-returns-2
+returns_2 : tie.Need-returns-else-n-eq0
 unfolding unzigzag
-returns_2 c = simp (ne_eqb _ _ c.if1.false) (omega arith)
+returns_2 c = simp (ne_eqb _ _ c.if-n-eq0.false) (omega arith)
 
-pub unzigzag-spec : {M : Type 1} → statement M
-unzigzag-spec = tie.close (tie.spec (λ c. search rules) returns returns_2)
+pub unzigzag_spec : {M : Type 1} → statement M
+unzigzag_spec = tie.close (tie.spec (λ c. search rules) returns returns_2)

@@ -7,16 +7,16 @@ use Rattle.wire.proofs.VarintSteps.{took_last, refused_last}
 use Rattle.wire.proofs.varint.decode.fifth_of_five.Statement.{statement}
 use Rattle.wire.proofs.varint.decode.fifth_of_five.Tie as tie
 
-cast-b4 : tie.Need-overflow-cast-b4
-cast-b4 c = omega (arith, c.shared-slice-known.given (c.before.args.at + 4))
+cast-b4 : tie.Need-overflow_cast-b4
+cast-b4 c = omega (arith, c.shared_slice_known-1.given (c.before.args.at + 4))
 
-returns : tie.Need-returns
+returns : tie.Need-returns-then-b4-gt-LAST_OF_32
 returns c = refused_last (omega arith) c.before.before.requires.1 (omega arith)
 
-returns_2 : tie.Need-returns-2
+returns_2 : tie.Need-returns
 returns_2 c = took_last (omega arith) c.before.before.requires.1 (omega arith)
 
-pub fifth-of-five-spec : {M : Type 1} → statement M
-fifth-of-five-spec =
+pub fifth_of_five_spec : {M : Type 1} → statement M
+fifth_of_five_spec =
     tie.close
     (tie.spec (λ c. search rules) (λ c. search rules) cast-b4 returns (λ c. search rules) (λ c. search rules) (λ c. search rules) returns_2)

@@ -7,37 +7,37 @@ use Rattle.wire.proofs.VarintSteps.{stopped, turned, took_last, refused_last}
 use Rattle.wire.proofs.varint.decode.from_eighth.Statement.{statement}
 use Rattle.wire.proofs.varint.decode.from_eighth.Tie as tie
 
-cast-b7 : tie.Need-overflow-cast-b7
-cast-b7 c = omega (arith, c.shared-slice-known.given (c.before.args.at + 7))
+cast-b7 : tie.Need-overflow_cast-b7
+cast-b7 c = omega (arith, c.shared_slice_known-1.given (c.before.args.at + 7))
 
-returns : tie.Need-returns
-returns c = stopped (omega arith) c.before.before.requires.1 c.if1.true
+returns : tie.Need-returns-then-b7-lt128
+returns c = stopped (omega arith) c.before.before.requires.1 c.if-b7-lt128.true
 
-cast-b8 : tie.Need-overflow-cast-b8
-cast-b8 c = omega (arith, c.shared-slice-known2.given (c.before.before.before.args.at + 8))
+cast-b8 : tie.Need-overflow_cast-b8
+cast-b8 c = omega (arith, c.shared_slice_known-2-1.given (c.before.before.before.args.at + 8))
 
-returns_2 : tie.Need-returns-2
+returns_2 : tie.Need-returns-then-b8-lt128
 returns_2 c =
     let eighth = c.before.before in
-    stopped (omega arith) (turned (omega arith) eighth.before.before.requires.1 eighth.if1.false) c.if2.true
+    stopped (omega arith) (turned (omega arith) eighth.before.before.requires.1 eighth.if-b7-lt128.false) c.if-b8-lt128.true
 
-cast-b9 : tie.Need-overflow-cast-b9
-cast-b9 c = omega (arith, c.shared-slice-known3.given (c.before.before.before.before.before.args.at + 9))
+cast-b9 : tie.Need-overflow_cast-b9
+cast-b9 c = omega (arith, c.shared_slice_known-3-1.given (c.before.before.before.before.before.args.at + 9))
 
-returns_3 : tie.Need-returns-3
+returns_3 : tie.Need-returns-then-b9-gt-LAST_OF_64
 returns_3 c =
     let eighth = c.before.before.before.before in
     let ninth = c.before.before in
-    refused_last (omega arith) (turned (omega arith) (turned (omega arith) eighth.before.before.requires.1 eighth.if1.false) ninth.if2.false) (omega arith)
+    refused_last (omega arith) (turned (omega arith) (turned (omega arith) eighth.before.before.requires.1 eighth.if-b7-lt128.false) ninth.if-b8-lt128.false) (omega arith)
 
-returns_4 : tie.Need-returns-4
+returns_4 : tie.Need-returns
 returns_4 c =
     let eighth = c.before.before.before.before in
     let ninth = c.before.before in
-    took_last (omega arith) (turned (omega arith) (turned (omega arith) eighth.before.before.requires.1 eighth.if1.false) ninth.if2.false) (omega arith)
+    took_last (omega arith) (turned (omega arith) (turned (omega arith) eighth.before.before.requires.1 eighth.if-b7-lt128.false) ninth.if-b8-lt128.false) (omega arith)
 
-pub from-eighth-spec : {M : Type 1} → statement M
-from-eighth-spec =
+pub from_eighth_spec : {M : Type 1} → statement M
+from_eighth_spec =
     tie.close
     (tie.spec
     (λ c. search rules)

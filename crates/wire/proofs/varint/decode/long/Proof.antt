@@ -4,14 +4,14 @@ use borrow.Author.Rules.{rules}
 use Rattle.wire.proofs.varint.decode.long.Statement.{statement}
 use Rattle.wire.proofs.varint.decode.long.Tie as tie
 
-returns_2 : tie.Need-returns-2
-returns_2 c = rw c.before.if2.true c.by_bytes.ensures
+returns_2 : tie.Need-returns-then-narrow
+returns_2 c = rw c.before.if-narrow.true c.by_bytes.ensures
 
-returns_3 : tie.Need-returns-3
-returns_3 c = rw c.before.if2.false c.by-bytes2.ensures
+returns_3 : tie.Need-returns
+returns_3 c = rw c.before.if-narrow.false c.by_bytes-2.ensures
 
-pub long-spec : {M : Type 1} → statement M
-long-spec =
+pub long_spec : {M : Type 1} → statement M
+long_spec =
     tie.close
     (tie.spec
     (λ c. search rules)

@@ -41,60 +41,60 @@ module _ (s : List ℕ) (at : ℕ) (fits : at + 10 ≤ length s) (big0 : 128 ≤
       → as_read at (Value (get_or s at 0 % 128 + get_or s (at + 1) 0 % 128 * 128 + get_or s (at + 2) 0 % 128 * 0x4000 + get_or s (at + 3) 0 % 128 * 0x20_0000) (at + 4)) ≡ varint_of narrow (drop at s)
   ends_3 narrow big1 big2 small = either_width narrow (drop at s) λ k last. stopped (omega arith) (three big1 big2 (suc k) last) small
 
-cast-b0 : tie.Need-overflow-cast-b0
-cast-b0 c = omega (arith, c.shared-slice-known2.given c.before.before.args.at)
+cast-b0 : tie.Need-overflow_cast-b0
+cast-b0 c = omega (arith, c.shared_slice_known-2-1.given c.before.before.args.at)
 
-cast-b1 : tie.Need-overflow-cast-b1
-cast-b1 c = omega (arith, c.shared-slice-known3.given (c.before.before.before.args.at + 1))
+cast-b1 : tie.Need-overflow_cast-b1
+cast-b1 c = omega (arith, c.shared_slice_known-3-1.given (c.before.before.before.args.at + 1))
 
-returns : tie.Need-returns
+returns : tie.Need-returns-then-b1-lt128
 returns c =
     let start = c.before.before.before.before in
-    ends_1 start.args.s.now start.args.at start.requires.0 start.requires.1 start.args.narrow c.if1.true
+    ends_1 start.args.s.now start.args.at start.requires.0 start.requires.1 start.args.narrow c.if-b1-lt128.true
 
-cast-b2 : tie.Need-overflow-cast-b2
-cast-b2 c = omega (arith, c.shared-slice-known4.given (c.before.before.before.before.before.args.at + 2))
+cast-b2 : tie.Need-overflow_cast-b2
+cast-b2 c = omega (arith, c.shared_slice_known-4-1.given (c.before.before.before.before.before.args.at + 2))
 
-returns_2 : tie.Need-returns-2
+returns_2 : tie.Need-returns-then-b2-lt128
 returns_2 c =
     let second = c.before.before in
     let start = second.before.before.before.before in
-    ends_2 start.args.s.now start.args.at start.requires.0 start.requires.1 start.args.narrow second.if1.false c.if2.true
+    ends_2 start.args.s.now start.args.at start.requires.0 start.requires.1 start.args.narrow second.if-b1-lt128.false c.if-b2-lt128.true
 
-cast-b3 : tie.Need-overflow-cast-b3
-cast-b3 c = omega (arith, c.shared-slice-known5.given (c.before.before.before.before.before.before.before.args.at + 3))
+cast-b3 : tie.Need-overflow_cast-b3
+cast-b3 c = omega (arith, c.shared_slice_known-5-1.given (c.before.before.before.before.before.before.before.args.at + 3))
 
-returns_3 : tie.Need-returns-3
+returns_3 : tie.Need-returns-then-b3-lt128
 returns_3 c =
     let third = c.before.before in
     let second = third.before.before in
     let start = second.before.before.before.before in
-    ends_3 start.args.s.now start.args.at start.requires.0 start.requires.1 start.args.narrow second.if1.false third.if2.false c.if3.true
+    ends_3 start.args.s.now start.args.at start.requires.0 start.requires.1 start.args.narrow second.if-b1-lt128.false third.if-b2-lt128.false c.if-b3-lt128.true
 
-fifth-of-five-requires : tie.Need-fifth-of-five-requires
+fifth-of-five-requires : tie.Need-fifth_of_five-requires
 fifth-of-five-requires c κs =
     let fourth = c.before in
     let third = fourth.before.before in
     let second = third.before.before in
     let start = second.before.before.before.before in
-    (start.requires.0, four start.args.s.now start.args.at start.requires.0 start.requires.1 second.if1.false third.if2.false fourth.if3.false 0 15)
+    (start.requires.0, four start.args.s.now start.args.at start.requires.0 start.requires.1 second.if-b1-lt128.false third.if-b2-lt128.false fourth.if-b3-lt128.false 0 15)
 
-returns_4 : tie.Need-returns-4
-returns_4 c = rw c.before.if4.true c.fifth-of-five.ensures
+returns_4 : tie.Need-returns-then-narrow
+returns_4 c = rw c.before.if-narrow.true c.fifth_of_five.ensures
 
-from-fifth-requires : tie.Need-from-fifth-requires
+from-fifth-requires : tie.Need-from_fifth-requires
 from-fifth-requires c κs =
     let fourth = c.before in
     let third = fourth.before.before in
     let second = third.before.before in
     let start = second.before.before.before.before in
-    (start.requires.0, four start.args.s.now start.args.at start.requires.0 start.requires.1 second.if1.false third.if2.false fourth.if3.false 5 1)
+    (start.requires.0, four start.args.s.now start.args.at start.requires.0 start.requires.1 second.if-b1-lt128.false third.if-b2-lt128.false fourth.if-b3-lt128.false 5 1)
 
-returns_5 : tie.Need-returns-5
-returns_5 c = rw c.before.if4.false c.from-fifth.ensures
+returns_5 : tie.Need-returns
+returns_5 c = rw c.before.if-narrow.false c.from_fifth.ensures
 
-pub of-ten-spec : {M : Type 1} → statement M
-of-ten-spec =
+pub of_ten_spec : {M : Type 1} → statement M
+of_ten_spec =
     tie.close
     (tie.spec
     (λ c. search rules)

@@ -10,7 +10,7 @@ use Rattle.wire.proofs.PutLaws.{at_front}
 use Rattle.wire.proofs.varint.encode.encode_varint64.Statement.{statement}
 use Rattle.wire.proofs.varint.encode.encode_varint64.Tie as tie
 
-room : (c : tie.After-store-arg) → length (encode c.before.args.value) ≤ length c.before.args.buf.now
+room : (c : tie.After-store-arg-1) → length (encode c.before.args.value) ≤ length c.before.args.buf.now
 room c = omega (arith, bytes_within 10 c.before.args.value (omega arith) (omega arith))
 
 store-requires : tie.Need-store-requires
@@ -21,5 +21,5 @@ returns c =
     let a = c.before.before.args in
     (omega arith, c.store.ensures.1 ∙ at_front (encode a.value) a.buf.now (room c.before))
 
-pub encode-varint64-spec : {M : Type 1} → statement M
-encode-varint64-spec = tie.close (tie.spec store-requires returns)
+pub encode_varint64_spec : {M : Type 1} → statement M
+encode_varint64_spec = tie.close (tie.spec store-requires returns)

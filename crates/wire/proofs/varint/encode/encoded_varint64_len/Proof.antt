@@ -37,34 +37,34 @@ module _ {v n rung : ℕ} (below : v < 128 ^ 9) (h : Climbed v n rung) where
       let less : n + 1 - 1 ≡ n = omega arith in
       record { low = omega arith; reached = rw less (omega (arith, h.next)); next = omega (arith, h.next, pow-suc 128 n, ap (◌^◌ 128) (add-one n)) }
 
-abbrev invariant_loop : tie.invariant_loop
+abbrev invariant_loop : tie.invariant-loop-rung
 invariant_loop value bytes₀ rung₀ bytes rung = Climbed value bytes rung
 
-abbrev decreases_loop : tie.decreases_loop
+abbrev decreases_loop : tie.decreases-loop-rung
 decreases_loop value bytes₀ rung₀ bytes rung = value + 1 - rung
 
-returns_2 : tie.Need-returns-2 invariant_loop decreases_loop
+returns_2 : tie.Need-returns-then-value-ge-TEN_BYTES invariant_loop decreases_loop
 returns_2 c = sym (size_ten c.before.before.args.value (omega arith))
 
-loop_holds : tie.Need-loop-init invariant_loop decreases_loop
+loop_holds : tie.Need-loop-rung-init invariant_loop decreases_loop
 loop_holds c = record { low = omega arith; reached = omega arith; next = refl }
 
-mul-rung : tie.Need-overflow-mul-rung invariant_loop decreases_loop
-mul-rung c = record { fits = omega (arith, next_fits (omega arith) c.before.loop.invariant (omega arith)) }
+mul-rung : tie.Need-overflow_mul-rung invariant_loop decreases_loop
+mul-rung c = record { fits = omega (arith, next_fits (omega arith) c.before.loop-rung.invariant (omega arith)) }
 
-add-bytes : tie.Need-overflow-add-bytes invariant_loop decreases_loop
-add-bytes c = record { fits = omega (arith, few (omega arith) c.before.loop.invariant) }
+add-bytes : tie.Need-overflow_add-bytes invariant_loop decreases_loop
+add-bytes c = record { fits = omega (arith, few (omega arith) c.before.loop-rung.invariant) }
 
-loop_less : tie.Need-loop-smaller invariant_loop decreases_loop
-loop_less c = omega (arith, some (omega arith) c.before.loop.invariant)
+loop_less : tie.Need-loop-rung-smaller invariant_loop decreases_loop
+loop_less c = omega (arith, some (omega arith) c.before.loop-rung.invariant)
 
-loop_again : tie.Need-loop-preserved invariant_loop decreases_loop
-loop_again c = climbed_on (omega arith) c.before.loop.invariant (omega arith)
+loop_again : tie.Need-loop-rung-preserved invariant_loop decreases_loop
+loop_again c = climbed_on (omega arith) c.before.loop-rung.invariant (omega arith)
 
-returns_3 : tie.Need-returns-3 invariant_loop decreases_loop
-returns_3 c = on_rung (omega arith) c.before.loop.invariant (omega arith)
+returns_3 : tie.Need-returns invariant_loop decreases_loop
+returns_3 c = on_rung (omega arith) c.before.loop-rung.invariant (omega arith)
 
-pub encoded-varint64-len-spec : {M : Type 1} → statement M
-encoded-varint64-len-spec =
+pub encoded_varint64_len_spec : {M : Type 1} → statement M
+encoded_varint64_len_spec =
     tie.close
     (tie.spec invariant_loop decreases_loop (λ c κs. search rules) (λ c. search rules) returns_2 loop_holds mul-rung add-bytes loop_less loop_again returns_3)

@@ -8,14 +8,14 @@ use Rattle.wire.proofs.PutLaws.{no_room, in_place}
 use Rattle.wire.proofs.varint.encode.put_varint64.Statement.{statement}
 use Rattle.wire.proofs.varint.encode.put_varint64.Tie as tie
 
-returns : tie.Need-returns
-returns c = rw (encode_ends c.before.before.before.args.value c.before.if1.true) (in_place (omega arith) (omega arith) refl)
+returns : tie.Need-returns-then-at-out
+returns c = rw (encode_ends c.before.before.before.args.value c.before.if-value-lt128.true) (in_place (omega arith) (omega arith) refl)
 
-returns_2 : tie.Need-returns-2
-returns_2 c = rw (encode_ends c.before.before.before.args.value c.before.if1.true) (no_room (omega arith))
+returns_2 : tie.Need-returns-then-value-lt128
+returns_2 c = rw (encode_ends c.before.before.before.args.value c.before.if-value-lt128.true) (no_room (omega arith))
 
-pub put-varint64-spec : {M : Type 1} → statement M
-put-varint64-spec =
+pub put_varint64_spec : {M : Type 1} → statement M
+put_varint64_spec =
     tie.close
     (tie.spec
     (λ c. search rules)

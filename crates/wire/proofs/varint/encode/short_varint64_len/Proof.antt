@@ -5,14 +5,14 @@ use Rattle.spec.proofs.VarintLaws.{size_one_lem, size_between}
 use Rattle.wire.proofs.varint.encode.short_varint64_len.Statement.{statement}
 use Rattle.wire.proofs.varint.encode.short_varint64_len.Tie as tie
 
-returns : tie.Need-returns
+returns : tie.Need-returns-then-value-lt-TWO_BYTES
 returns c = sym (size_one_lem c.before.args.value (omega arith))
 
-returns_2 : tie.Need-returns-2
+returns_2 : tie.Need-returns-then-value-lt-THREE_BYTES
 returns_2 c = sym (size_between 2 c.before.before.args.value (omega arith) (omega arith) (omega arith) (omega arith))
 
-returns_3 : tie.Need-returns-3
+returns_3 : tie.Need-returns-else-value-lt-THREE_BYTES
 returns_3 c = sym (size_between 3 c.before.before.args.value (omega arith) (omega arith) (omega arith) (omega arith))
 
-pub short-varint64-len-spec : {M : Type 1} → statement M
-short-varint64-len-spec = tie.close (tie.spec returns returns_2 returns_3)
+pub short_varint64_len_spec : {M : Type 1} → statement M
+short_varint64_len_spec = tie.close (tie.spec returns returns_2 returns_3)

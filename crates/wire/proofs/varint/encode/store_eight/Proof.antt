@@ -37,52 +37,52 @@ module _ (out : List ℕ) (at : ℕ) (room : at + 8 < length out) where
   in_7 : (b1 b2 b3 b4 b5 b6 b7 : ℕ) → at + 7 < length (set (set (set (set (set (set (set out at b1) (at + 1) b2) (at + 2) b3) (at + 3) b4) (at + 4) b5) (at + 5) b6) (at + 6) b7)
   in_7 b1 b2 b3 b4 b5 b6 b7 = simp length-set (omega arith)
 
-slice-write-out : tie.Need-slice-write-out
+slice-write-out : tie.Need-bounds-out-at
 slice-write-out c = omega (arith, eight c)
 
-slice-write-out-2 : tie.Need-slice-write-out-2
+slice-write-out-2 : tie.Need-bounds-out-at-2
 slice-write-out-2 c = in_1 c.args.out.now c.args.at (eight c) _
 
-add-out-3 : tie.Need-overflow-add-out-3
+add-out-3 : tie.Need-overflow_add-out-3
 add-out-3 c = omega (arith, eight c)
 
-slice-write-out-3 : tie.Need-slice-write-out-3
+slice-write-out-3 : tie.Need-bounds-out-at-3
 slice-write-out-3 c = in_2 c.args.out.now c.args.at (eight c) _ _
 
-add-out-5 : tie.Need-overflow-add-out-5
+add-out-5 : tie.Need-overflow_add-out-5
 add-out-5 c = omega (arith, eight c)
 
-slice-write-out-4 : tie.Need-slice-write-out-4
+slice-write-out-4 : tie.Need-bounds-out-at-4
 slice-write-out-4 c = in_3 c.args.out.now c.args.at (eight c) _ _ _
 
-add-out-7 : tie.Need-overflow-add-out-7
+add-out-7 : tie.Need-overflow_add-out-7
 add-out-7 c = omega (arith, eight c)
 
-slice-write-out-5 : tie.Need-slice-write-out-5
+slice-write-out-5 : tie.Need-bounds-out-at-5
 slice-write-out-5 c = in_4 c.args.out.now c.args.at (eight c) _ _ _ _
 
-add-out-9 : tie.Need-overflow-add-out-9
+add-out-9 : tie.Need-overflow_add-out-9
 add-out-9 c = omega (arith, eight c)
 
-slice-write-out-6 : tie.Need-slice-write-out-6
+slice-write-out-6 : tie.Need-bounds-out-at-6
 slice-write-out-6 c = in_5 c.args.out.now c.args.at (eight c) _ _ _ _ _
 
-add-out-11 : tie.Need-overflow-add-out-11
+add-out-11 : tie.Need-overflow_add-out-11
 add-out-11 c = omega (arith, eight c)
 
-slice-write-out-7 : tie.Need-slice-write-out-7
+slice-write-out-7 : tie.Need-bounds-out-at-7
 slice-write-out-7 c = in_6 c.args.out.now c.args.at (eight c) _ _ _ _ _ _
 
-add-out-13 : tie.Need-overflow-add-out-13
+add-out-13 : tie.Need-overflow_add-out-13
 add-out-13 c = omega (arith, eight c)
 
-slice-write-out-8 : tie.Need-slice-write-out-8
+slice-write-out-8 : tie.Need-bounds-out-at-8
 slice-write-out-8 c = in_7 c.args.out.now c.args.at (eight c) _ _ _ _ _ _ _
 
-add-out-15 : tie.Need-overflow-add-out-15
+add-out-15 : tie.Need-overflow_add-out-15
 add-out-15 c = omega (arith, eight c)
 
-same_length : tie.Need-same-length
+same_length : tie.Need-shape_of-out
 same_length c = simp length-set refl
 
 returns : tie.Need-returns
@@ -99,8 +99,8 @@ returns c =
     let s8 = stored_byte s7 (omega arith) {j = a.at + 8} (omega arith) in
     (omega (arith, s8.place), s8.same)
 
-pub store-eight-spec : {M : Type 1} → statement M
-store-eight-spec =
+pub store_eight_spec : {M : Type 1} → statement M
+store_eight_spec =
     tie.close
     (tie.spec
     (λ c. search rules)

@@ -17,22 +17,22 @@ abbrev found : ℕ → ℕ
 unfolding kind_wires
 found k = if leb (get_or kind_wires k 0) fixed32_wire then get_or kind_wires k 0 else no_wire
 
-cast-new : tie.Need-overflow-cast-new
+cast-new : tie.Need-overflow_cast-n-then-kind-lt-OWN_KINDS
 unfolding kind_wires
 cast-new c =
     let k : ℕ = c.before.args.kind in
     let small : min no_wire (get_or kind_wires k 0) ≡ get_or kind_wires k 0 = equal_below (λ i. min no_wire (get_or kind_wires i 0)) (λ i. get_or kind_wires i 0) own_kinds k tt (omega arith) in
     record { fits = omega arith }
 
-returns : tie.Need-returns
+returns : tie.Need-returns-then-kind-lt-OWN_KINDS
 unfolding kind_wires
 returns c = c.new.ensures ∙ equal_below found (λ k. get_or kind_wires k no_wire) own_kinds c.before.before.args.kind tt (omega arith)
 
-returns_2 : tie.Need-returns-2
+returns_2 : tie.Need-returns
 unfolding kind_wires
 returns_2 c =
     let past : length kind_wires ≤ c.before.args.kind = omega arith in
     sym (get_or-eq_default kind_wires no_wire past)
 
-pub for-type-spec : {M : Type 1} → statement M
-for-type-spec = tie.close (tie.spec (λ c. search rules) cast-new (λ c κs. search rules) returns returns_2)
+pub for_type_spec : {M : Type 1} → statement M
+for_type_spec = tie.close (tie.spec (λ c. search rules) cast-new (λ c κs. search rules) returns returns_2)

@@ -1,0 +1,32 @@
+-- `wire::wire_format::Tag::make` meets its contract: each test is one of the definition's. Assumes nothing.
+use Rattle.std.proofs.Common.{ℕ, ◌+◌, ◌*◌, ap, arith}
+use borrow.Author.Tests.{le-leb, lt-leb}
+use Rattle.spec.specs.Names.{fixed32_wire, largest_number}
+use Rattle.spec.specs.Base.{Took}
+use Rattle.spec.specs.Varint.{make_tag}
+use Rattle.wire.proofs.FormatLaws.{known, unknown}
+use Rattle.wire.proofs.wire_format.Tag.make.Goals as goal
+
+pub returns-then-number-eq0 : goal.returns-then-number-eq0
+unfolding make_tag
+returns-then-number-eq0 c = simp (lt-leb 1 c.args.number (omega arith))
+
+pub returns-then-number-gt-FIELD_NUMBER_MAX : goal.returns-then-number-gt-FIELD_NUMBER_MAX
+unfolding make_tag
+returns-then-number-gt-FIELD_NUMBER_MAX c = simp (le-leb 1 c.args.number (omega arith), lt-leb c.args.number largest_number (omega arith))
+
+pub returns-in-Known : goal.returns-in-Known
+unfolding make_tag
+returns-in-Known c =
+    let n : ℕ = c.args.number in
+    let w : ℕ = c.args.wire_type in
+    let is = known w c.in-Known.known c.in-Known.ensures in
+    simp (le-leb 1 n (omega arith), le-leb n largest_number (omega arith), le-leb w fixed32_wire is.0) (ap (λ (x : ℕ). Took (n * 8 + x) 0) is.1)
+
+pub returns-in-Unknown : goal.returns-in-Unknown
+unfolding make_tag
+returns-in-Unknown c =
+    let n : ℕ = c.args.number in
+    let w : ℕ = c.args.wire_type in
+    let is = unknown w c.in-Unknown.ensures in
+    simp (le-leb 1 n (omega arith), le-leb n largest_number (omega arith), lt-leb w fixed32_wire is)
