@@ -1,9 +1,12 @@
 -- `wire::wire_format::Tag::make` meets its contract: each test is one of the definition's. Assumes nothing.
-use Rattle.std.proofs.Common.{ℕ, ◌+◌, ◌*◌, ap, arith}
+use Prim.Native.Nat.{ℕ, ◌+◌, ◌*◌}
+use mathlib.Core.Path.{sym, ap, ◌∙◌}
+use native.Mathlib.Omega.{arith}
 use borrow.Author.Tests.{le-leb, lt-leb}
 use Rattle.spec.specs.Names.{fixed32_wire, largest_number}
 use Rattle.spec.specs.Base.{Took}
 use Rattle.spec.specs.Varint.{make_tag}
+use Rattle.wire.specs.FormatTold.{wire_told}
 use Rattle.wire.proofs.FormatLaws.{known, unknown}
 use Rattle.wire.proofs.wire_format.Tag.make.Goals as goal
 
@@ -13,14 +16,16 @@ returns-then-number-eq0 c = simp (lt-leb 1 c.args.number (omega arith))
 
 pub returns-then-number-gt-FIELD_NUMBER_MAX : goal.returns-then-number-gt-FIELD_NUMBER_MAX
 unfolding make_tag
-returns-then-number-gt-FIELD_NUMBER_MAX c = simp (le-leb 1 c.args.number (omega arith), lt-leb c.args.number largest_number (omega arith))
+returns-then-number-gt-FIELD_NUMBER_MAX c =
+    let n : ℕ = c.args.number in
+    simp (le-leb 1 n (omega arith), lt-leb n largest_number (omega arith))
 
 pub returns-in-Known : goal.returns-in-Known
 unfolding make_tag
 returns-in-Known c =
     let n : ℕ = c.args.number in
     let w : ℕ = c.args.wire_type in
-    let is = known w c.in-Known.known c.in-Known.ensures in
+    let is = known w c.in-Known.known (sym (ap wire_told c.in-Known.is) ∙ c.new.ensures) in
     simp (le-leb 1 n (omega arith), le-leb n largest_number (omega arith), le-leb w fixed32_wire is.0) (ap (λ (x : ℕ). Took (n * 8 + x) 0) is.1)
 
 pub returns-in-Unknown : goal.returns-in-Unknown
@@ -28,5 +33,5 @@ unfolding make_tag
 returns-in-Unknown c =
     let n : ℕ = c.args.number in
     let w : ℕ = c.args.wire_type in
-    let is = unknown w c.in-Unknown.ensures in
+    let is = unknown w (sym (ap wire_told c.in-Unknown.is) ∙ c.new.ensures) in
     simp (le-leb 1 n (omega arith), le-leb n largest_number (omega arith), lt-leb w fixed32_wire is)
