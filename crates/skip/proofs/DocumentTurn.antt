@@ -134,6 +134,7 @@ module _ {said : Bool} {s o : List ℕ} {at : ℕ} (h : From said s o at) where
                     ∙ rw (p', drop_to at q s (omega arith));
               },
             )
+        go (No _) e x4 = elim x4 [ ]
 
     lost : (k : ℕ) → (t % 8 ≡ start_group_wire → ⊥) → (t % 8 ≡ end_group_wire → ⊥) → Refused k ≡ behind next (plain (t % 8) (drop next s)) → false ≡ said
     unfolding passed longer

@@ -87,6 +87,7 @@ module _ {e : Read} {level : ℕ} {s : List ℕ} {from at : ℕ} (h : Here e lev
                       ∙ rw (j', j'', drop_to at q s (omega arith));
                 },
               )
+          go (No _) g x4 = elim x4 [ ]
 
     -- and so was a value that is no group's
     module _ (p : Past) (f : p ≡ behind next (plain (t % 8) (drop next s))) where

@@ -3,7 +3,6 @@ use Prim.Native.Nat.{ℕ, zero, suc, ◌+◌, ◌-◌, ◌%◌, ◌≤◌, ◌<�
 use native.Mathlib.Omega.{arith}
 use mathlib.Core.Path.{◌≡◌, refl, sym, ap, ap₂, ◌∙◌}
 use mathlib.Core.Bool.{Bool, true, false}
-use mathlib.Core.Logic.{inl}
 use mathlib.Core.List.{List, [], ◌∷◌}
 use lib.ListN.{length, drop, length-drop}
 use lib.Dec.{ltb, eqb}
@@ -64,6 +63,7 @@ answer_to q r e = go r (behind_of 0 q r e)
   where
     go : (x : Read) → Behind 0 q x → (0 ≡ refusal x) × (q ≡ taken x)
     go (Took v n) (stands p) = (refl, omega arith)
+    go (No _) x3 = elim x3 [ ]
 
 pub answer_past : (p : Past) (r : Read) {x y : ℕ} → p ≡ behind 0 r → (x ≡ refusal (past 0 p)) × (y ≡ taken (past 0 p)) → (x ≡ refusal r) × (y ≡ taken r)
 unfolding refusal taken behind
