@@ -4,15 +4,13 @@ use mathlib.Core.Path.{◌≡◌, sym, ap, ◌∙◌}
 use mathlib.Core.Bool.{Bool, true, false}
 use mathlib.Core.List.{List}
 use native.Mathlib.Omega.{arith}
-use borrow.Author.Rules.{rules}
 use borrow.Author.Tests.{le-leb, lt-leb}
 use lib.Dec.{leb}
 use lib.ListN.{length}
 use Rattle.spec.specs.Base.{if◌then◌else◌, part}
 use Rattle.wire.specs.Answers.{stored}
 use Rattle.copy.proofs.CopyLaws.{part_all}
-use Rattle.copy.proofs.put_bytes.Statement.{statement}
-use Rattle.copy.proofs.put_bytes.Tie as tie
+use Rattle.copy.proofs.put_bytes.Goals as goal
 
 abbrev Promised : ℕ → List ℕ → List ℕ → Bool → List ℕ → Type 0
 Promised at s out r x = (r ≡ leb (at + length s) (length out)) × (x ≡ (if leb (at + length s) (length out) then stored at s out else out))
@@ -26,41 +24,22 @@ in_place at s out h e =
     let fits = le-leb _ _ h in
     (sym fits, simp fits (e ∙ ap (λ (l : List ℕ). stored at l out) (part_all s)))
 
-returns : tie.Need-returns
-returns c =
-    let a = c.before.before.before.args in
+pub returns-then-out-at : goal.returns-then-out-at
+returns-then-out-at c =
+    let a = c.args in
     no_room a.at a.from.now a.out.now (omega arith)
 
-returns_2 : tie.Need-returns-2
-returns_2 c =
-    let a = c.before.before.before.before.args in
+pub returns-then-out-at-2 : goal.returns-then-out-at-2
+returns-then-out-at-2 c =
+    let a = c.args in
     no_room a.at a.from.now a.out.now (omega arith)
 
-returns_3 : tie.Need-returns-3
-returns_3 c =
-    let call = c.before.before in
-    let a = call.before.before.before.before.before.before.before.before.args in
-    in_place a.at a.from.now a.out.now (omega arith) call.put_some_lem.ensures
+pub returns-then-n-lt-BLOCK : goal.returns-then-n-lt-BLOCK
+returns-then-n-lt-BLOCK c =
+    let a = c.args in
+    in_place a.at a.from.now a.out.now (omega arith) c.put_some.ensures
 
-returns_4 : tie.Need-returns-4
-returns_4 c =
-    let call = c.before.before in
-    let a = call.before.before.before.before.before.before.before.before.args in
-    in_place a.at a.from.now a.out.now (omega arith) call.put-blocks.ensures
-
-pub put-bytes-spec : {M : Type 1} → statement M
-put-bytes-spec =
-    tie.close
-    (tie.spec
-    returns
-    (λ c. search rules)
-    returns_2
-    (λ c. search rules)
-    (λ c. search rules)
-    (λ c. search rules)
-    (λ c κs. search rules)
-    (λ c κs. search rules)
-    (λ c. search rules)
-    returns_3
-    (λ c. search rules)
-    returns_4)
+pub returns-else-n-lt-BLOCK : goal.returns-else-n-lt-BLOCK
+returns-else-n-lt-BLOCK c =
+    let a = c.args in
+    in_place a.at a.from.now a.out.now (omega arith) c.put_blocks.ensures
