@@ -1,0 +1,59 @@
+-- `copy::put_pair` meets its contract: the bytes are stored one after the other. Assumes nothing.
+use native.Mathlib.Omega.{arith}
+use Rattle.copy.proofs.CopyLaws.{first_long, first_room, piece}
+use Rattle.copy.proofs.put_pair.Goals as goal
+
+pub shape_of-out : goal.shape_of-out
+shape_of-out c =
+    let a = c.args in
+    first_long a.from.now a.i a.out.now a.at 15
+
+pub returns : goal.returns
+returns c =
+    piece c.args.from.now c.args.i c.args.out.now c.args.at 15 c.requires.0 c.requires.1
+
+-- the place of the next byte is inside
+pub bounds-out-j-2 : goal.bounds-out-j-2
+bounds-out-j-2 c = first_room c.args.from.now c.args.i c.args.out.now c.args.at 0 (omega arith) c.requires.1
+
+pub bounds-out-j-3 : goal.bounds-out-j-3
+bounds-out-j-3 c = first_room c.args.from.now c.args.i c.args.out.now c.args.at 1 (omega arith) c.requires.1
+
+pub bounds-out-j-4 : goal.bounds-out-j-4
+bounds-out-j-4 c = first_room c.args.from.now c.args.i c.args.out.now c.args.at 2 (omega arith) c.requires.1
+
+pub bounds-out-j-5 : goal.bounds-out-j-5
+bounds-out-j-5 c = first_room c.args.from.now c.args.i c.args.out.now c.args.at 3 (omega arith) c.requires.1
+
+pub bounds-out-j-6 : goal.bounds-out-j-6
+bounds-out-j-6 c = first_room c.args.from.now c.args.i c.args.out.now c.args.at 4 (omega arith) c.requires.1
+
+pub bounds-out-j-7 : goal.bounds-out-j-7
+bounds-out-j-7 c = first_room c.args.from.now c.args.i c.args.out.now c.args.at 5 (omega arith) c.requires.1
+
+pub bounds-out-j-8 : goal.bounds-out-j-8
+bounds-out-j-8 c = first_room c.args.from.now c.args.i c.args.out.now c.args.at 6 (omega arith) c.requires.1
+
+pub bounds-out-j-9 : goal.bounds-out-j-9
+bounds-out-j-9 c = first_room c.args.from.now c.args.i c.args.out.now c.args.at 7 (omega arith) c.requires.1
+
+pub bounds-out-j-10 : goal.bounds-out-j-10
+bounds-out-j-10 c = first_room c.args.from.now c.args.i c.args.out.now c.args.at 8 (omega arith) c.requires.1
+
+pub bounds-out-j-11 : goal.bounds-out-j-11
+bounds-out-j-11 c = first_room c.args.from.now c.args.i c.args.out.now c.args.at 9 (omega arith) c.requires.1
+
+pub bounds-out-j-12 : goal.bounds-out-j-12
+bounds-out-j-12 c = first_room c.args.from.now c.args.i c.args.out.now c.args.at 10 (omega arith) c.requires.1
+
+pub bounds-out-j-13 : goal.bounds-out-j-13
+bounds-out-j-13 c = first_room c.args.from.now c.args.i c.args.out.now c.args.at 11 (omega arith) c.requires.1
+
+pub bounds-out-j-14 : goal.bounds-out-j-14
+bounds-out-j-14 c = first_room c.args.from.now c.args.i c.args.out.now c.args.at 12 (omega arith) c.requires.1
+
+pub bounds-out-j-15 : goal.bounds-out-j-15
+bounds-out-j-15 c = first_room c.args.from.now c.args.i c.args.out.now c.args.at 13 (omega arith) c.requires.1
+
+pub bounds-out-j-16 : goal.bounds-out-j-16
+bounds-out-j-16 c = first_room c.args.from.now c.args.i c.args.out.now c.args.at 14 (omega arith) c.requires.1

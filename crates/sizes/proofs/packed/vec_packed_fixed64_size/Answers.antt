@@ -1,0 +1,11 @@
+-- `sizes::packed::vec_packed_fixed64_size` meets its contract: each value takes 8 bytes. Assumes nothing.
+use mathlib.Core.Path.{refl, ◌∙◌}
+use Rattle.spec.specs.Names.{fixed64_kind}
+use Rattle.spec.specs.Kind.{shapes, shape}
+use Rattle.spec.specs.Sizes.{scalar_size, value_size}
+use Rattle.sizes.proofs.PackedLaws.{packed_same_plain}
+use Rattle.sizes.proofs.packed.vec_packed_fixed64_size.Goals as goal
+
+pub returns : goal.returns
+unfolding shapes shape scalar_size value_size
+returns c = c.packed_fixed.ensures ∙ packed_same_plain fixed64_kind c.args.number 8 (λ v. refl) c.args.values.now
