@@ -1,6 +1,5 @@
 -- `schema::unknown` meets its contract: the table is the definition's, entry by entry. Assumes nothing.
 use native.Mathlib.Omega.{arith}
-use borrow.Author.Rules.{rules}
 use mathlib.Core.Path.{ap}
 use Prim.Native.Nat.{ℕ, ◌%◌}
 use mathlib.Core.List.{[], ◌∷◌}
@@ -8,12 +7,8 @@ use lib.ListN.{get_or}
 use Rattle.spec.specs.Names.{group_end, group_start, unknown_bytes, unknown_fixed32, unknown_fixed64, unknown_varint}
 use Rattle.spec.specs.Schema.{unknown_kind}
 use Rattle.spec.proofs.Below.{equal_below}
-use Rattle.schema.proofs.unknown.Statement.{statement}
-use Rattle.schema.proofs.unknown.Tie as tie
+use Rattle.schema.proofs.unknown.Goals as goal
 
-returns : tie.Need-returns
+pub returns : goal.returns
 unfolding unknown_kind
 returns c = ap (λ (k : ℕ). record { kind = k; inner = 0 }) (equal_below (λ w. get_or (unknown_varint ∷ unknown_fixed64 ∷ unknown_bytes ∷ group_start ∷ group_end ∷ unknown_fixed32 ∷ 0 ∷ 0 ∷ []) w 0) unknown_kind 8 (c.args.tag % 8) tt (omega arith))
-
-pub unknown-spec : {M : Type 1} → statement M
-unknown-spec = tie.close (tie.spec (λ c. search rules) (λ c. search rules) returns)
