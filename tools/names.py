@@ -9,17 +9,17 @@ import re
 import subprocess
 import sys
 
-REFUSALS = "endsEarly badVarint badTag noGroupOpen outOfRange notUtf8 tooDeep noRoom invalidSchema invalidList tooLarge outputShort badMark otherVersion".split()
-KINDS = ("doubleKind floatKind int64Kind uint64Kind int32Kind fixed64Kind fixed32Kind boolKind stringKind groupKind messageKind bytesKind uint32Kind enumKind "
-         "sfixed32Kind sfixed64Kind sint32Kind sint64Kind - packedHead unknownVarint unknownFixed64 unknownBytes unknownFixed32 groupStart groupEnd").split()
-WIRES = "varintWire fixed64Wire delimitedWire startGroupWire endGroupWire fixed32Wire - noWire".split()
+REFUSALS = "ends_early bad_varint bad_tag no_group_open out_of_range not_utf8 too_deep no_room invalid_schema invalid_list too_large output_short bad_mark other_version".split()
+KINDS = ("double_kind float_kind int64_kind uint64_kind int32_kind fixed64_kind fixed32_kind bool_kind string_kind group_kind message_kind bytes_kind uint32_kind enum_kind "
+         "sfixed32_kind sfixed64_kind sint32_kind sint64_kind - packed_head unknown_varint unknown_fixed64 unknown_bytes unknown_fixed32 group_start group_end").split()
+WIRES = "varint_wire fixed64_wire delimited_wire start_group_wire end_group_wire fixed32_wire - no_wire".split()
 refusal = {str(i + 1): n for i, n in enumerate(REFUSALS)}
 kind = {str(i + 1): n for i, n in enumerate(KINDS) if n != "-"}
 wire = {str(i): n for i, n in enumerate(WIRES) if n != "-"}
-column = {"1": "numberColumn", "2": "kindColumn", "3": "valueColumn", "4": "startColumn", "5": "stopColumn", "6": "tagColumn"}
-recorded = {"25": "recordKinds"}
-level = {"100": "mostLevels"}
-largest = {"536870911": "largestNumber", "0x1fff_ffff": "largestNumber"}
+column = {"1": "number_column", "2": "kind_column", "3": "value_column", "4": "start_column", "5": "stop_column", "6": "tag_column"}
+recorded = {"25": "record_kinds"}
+level = {"100": "most_levels"}
+largest = {"536870911": "largest_number", "0x1fff_ffff": "largest_number"}
 sized = {"2147483647": "limit", "0x7fff_ffff": "limit"}
 stride = {"7": "stride"}
 
@@ -27,10 +27,10 @@ stride = {"7": "stride"}
 RULES = [
     (refusal, r"\b(?:No|Fault|Refused|Failed|Faulty|require|refused|faulty) (?P<n>\d+)(?= |\)|$|,|;|\n)"),
     (refusal, r"\bthen (?P<n>6|7|10) else\b"),
-    (refusal, r"\b(?:recordFault|restFault|rangeFault)\b[^→≡=\n]*[=≡] (?P<n>\d+)(?= |$|\n|\))"),
+    (refusal, r"\b(?:record_fault|rest_fault|range_fault)\b[^→≡=\n]*[=≡] (?P<n>\d+)(?= |$|\n|\))"),
     (kind, r"\.kind\) (?P<n>\d+)\b"),
     (kind, r"\b(?:eqb|eq-eqb|ne-eqb|eqb-true|eqb-false) (?:k|kind) (?P<n>\d+)\b"),
-    (kind, r"(?:(?<!wire )(?<!wire \(r )\.kind|(?<!wire )\bkind) ≡ (?P<n>\d+)\b"),
+    (kind, r"(?:(?<!wire r)(?<!wire q)\.kind|(?<!wire )(?<!\.)\bkind) ≡ (?P<n>\d+)\b"),
     (kind, r"\bdiffer \w+ k (?P<n>\d+)\b"),
     (kind, r"\bshape (?P<n>\d+)\b"),
     (kind, r"\brow \w+ \w+ (?P<n>11|20) 0\b"),
@@ -43,23 +43,23 @@ RULES = [
     (wire, r"\bIsTag \w+ (?P<n>[34])\b"),
     (kind, r"\bfield-kind (?P<n>\d+)\b"),
     (kind, r"\(t / 8\) (?P<n>\d+) (?:0|v|n)\b"),
-    (kind, r"\(r \.number\) (?P<n>11|20) 0\b"),
-    (kind, r"\bkindOf \w+ (?:\w+|\(t % 8\)) ≡ (?P<n>\d+)\b"),
-    (kind, r"\.kind (?:≤|<|≢) (?P<n>\d+)\b"),
-    (kind, r"\bbetween (?P<n>1|21) (?:18|24|sint64Kind|unknownFixed32) \(\w+ \.kind\)"),
-    (kind, r"\bbetween \w+ (?P<n>18|24) \(\w+ \.kind\)"),
+    (kind, r"\br\.number (?P<n>11|20) 0\b"),
+    (kind, r"\bkind_of \w+ (?:\w+|\(t % 8\)) ≡ (?P<n>\d+)\b"),
+    (kind, r"(?<!wire [\w])\.kind (?:≤|<|≢) (?P<n>\d+)\b"),
+    (kind, r"\bbetween (?P<n>1|21) (?:18|24|sint64_kind|unknown_fixed32) \w+\.kind"),
+    (kind, r"\bbetween \w+ (?P<n>18|24) \w+\.kind"),
     (wire, r"\bunknown-is (?P<n>[0-5])\b"),
-    (wire, r"\bkindOf \w+ (?P<n>2)\b"),
-    (wire, r"\b(?:plain|skipField group level) (?P<n>[0-5]) s\b"),
-    (wire, r"\b(?:taken-tag s t n e|no-value) (?P<n>[34])\b"),
-    (wire, r"\bwire \(\w+ \.kind\) (?:≡|≤) (?P<n>[0-5])\b"),
-    (wire, r"\bgetD (?:ws|wires) \w+ (?P<n>7)\b"),
+    (wire, r"\bkind_of \w+ (?P<n>2)\b"),
+    (wire, r"\b(?:plain|skip_field group level) (?P<n>[0-5]) s\b"),
+    (wire, r"\b(?:taken_tag s t n e|no_value) (?P<n>[34])\b"),
+    (wire, r"\bwire \w+\.kind (?:≡|≤) (?P<n>[0-5])\b"),
+    (wire, r"\bget_or (?:ws|wires) \w+ (?P<n>7)\b"),
     (refusal, r"\bnumber w (?:≢|≡) (?P<n>12)\b"),
     (refusal, r"\bnumber = (?P<n>\d+);"),
-    (kind, r"\b(?:packedSize|fieldSize) (?P<n>\d+)\b"),
-    (kind, r"(?:\.kind|(?<!wire )\bkind) ≢ (?P<n>\d+)\b"),
-    (refusal, r"(?:\.Bad|\bStop|\bshutAt|\bopenedAs) (?P<n>[1-9]\d*)\b"),
-    (column, r"\bgetD list \([^()]*\+ (?P<n>[1-6])\) 0"),
+    (kind, r"\b(?:packed_size|field_size) (?P<n>\d+)\b"),
+    (kind, r"(?:(?<!wire r)(?<!wire q)\.kind|(?<!wire )(?<!\.)\bkind) ≢ (?P<n>\d+)\b"),
+    (refusal, r"(?:\.Bad|\bStop|\bshut_at|\bopened_as) (?P<n>[1-9]\d*)\b"),
+    (column, r"\bget_or list \([^()]*\+ (?P<n>[1-6])\) 0"),
     (recorded, r"\btake (?P<n>25) wires\b"),
     (level, r"(?:\b(?:leb|ltb|le-leb|lt-leb|Run) |[≤<] )(?P<n>100)\b"),
     (level, r"(?<![\w.])(?P<n>100) (?:≤|<|-)"),
@@ -69,7 +69,7 @@ RULES = [
 # in these crates' proofs a seven is the stride of a record, but where bytes are copied one by one
 STRIDED = re.compile(r"crates/(?:list|read|sizes|trip|write)/(?!.*[Cc]op)")
 STRIDES = [(stride, r"(?:[+*/%-]) (?P<n>7)\b"), (stride, r"(?<![\w.^-])(?P<n>7) (?:[*+≤<])")]
-HOME = {"limit": "Base", "stride": "Record", "entryStride": "Schema"}
+HOME = {"limit": "Base", "stride": "Record", "entry_stride": "Schema"}
 # lists of cases: bytes and the records that they read as, as the rules list them
 CASES = re.compile(r"Cases\.antt$")
 
@@ -84,11 +84,14 @@ CODE = [
 ]
 
 
+# a promise or what a function asks, in code
+CLAUSE = r"\b(?:requires|ensures)\b[^{\n]*\{(?:[^{}]|\{[^{}]*\})*\}"
+
+
 def parts(text, code):
     """The text in pieces, and of each whether it is a definition, a promise or a proof: no comment, no `use` and no code."""
     if code:
-        rule = r"(⌜[^⌝]*⌝)"
-        return [(p, i % 2 == 1) for i, p in enumerate(re.split(rule, text))]
+        return [(p, i % 2 == 1) for i, p in enumerate(re.split(f"({CLAUSE})", text))]
     rule = r"(?m)(^\s*(?:pub )?use .*$|(?<!\S)--.*$)"
     return [(p, i % 2 == 0) for i, p in enumerate(re.split(rule, text))]
 
@@ -108,10 +111,9 @@ def named(text, path):
     return text
 
 
-def module(path, home, code):
+def module(home):
     """What a file calls a module of spec's definitions."""
-    inside = path.parts[path.parts.index("crates") + 1] == "spec" and not code
-    return f"Rattle·spec{'·specs.specs' if inside else '.specs'}.{home}"
+    return f"Rattle.spec.specs.{home}"
 
 
 def bring(lines, path, names, code):
@@ -119,7 +121,7 @@ def bring(lines, path, names, code):
     end, lead = (";", "ghost use") if code else ("", "use")
     for home in sorted({HOME.get(n, "Names") for n in names}):
         wanted = {n for n in names if HOME.get(n, "Names") == home}
-        where = module(path, home, code)
+        where = module(home)
         if path.name == home + ".antt":
             continue
         for i, line in enumerate(lines):
@@ -130,7 +132,7 @@ def bring(lines, path, names, code):
                 break
         else:
             at = [i for i, line in enumerate(lines) if line.startswith(lead + " ")]
-            after = [i for i in at if "Rattle·spec" in lines[i]]
+            after = [i for i in at if "Rattle.spec" in lines[i]]
             i = min(after) if after else (max(at) + 1 if at else 0)
             lines.insert(i, f"{lead} {where}.{{{', '.join(sorted(wanted))}}}{end}")
     return lines
@@ -155,8 +157,9 @@ def main():
             names = set(re.findall(r"[\w-]+", new)) - set(re.findall(r"[\w-]+", text))
             path.write_text("\n".join(bring(new.split("\n"), path, names, code)))
         elif not write and code:
-            for i, line in enumerate(text.split("\n"), 1):
-                bared = re.sub(r"//.*|⌜[^⌝]*⌝", "", line)
+            bared_text = re.sub(CLAUSE, lambda m: "\n" * m[0].count("\n"), text)
+            for i, line in enumerate(bared_text.split("\n"), 1):
+                bared = re.sub(r"//.*", "", line)
                 if not re.match(r"\s*(?:pub )?const ", bared) and any(re.search(rule, bared) for rule in CODE):
                     found.append((i, line))
         bare += len(found)

@@ -109,6 +109,7 @@ module _ (sch : Schema) (payload : List ℕ) where
           }
 
     cut : {t d : ℕ} {rs : List Record} {b : List ℕ} → Tree sch payload t d rs b → Among sch r under inside t rs → Cut b
+    cut (no_field {t = t} {d = d}) a = elim a [ ]
     cut {t} {d} (number {r = q} {rs = rs} {b = b} c dep ex sh f rest) a =
         let p = plain_scalar q.kind c sh in
         wider (tag_bytes q ++ encoded c q.value)

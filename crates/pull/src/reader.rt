@@ -1,6 +1,6 @@
-// The pull reader: it holds a slice, its position and its level, as CodedInputStream does. Each function that takes or makes one is proved
-// by a walk of its code by hand, so there are few and they are thin: each takes the reader apart, calls a function on the slice and the
-// numbers, and puts the answer together. `step_once` and `enter_once` use it with plain parameters, so that their callers need no walk.
+// The pull reader: it holds a slice, its position and its level, as CodedInputStream does. The functions that take or make one are thin:
+// each takes the reader apart, calls a function on the slice and the numbers, and puts the answer together.
+// `step_once` and `enter_once` use it with plain parameters.
 ghost use Rattle.std.specs.Prelude.{◌≡◌, ◌≤◌, length};
 ghost use Rattle.spec.specs.Base.{part};
 ghost use Rattle.spec.specs.Pull.{opened, stepped, entered, step_at, reader};
@@ -39,7 +39,7 @@ pub struct Entered<'a> {
     pub outer: Reader<'a>,
 }
 
-// ---- what the walks call
+// ---- the parts of the calls
 
 // The refusal of more bytes than may be read, else 0.
 fn open_number(s: &[u8]) -> u32

@@ -17,7 +17,7 @@ use Rattle.spec.specs.Kind.{Scalar, Shape, one, other, string, bytes, message, p
 use Rattle.spec.specs.Schema.{bad_schema}
 use Rattle.spec.specs.Skip.{content}
 use Rattle.spec.specs.Record.{row}
-use Rattle.spec.specs.Reading.{Mode, Look, looking, Field, Value, Message, Packed, Dropped, Fault, given, shaped, field, used, Reading, Refused, ◌then◌, ◌followed_by◌, element, elements, contents, span, records, read, within, refused_or, called, reading_by, reading_as}
+use Rattle.spec.specs.Reading.{Mode, Look, looking, Field, Value, Message, Packed, Dropped, Fault, given, shaped, field, used, Reading, ◌then◌, ◌followed_by◌, element, elements, contents, span, records, read, refused_or, called, reading_by, reading_as}
 use Rattle.spec.specs.Pull as pull
 use Rattle.spec.specs.Letter as letter
 use Rattle.spec.specs.Letter.{BrokenAt, FieldAt, BrokenLetter, TellsLetter, ToldLetter, PullTellsLetter}

@@ -17,7 +17,7 @@ use Rattle.spec.specs.Names.{group_start, largest_number, message_kind, most_lev
 use Rattle.spec.specs.Base.{if◌then◌else◌, part}
 use Rattle.spec.specs.Varint.{encode, tag_size}
 use Rattle.spec.specs.Kind.{Scalar, int32, uint32, uint64, bool, sint32, sint64, fixed32, sfixed32, fixed64, Shape, one, other, string, bytes, message, packed, startGroup, endGroup, nothing, shapes, shape, wire, encoded, fits}
-use Rattle.spec.specs.Schema.{Schema, bad_schema, lookup}
+use Rattle.spec.specs.Schema.{Schema, bad_schema}
 use Rattle.spec.specs.Record.{Record, stride, records_of, record_at, records_from}
 use Rattle.spec.specs.Sizes.{body_size, size_of}
 use Rattle.spec.specs.Writing.{prefixed, body, tag_of, written, Fields, lies, Fine, list_fault}

@@ -1,0 +1,13 @@
+-- `printing::put_digits` meets its contract: the digits before the last come by the call of itself, with one digit less left. Assumes nothing.
+use Rattle.std.proofs.Common.{arith}
+use Rattle.printing.proofs.TextLaws.{digits_none, digits_one, digits_many}
+use Rattle.printing.proofs.+put_digits.Goals as goal
+
+pub returns-then-left-eq0 : goal.returns-then-left-eq0
+returns-then-left-eq0 t c = digits_none c.args.n c.if-left-eq0.true
+
+pub returns-then-n-lt10 : goal.returns-then-n-lt10
+returns-then-n-lt10 t c = digits_one (omega (arith, c.if-left-eq0.false)) c.if-n-lt10.true c.put_byte.ensures
+
+pub returns : goal.returns
+returns t c = digits_many (omega (arith, c.if-left-eq0.false)) c.if-n-lt10.false c.put_digits-to.ensures c.put_byte-2.ensures

@@ -1,0 +1,15 @@
+-- `pull::step::fixed32_at` meets its contract: the number that was found. Assumes nothing.
+use mathlib.Core.Path.{ap, ◌∙◌}
+use lib.ListN.{drop}
+use Rattle.spec.specs.Kind.{fixed32, scalar}
+use Rattle.spec.specs.Pull.{step_at}
+use Rattle.spec.proofs.Laws.{takes_scalar}
+use Rattle.pull.specs.Told.{as_moved}
+use Rattle.pull.proofs.StepLaws.{number_told}
+use Rattle.pull.proofs.step.fixed32_at.Goals as goal
+
+pub returns : goal.returns
+unfolding step_at scalar
+returns c =
+    let a = c.args in
+    ap as_moved c.number_of.ensures ∙ number_told a.at c.decode_fixed32.result (takes_scalar fixed32 (drop a.at a.s.now)) c.decode_fixed32.ensures

@@ -1,0 +1,15 @@
+-- `pull::step::int32_at` meets its contract: the number that was found. Assumes nothing.
+use mathlib.Core.Path.{ap, ◌∙◌}
+use lib.ListN.{drop}
+use Rattle.spec.specs.Kind.{int32}
+use Rattle.spec.specs.Pull.{step_at}
+use Rattle.spec.proofs.Laws.{takes_scalar}
+use Rattle.pull.specs.Told.{as_moved}
+use Rattle.pull.proofs.StepLaws.{number_told}
+use Rattle.pull.proofs.step.int32_at.Goals as goal
+
+pub returns : goal.returns
+unfolding step_at
+returns c =
+    let a = c.args in
+    ap as_moved c.number_of.ensures ∙ number_told a.at c.int32_found.result (takes_scalar int32 (drop a.at a.s.now)) c.int32_found.ensures
