@@ -4,13 +4,11 @@ use native.Mathlib.Omega.{arith}
 use mathlib.Core.Path.{◌≡◌}
 use mathlib.Core.List.{List}
 use lib.ListN.{length, drop, get_or}
-use borrow.Author.Rules.{rules}
 use borrow.Author.Tests.{le-leb, lt-leb, le-ltb, lt-ltb, eq-eqb, ne_eqb}
 use Rattle.spec.specs.Names.{bad_mark, other_version, too_large}
 use Rattle.spec.specs.Base.{limit}
 use Rattle.segment.specs.Segment.{letter_w, letter_f, letter_m, version, version_of, front_size, Refused, split, within, reading}
-use Rattle.segment.proofs.reading.front_fault.Statement.{statement}
-use Rattle.segment.proofs.reading.front_fault.Tie as tie
+use Rattle.segment.proofs.reading.front_fault.Goals as goal
 
 -- the tests, one after the other
 module _ (s : List ℕ) (room : ℕ) where
@@ -71,68 +69,29 @@ module _ (s : List ℕ) (room : ℕ) where
                   le-ltb limit (length s) h,
                 )
 
-returns : tie.Need-returns
-returns c = ((λ room. short _ room c.if1.true), λ z. absurd (omega arith))
+pub returns-then-s-lt-FRONT_SIZE : goal.returns-then-s-lt-FRONT_SIZE
+returns-then-s-lt-FRONT_SIZE c = ((λ room. short _ room c.if-s-lt-FRONT_SIZE.true), λ z. absurd (omega arith))
 
-returns_2 : tie.Need-returns-2
-returns_2 c = ((λ room. not_w _ room c.before.before.if1.false c.if2.true), λ z. absurd (omega arith))
+pub returns-then-s-ne-LETTER_W : goal.returns-then-s-ne-LETTER_W
+returns-then-s-ne-LETTER_W c = ((λ room. not_w _ room c.if-s-lt-FRONT_SIZE.false c.if-s-ne-LETTER_W.true), λ z. absurd (omega arith))
 
-returns_3 : tie.Need-returns-3
-returns_3 c = ((λ room. not_f _ room c.before.before.before.before.if1.false c.before.before.if2.false c.if3.true), λ z. absurd (omega arith))
+pub returns-then-s-ne-LETTER_F : goal.returns-then-s-ne-LETTER_F
+returns-then-s-ne-LETTER_F c = ((λ room. not_f _ room c.if-s-lt-FRONT_SIZE.false c.if-s-ne-LETTER_W.false c.if-s-ne-LETTER_F.true), λ z. absurd (omega arith))
 
-returns_4 : tie.Need-returns-4
-returns_4 c =
-    let f = c.before.before in
-    let w = f.before.before in
-    ((λ room. not_m _ room w.before.before.if1.false w.if2.false f.if3.false c.if4.true), λ z. absurd (omega arith))
+pub returns-then-s-ne-LETTER_M : goal.returns-then-s-ne-LETTER_M
+returns-then-s-ne-LETTER_M c = ((λ room. not_m _ room c.if-s-lt-FRONT_SIZE.false c.if-s-ne-LETTER_W.false c.if-s-ne-LETTER_F.false c.if-s-ne-LETTER_M.true), λ z. absurd (omega arith))
 
 -- the version's two bytes
-returns_5 : tie.Need-returns-5
-returns_5 c =
-    let m = c.before.before in
-    let f = m.before.before in
-    let w = f.before.before in
-    ((λ room. another _ room w.before.before.if1.false w.if2.false f.if3.false m.if4.false (λ e. c.if5.true (omega (arith, e, c.before.shared-slice-known4.given 3)))), λ z. absurd (omega arith))
+pub returns-then-s-ne-VERSION : goal.returns-then-s-ne-VERSION
+returns-then-s-ne-VERSION c = ((λ room. another _ room c.if-s-lt-FRONT_SIZE.false c.if-s-ne-LETTER_W.false c.if-s-ne-LETTER_F.false c.if-s-ne-LETTER_M.false (λ e. c.if-s-ne-VERSION.true (omega (arith, e, c.type_inv.s 3)))), λ z. absurd (omega arith))
 
-returns-6 : tie.Need-returns-6
-returns-6 c =
-    let v = c.before.before in
-    let m = v.before.before in
-    let f = m.before.before in
-    let w = f.before.before in
-    ((λ room. another _ room w.before.before.if1.false w.if2.false f.if3.false m.if4.false (λ e. c.if6.true (omega (arith, e, v.if5.false)))), λ z. absurd (omega arith))
+pub returns-then-s-ne0 : goal.returns-then-s-ne0
+returns-then-s-ne0 c = ((λ room. another _ room c.if-s-lt-FRONT_SIZE.false c.if-s-ne-LETTER_W.false c.if-s-ne-LETTER_F.false c.if-s-ne-LETTER_M.false (λ e. c.if-s-ne0.true (omega (arith, e, c.if-s-ne-VERSION.false)))), λ z. absurd (omega arith))
 
-returns-7 : tie.Need-returns-7
-returns-7 c =
-    let v = c.before.before.before in
-    let m = v.before.before in
-    let f = m.before.before in
-    let w = f.before.before in
-    ((λ room. large _ room w.before.before.if1.false w.if2.false f.if3.false m.if4.false (omega (arith, v.if5.false, c.before.if6.false)) c.if7.true), λ z. absurd (omega arith))
+pub returns-then-s-gt-MOST_BYTES : goal.returns-then-s-gt-MOST_BYTES
+returns-then-s-gt-MOST_BYTES c = ((λ room. large _ room c.if-s-lt-FRONT_SIZE.false c.if-s-ne-LETTER_W.false c.if-s-ne-LETTER_F.false c.if-s-ne-LETTER_M.false (omega (arith, c.if-s-ne-VERSION.false, c.if-s-ne0.false)) c.if-s-gt-MOST_BYTES.true), λ z. absurd (omega arith))
 
-returns-8 : tie.Need-returns-8
-returns-8 c =
-    let v = c.before.before.before in
-    let m = v.before.before in
-    let f = m.before.before in
-    let w = f.before.before in
-    let long = w.before.before.if1.false in
-    ((λ room. right _ room long w.if2.false f.if3.false m.if4.false (omega (arith, v.if5.false, c.before.if6.false)) c.if7.false), λ z. long)
-
-pub front-fault-spec : {M : Type 1} → statement M
-front-fault-spec =
-    tie.close
-    (tie.spec
-    returns
-    (λ c. search rules)
-    returns_2
-    (λ c. search rules)
-    returns_3
-    (λ c. search rules)
-    returns_4
-    (λ c. search rules)
-    returns_5
-    (λ c. search rules)
-    returns-6
-    returns-7
-    returns-8)
+pub returns : goal.returns
+returns c =
+    let long = c.if-s-lt-FRONT_SIZE.false in
+    ((λ room. right _ room long c.if-s-ne-LETTER_W.false c.if-s-ne-LETTER_F.false c.if-s-ne-LETTER_M.false (omega (arith, c.if-s-ne-VERSION.false, c.if-s-ne0.false)) c.if-s-gt-MOST_BYTES.false), λ z. long)

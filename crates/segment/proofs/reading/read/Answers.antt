@@ -6,13 +6,11 @@ use mathlib.Core.Bool.{Bool}
 use mathlib.Core.List.{List}
 use lib.ListN.{length}
 use lib.Dec.{eqb}
-use borrow.Author.Rules.{rules}
 use borrow.Author.Tests.{eq-eqb, ne_eqb}
 use Rattle.spec.specs.Base.{if◌then◌else◌}
 use Rattle.segment.specs.Segment.{Ranges, Refused, number, place, listed, stored, room_after}
 use Rattle.segment.specs.Emit.{Told}
-use Rattle.segment.proofs.reading.read.Statement.{statement}
-use Rattle.segment.proofs.reading.read.Tie as tie
+use Rattle.segment.proofs.reading.read.Goals as goal
 
 -- the front is refused with k: the room is as it was
 refused : (p : Ranges) {q : Ranges} {k : ℕ} {room : List ℕ} {a n b : ℕ} → q ≡ (if eqb k 0 then p else Refused k 0) → (k ≡ 0 → ⊥) → (a ≡ k) × (n ≡ 0 / 2) × (b ≡ 0)
@@ -29,24 +27,11 @@ read_on {p} {q} {k} e none t =
     let is : q ≡ p = e ∙ ap (λ (t : Bool). if t then p else Refused k 0) (eq-eqb k 0 none) in
     rw is (t.refusal, t.at, t.count, t.leaves)
 
-returns : tie.Need-returns
-returns c = refused _ (c.before.before.front-fault.ensures.0 _) c.before.if1.true c.counted.ensures
+pub returns-then-fault-ne0 : goal.returns-then-fault-ne0
+returns-then-fault-ne0 c = refused _ (c.front_fault-fault.ensures.0 _) c.if-fault-ne0.true c.counted.ensures
 
-messages-requires : tie.Need-messages-requires
-messages-requires c κs = c.before.before.front-fault.ensures.1 c.before.if1.false
+pub messages-requires : goal.messages-requires
+messages-requires c = c.front_fault-fault.ensures.1 c.if-fault-ne0.false
 
-returns_2 : tie.Need-returns-2
-returns_2 c =
-    let m = c.before.before in
-    read_on (m.before.before.before.front-fault.ensures.0 _) m.before.before.if1.false m.messages.ensures
-
-pub read_spec : {M : Type 1} → statement M
-read_spec =
-    tie.close
-    (tie.spec
-    (λ c κs. search rules)
-    (λ c κs. search rules)
-    returns
-    messages-requires
-    (λ c. search rules)
-    returns_2)
+pub returns : goal.returns
+returns c = read_on (c.front_fault-fault.ensures.0 _) c.if-fault-ne0.false c.messages.ensures
