@@ -43,7 +43,7 @@ const GUESSED_NUMBERS: u32 = GUESSES as u32;
 const PACKED_MARK: u32 = MAY_PACK as u32;
 
 // The numbers of an entry.
-#[derive(Drop)]
+#[derive(Clone, Copy)]
 struct Five {
     owner: u32,
     number: u32,

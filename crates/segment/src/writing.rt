@@ -17,7 +17,7 @@ use wire::varint::encode::{encoded_varint64_len, put_varint64};
 
 // The answer of a writing: the refusal's number, 0 for none; the size, 0 on refusal, but where the output is too short the size that is needed; the index of the
 // first range that does not lie in the payload.
-#[derive(Drop)]
+#[derive(Clone, Copy)]
 pub struct Written {
     pub number: u32,
     pub size: usize,

@@ -122,7 +122,7 @@ pub fn wire_of(kind: u32) -> u8
 }
 
 // All wire types that a tag may have.
-#[derive(Drop)]
+#[derive(Clone, Copy)]
 pub enum WireType {
     Varint,
     Fixed64,
@@ -182,7 +182,7 @@ impl WireType {
 }
 
 // A field's number and wire type.
-#[derive(Drop)]
+#[derive(Clone, Copy)]
 pub struct Tag {
     pub field_number: u32,
     pub wire_type: WireType,

@@ -20,7 +20,7 @@ use wire::wire_format::{MAX_MESSAGE_SIZE, record_wires};
 
 // The answer of a writing: the refusal's number, 0 for none; the size, 0 on refusal, but where the output is too short the size that is needed; the index of the bad
 // record, or of the bad entry of the schema.
-#[derive(Drop)]
+#[derive(Clone, Copy)]
 pub struct Answer {
     pub number: u32,
     pub size: usize,
