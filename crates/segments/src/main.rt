@@ -88,8 +88,8 @@ fn list_input(buf: &[u8], have: usize, room: &mut [u64], out: &mut [u8]) -> usiz
 
 fn main(rt: HostRuntime) -> io::Result<()> {
     let mut buf = [0u8; INPUT];
-    let mut room = [0u64; ROOM];
-    let mut out = [0u8; OUTPUT];
+    let mut room = vec![in rt.alloc(); 0u64; ROOM]?;
+    let mut out = vec![in rt.alloc(); 0u8; OUTPUT]?;
     let have = read_input(&mut rt.stdin(), &mut buf)?;
     let size = list_input(&buf, have, &mut room, &mut out);
     write_after_first(&mut rt.stdout(), &out, size)
