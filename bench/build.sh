@@ -1,15 +1,15 @@
 #!/bin/bash
-# build.sh: proves the libraries `calf`, `bench_leaves`, `bench_pull` and `bench_entries` and makes work/bench, one static x86-64 program of them, their peers and the driver bench.c; the inputs, in
+# build.sh: proves the libraries `calf`, `bench_leaves`, `bench_pull` and `bench_entries`, makes their archives (tools/archive.sh), and of these work/bench, one static x86-64 program of them, their peers and the driver bench.c; the inputs, in
 # work/data; and the counter, work/icount.so. Also work/native/bench, for times: the same for this processor, with the proved libraries' own LLVM modules, as the
 # prover handed them to its compiler, compiled for it. On x86-64 that means that the branches of the modules and of the peers are kept within blocks of 32 bytes: some
 # processors take longer over others, and where a branch falls else depends on what is linked before it. After setup.sh.
 set -eu
 cd "$(dirname "$0")"; P=$PWD; R=$P/root; W=$P/work; N=$W/native; M=$(uname -m)
-K=${RATTLE_HOME:-$(dirname "$(dirname "$(readlink -f "$(command -v rt)")")")}/on/$M; T=$K/toolchain
+K=$(dirname "$(dirname "$(readlink -f "$(command -v rt)")")"); T=$K/toolchain
 mkdir -p "$W/data" "$W/gen" "$N"
 python3 gen.py "$W/data"
 gcc -O2 -shared -fPIC -o "$W/icount.so" icount.c
-for c in calf bench_leaves bench_pull bench_entries; do (cd .. && rt staticlib $c); done
+for c in calf bench_leaves bench_pull bench_entries; do ../tools/archive.sh $c; done
 # the tools of root/ find their own libraries there
 own() { LD_LIBRARY_PATH=$R/usr/lib/$M-linux-gnu "$@"; }
 own "$R/usr/bin/protoc" --cpp_out="$W/gen" bench.proto
@@ -44,17 +44,18 @@ rm "$W/tc/bin/clang"
 printf '%s\n' '#!/bin/bash' "for a in \"\$@\"; do case \$a in *.bc | *.ll) cp \"\$a\" '$W/tc/kept/module' ;; esac; done" "exec -a clang '$T/bin/clang' \"\$@\"" >"$W/tc/bin/clang"
 chmod +x "$W/tc/bin/clang"
 for c in calf bench_leaves bench_pull bench_entries; do
-    deps=$(sed -n "s/^$c: *//p" ../crates.txt); set --
-    for d in $deps; do set -- "$@" --extern "$d=../target/rlib/$d.rlib"; done
-    "$K/bin/rattle" build --crate-name $c ../crates/$c/src/lib.rt --extern "std=$K/rlib/std.rlib" "$@" -L dependency=../target/rlib -L "dependency=$K/rlib" \
-        --antt-project "$K/../../logic/antt-project.json" --logic-built "$K/logic-built" --toolchain "$W/tc" --crate-type staticlib -o "$W/tc/lib$c.a" >/dev/null
+    deps=$(sed -n "s/^${c}_c staticlib: *//p" ../crates.txt); set --
+    for d in $deps; do set -- "$@" --extern "$d=../crates/$d/out/rlib/$d.rlib"; done
+    for d in ../crates/*/out/rlib; do set -- "$@" -L "dependency=$d"; done
+    "$K/bin/rattle" build --crate-name ${c}_c ../crates/${c}_c/src/lib.rt --extern "std=$K/rlibs/std.rlib" "$@" -L "dependency=$K/rlibs" \
+        --antt-project "$K/rattle/logic/antt-project.json" --logic-built "$K/logic_built" --toolchain "$W/tc" --crate-type staticlib -o "$W/tc/lib$c.a" >/dev/null
     cmp "$W/tc/lib$c.a" ../target/staticlib/lib$c.a
     "$T/bin/clang" --target=x86_64-unknown-linux-gnu -S -emit-llvm -Xclang -disable-llvm-passes -x ir "$W/tc/kept/module" -o "$W/tc/$c.ll"
     flags=-mbranches-within-32B-boundaries
     if [ "$M" = aarch64 ]; then
         # the module is for x86-64: its lines that say so are replaced
         sed -i -e 's/^target datalayout = .*/target datalayout = "e-m:e-p270:32:32-p271:32:32-p272:64:64-i8:8:32-i16:16:32-i64:64-i128:128-n32:64-S128-Fn32"/' \
-            -e 's/^target triple = .*/target triple = "aarch64-unknown-linux-gnu"/' -e 's/ "target-cpu"="x86-64"//; s/ "probe-stack"="inline-asm"//' "$W/tc/$c.ll"
+            -e 's/^target triple = .*/target triple = "aarch64-unknown-linux-gnu"/' -e 's/ "target-cpu"="x86-64[^"]*"//; s/ "probe-stack"="inline-asm"//; s/ "stack-probe-size"="[0-9]*"//' "$W/tc/$c.ll"
         flags=
     fi
     "$T/bin/clang" --target=$M-unknown-linux-gnu -ffunction-sections -fdata-sections -fPIC -O3 $flags -c -x ir "$W/tc/$c.ll" -o "$N/$c.o"

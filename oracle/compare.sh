@@ -1,7 +1,7 @@
 #!/bin/bash
 # compare.sh [LINES] [SEED] [GROUP]: makes LINES case lines (1,000,000) by SEED (1), puts them through the crate, the model and our program `replay`, and compares.
 # GROUP is a group of gen.py's lines: `messages`, `segments`, `documents`, `letters`, `spans`, or all.
-# After setup.sh, and `rt check replay` at the repository's root (or REPLAY names another program). All it writes is below work/.
+# After setup.sh. tools/run.sh proves and builds `replay` where it has changed (or REPLAY names another program). All it writes is below work/.
 set -eu
 cd "$(dirname "$0")"
 lines=${1:-1000000} seed=${2:-1} group=${3:-}

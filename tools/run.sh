@@ -1,12 +1,15 @@
 #!/bin/bash
-# run.sh PROGRAM: runs target/bin/PROGRAM (or the file PROGRAM), which `rt check PROGRAM` has made, with the C library of the kit. Programs are for x86-64; on another
-# processor they run as `rt` runs them, by the emulator that the kit has beside its compiler.
+# run.sh PROGRAM: proves and builds crates/PROGRAM where it has changed, and runs it (or runs the file PROGRAM). Programs are for x86-64 Linux.
 set -eu
 program=$1
-[ -f "$program" ] || program=$(dirname "$0")/../target/bin/$1
-[ -x "$program" ] || { echo "run.sh: no program $1 (rt check $1 makes it)" >&2; exit 2; }
-kit=${RATTLE_HOME:-$(dirname "$(dirname "$(readlink -f "$(command -v rt)")")")}
-tools=$kit/on/$(uname -m)/toolchain
-set -- "$tools/lib/ld-linux-x86-64.so.2" --library-path "$tools/lib" "$program"
-[ "$(uname -m)" = x86_64 ] || set -- "$tools/bin/qemu-x86_64" "$@"
-exec "$@"
+if [ ! -f "$program" ]; then
+    crate=$(cd "$(dirname "$0")/.." && pwd)/crates/$1
+    [ -f "$crate/src/main.rt" ] || { echo "run.sh: no program $1" >&2; exit 2; }
+    program=$crate/out/$1
+    [ -f "$program" ] || echo "run.sh: proves and builds $1, which takes a while" >&2
+    log=$(mktemp)
+    # `rt run` runs the program too: here over no input
+    (cd "$crate" && rt run) </dev/null >"$log" 2>&1 || { cat "$log" >&2; rm -f "$log"; exit 2; }
+    rm -f "$log"
+fi
+exec "$program"
