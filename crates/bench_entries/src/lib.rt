@@ -1,5 +1,5 @@
-// Reading under a schema that is lent as a slice of entries, exported for C, so that bench/ can count `entries::read`. A call that lends structs is
-// not exported, so this one takes five numbers an entry and makes an array of them, which is short, so that nearly all that is counted is the call.
+// Reading under a schema that is lent as a slice of entries. The crate `bench_entries_c` exports it for C, so that bench/ can count `entries::read`. A call
+// that lends structs is not exported, so this one takes five numbers an entry and makes an array of them, which is short, so that nearly all that is counted is the call.
 #![tactic(auto)]
 
 ghost use Rattle.std.specs.Prelude.{◌≡◌, [], ◌∷◌, ◌+◌, ◌*◌, ◌/◌, ◌<◌, ◌≤◌, length, take};
@@ -92,8 +92,7 @@ fn lend_read(
 
 // The message s under the first sixteen entries of these numbers: how many records are in the room, and the place of the refusal; the refusal's
 // number is the result.
-#[unsafe(no_mangle)]
-pub extern "C" fn perf_entries_read(
+pub fn perf_entries_read(
     types: u32,
     numbers: &[u32],
     s: &[u8],

@@ -1,4 +1,4 @@
-// Loops over the varint leaves and the pull steps, exported for C, so that bench/ can count them.
+// Loops over the varint leaves and the pull steps. The crate `bench_leaves_c` exports them for C, so that bench/ can count them.
 #![tactic(auto)]
 
 ghost use Rattle.std.specs.Prelude.{◌≡◌};
@@ -9,8 +9,7 @@ use wire::found::Found;
 use wire::put::Put;
 
 // The exclusive or of all varints, up to the first that is refused.
-#[unsafe(no_mangle)]
-pub extern "C" fn perf_varints(s: &[u8]) -> u64
+pub fn perf_varints(s: &[u8]) -> u64
     ensures { result ≡ varints s.now }
 {
     let mut at: usize = 0;
@@ -31,8 +30,7 @@ pub extern "C" fn perf_varints(s: &[u8]) -> u64
 }
 
 // All values as varints, one after the other, and how many bytes they take: 0 where one has no room, with those before it stored.
-#[unsafe(no_mangle)]
-pub extern "C" fn perf_put_varints(values: &[u64], out: &mut [u8]) -> usize
+pub fn perf_put_varints(values: &[u64], out: &mut [u8]) -> usize
     ensures { (result ≡ (puts 0 values.now out.old).0) × (out.new ≡ (puts 0 values.now out.old).1) }
 {
     let mut at: usize = 0;
@@ -53,8 +51,7 @@ pub extern "C" fn perf_put_varints(values: &[u64], out: &mut [u8]) -> usize
 }
 
 // The exclusive or of all values of a message whose fields are varints, up to the end or the first refusal: a raw tag and a uint64 an iteration.
-#[unsafe(no_mangle)]
-pub extern "C" fn perf_pull(s: &[u8]) -> u64
+pub fn perf_pull(s: &[u8]) -> u64
     ensures { result ≡ pulled s.now }
 {
     let mut at: usize = 0;

@@ -1,4 +1,4 @@
-// The pull loop over a message of bench/bench.proto, exported for C, so that bench/ can count the steps, each value by its type.
+// The pull loop over a message of bench/bench.proto, each value by its type. The crate `bench_pull_c` exports it for C, so that bench/ can count the steps.
 #![tactic(auto)]
 
 pub mod message;
@@ -11,8 +11,7 @@ ghost use Rattle.bench_pull.specs.Fields.{fields};
 use crate::message::{Sum, root};
 
 // The exclusive or of all values and of the lengths of contents, up to the end or the first refusal.
-#[unsafe(no_mangle)]
-pub extern "C" fn perf_fields(s: &[u8]) -> u64
+pub fn perf_fields(s: &[u8]) -> u64
     ensures { result ≡ fields s.now }
 {
     match root(s) {

@@ -31,8 +31,7 @@ fn refused(f: Found) -> u32
 }
 
 // The varint at a place: its value and the place after it.
-#[unsafe(no_mangle)]
-pub extern "C" fn calf_varint64(s: &[u8], at: usize, answer: &mut [u64; 2]) -> u32
+pub fn calf_varint64(s: &[u8], at: usize, answer: &mut [u64; 2]) -> u32
     ensures { (result ≡ refusal (varint64 (drop at s.now)))
         × (answer.new ≡ behind at (varint64 (drop at s.now))) }
 {
@@ -42,8 +41,7 @@ pub extern "C" fn calf_varint64(s: &[u8], at: usize, answer: &mut [u64; 2]) -> u
 }
 
 // The same of 32 bits.
-#[unsafe(no_mangle)]
-pub extern "C" fn calf_varint32(s: &[u8], at: usize, answer: &mut [u64; 2]) -> u32
+pub fn calf_varint32(s: &[u8], at: usize, answer: &mut [u64; 2]) -> u32
     ensures { (result ≡ refusal (varint32 (drop at s.now)))
         × (answer.new ≡ behind at (varint32 (drop at s.now))) }
 {
@@ -63,8 +61,7 @@ fn place_of(p: Put) -> usize
 }
 
 // Stores a varint at a place: the place after it; or 0 where it has no room, and nothing is stored.
-#[unsafe(no_mangle)]
-pub extern "C" fn calf_put_varint(value: u64, out: &mut [u8], at: usize) -> usize
+pub fn calf_put_varint(value: u64, out: &mut [u8], at: usize) -> usize
     ensures { (result ≡ (if leb (at + length (encode value)) (length out.old) then at + length (encode value) else 0))
         × (out.new ≡ (if leb (at + length (encode value)) (length out.old) then stored at (encode value) out.old else out.old)) }
 {
@@ -72,8 +69,7 @@ pub extern "C" fn calf_put_varint(value: u64, out: &mut [u8], at: usize) -> usiz
 }
 
 // How many bytes at the front are valid UTF-8.
-#[unsafe(no_mangle)]
-pub extern "C" fn calf_utf8_prefix(s: &[u8]) -> usize
+pub fn calf_utf8_prefix(s: &[u8]) -> usize
     ensures { result ≡ valid_prefix s.now }
 {
     utf8::utf8_prefix(s)
@@ -82,13 +78,7 @@ pub extern "C" fn calf_utf8_prefix(s: &[u8]) -> usize
 // ---- skipping
 
 // The field after a tag, every group counted: how many bytes it takes.
-#[unsafe(no_mangle)]
-pub extern "C" fn calf_skip_field_for_tag(
-    tag: u32,
-    s: &[u8],
-    level: u32,
-    answer: &mut [u64; 1],
-) -> u32
+pub fn calf_skip_field_for_tag(tag: u32, s: &[u8], level: u32, answer: &mut [u64; 1]) -> u32
     ensures { (result ≡ refusal (skip_field_for_tag tag level s.now))
         × (answer.new ≡ taken (skip_field_for_tag tag level s.now) ∷ []) }
 {
@@ -98,13 +88,7 @@ pub extern "C" fn calf_skip_field_for_tag(
 }
 
 // The same as the message loop does it: the outermost group is not counted, and must end.
-#[unsafe(no_mangle)]
-pub extern "C" fn calf_read_unknown_or_skip_group(
-    tag: u32,
-    s: &[u8],
-    level: u32,
-    answer: &mut [u64; 1],
-) -> u32
+pub fn calf_read_unknown_or_skip_group(tag: u32, s: &[u8], level: u32, answer: &mut [u64; 1]) -> u32
     ensures { (result ≡ refusal (read_unknown_or_skip_group tag level s.now))
         × (answer.new ≡ taken (read_unknown_or_skip_group tag level s.now) ∷ []) }
 {
@@ -114,8 +98,7 @@ pub extern "C" fn calf_read_unknown_or_skip_group(
 }
 
 // Whether the bytes are a document.
-#[unsafe(no_mangle)]
-pub extern "C" fn calf_is_document(s: &[u8]) -> bool
+pub fn calf_is_document(s: &[u8]) -> bool
     ensures { result ≡ is_document s.now }
 {
     skip::document::is_document(s)

@@ -20,8 +20,7 @@ const CONTENT: u64 = 2;
 const REFUSED: u64 = 3;
 
 // A slice is opened at position 0 and level 0, unless it is too long.
-#[unsafe(no_mangle)]
-pub extern "C" fn calf_pull_open(s: &[u8]) -> u32
+pub fn calf_pull_open(s: &[u8]) -> u32
     ensures { result ≡ (opened s.now).number }
 {
     if limits::MOST_BYTES < s.len() {
@@ -83,8 +82,7 @@ fn step_answer(m: Moved) -> [u64; 4]
 }
 
 // A step at a position and a level.
-#[unsafe(no_mangle)]
-pub extern "C" fn calf_pull_step(
+pub fn calf_pull_step(
     s: &[u8],
     at: usize,
     level: u32,
@@ -102,8 +100,7 @@ pub extern "C" fn calf_pull_step(
 }
 
 // The content of a message at a position: a caller goes on in it one level up, or after it.
-#[unsafe(no_mangle)]
-pub extern "C" fn calf_pull_enter(s: &[u8], at: usize, level: u32, answer: &mut [u64; 4]) -> u32
+pub fn calf_pull_enter(s: &[u8], at: usize, level: u32, answer: &mut [u64; 4]) -> u32
     ensures { (result ≡ step_number (enter_at s.now at level)) × (answer.new ≡ step_answer (enter_at s.now at level)) }
 {
     let m = pull::step::enter_at(s, at, level);

@@ -14,8 +14,7 @@ use schema::layout::{INFO, KEYS};
 use spec::{Mode, columns, refusals};
 
 // How many numbers a record has in lent room and in a list.
-#[unsafe(no_mangle)]
-pub extern "C" fn calf_record_numbers() -> usize
+pub fn calf_record_numbers() -> usize
     ensures { result ≡ stride }
 {
     columns::STRIDE
@@ -40,8 +39,7 @@ fn entry_of(v: Verdict) -> usize
 }
 
 // Whether a schema of five numbers an entry is valid: the first bad entry.
-#[unsafe(no_mangle)]
-pub extern "C" fn calf_check_schema(types: u32, numbers: &[u32], answer: &mut [u64; 1]) -> u32
+pub fn calf_check_schema(types: u32, numbers: &[u32], answer: &mut [u64; 1]) -> u32
     ensures { (result ≡ number_of (bad_schema (schema_of types numbers.now)))
         × (answer.new ≡ entry_of (bad_schema (schema_of types numbers.now)) ∷ []) }
 {
@@ -51,8 +49,7 @@ pub extern "C" fn calf_check_schema(types: u32, numbers: &[u32], answer: &mut [u
 }
 
 // The tables of a schema, for `calf_read_prepared` and `calf_read_prepared_dropped`: of the entries before the first bad one where it is not valid.
-#[unsafe(no_mangle)]
-pub extern "C" fn calf_prepare(
+pub fn calf_prepare(
     types: u32,
     numbers: &[u32],
     keys: &mut [u64; KEYS],
@@ -72,8 +69,7 @@ pub extern "C" fn calf_prepare(
 // ---- reading
 
 // The message s under a schema of five numbers an entry: how many records stand in the room, and the place of the refusal.
-#[unsafe(no_mangle)]
-pub extern "C" fn calf_read(
+pub fn calf_read(
     types: u32,
     numbers: &[u32],
     s: &[u8],
@@ -91,8 +87,7 @@ pub extern "C" fn calf_read(
 }
 
 // The same under the tables of a schema, which a caller with many messages makes once by `calf_prepare`.
-#[unsafe(no_mangle)]
-pub extern "C" fn calf_read_prepared(
+pub fn calf_read_prepared(
     keys: &[u64; KEYS],
     info: &[u8; INFO],
     s: &[u8],
@@ -112,8 +107,7 @@ pub extern "C" fn calf_read_prepared(
 // ---- reading with dropped spans: what is dropped, a skipped group or an empty packed field, gives a record of kind 25 with its whole span
 
 // As `calf_read`.
-#[unsafe(no_mangle)]
-pub extern "C" fn calf_read_dropped(
+pub fn calf_read_dropped(
     types: u32,
     numbers: &[u32],
     s: &[u8],
@@ -131,8 +125,7 @@ pub extern "C" fn calf_read_dropped(
 }
 
 // As `calf_read_prepared`.
-#[unsafe(no_mangle)]
-pub extern "C" fn calf_read_prepared_dropped(
+pub fn calf_read_prepared_dropped(
     keys: &[u64; KEYS],
     info: &[u8; INFO],
     s: &[u8],

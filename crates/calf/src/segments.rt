@@ -4,8 +4,7 @@ ghost use Rattle.spec.specs.Writing as writer;
 ghost use Rattle.segment.specs.Segment.{range_stride, ranges_of, reading, number, place, listed, room_after, writing, sizing};
 
 // The messages of the segment s: how many ranges stand in the room, two numbers each, and the place of the refusal.
-#[unsafe(no_mangle)]
-pub extern "C" fn calf_segment_read(s: &[u8], room: &mut [u64], answer: &mut [u64; 2]) -> u32
+pub fn calf_segment_read(s: &[u8], room: &mut [u64], answer: &mut [u64; 2]) -> u32
     ensures { (result ≡ number (reading (length room.old / range_stride) s.now))
         × (answer.new ≡ length (listed (reading (length room.old / range_stride) s.now))
         ∷ place (reading (length room.old / range_stride) s.now) ∷ [])
@@ -17,8 +16,7 @@ pub extern "C" fn calf_segment_read(s: &[u8], room: &mut [u64], answer: &mut [u6
 }
 
 // How many bytes the segment of some ranges of the payload takes, and the index of the first range that does not lie in it.
-#[unsafe(no_mangle)]
-pub extern "C" fn calf_segment_size(ranges: &[u64], payload: &[u8], answer: &mut [u64; 2]) -> u32
+pub fn calf_segment_size(ranges: &[u64], payload: &[u8], answer: &mut [u64; 2]) -> u32
     ensures { (result ≡ writer.number (sizing payload.now (ranges_of ranges.now)))
         × (answer.new ≡ writer.size (sizing payload.now (ranges_of ranges.now))
         ∷ writer.index (sizing payload.now (ranges_of ranges.now)) ∷ []) }
@@ -29,8 +27,7 @@ pub extern "C" fn calf_segment_size(ranges: &[u64], payload: &[u8], answer: &mut
 }
 
 // Writes the segment of some ranges of the payload to the front of `out`: how many bytes it takes, and the index of the first range that does not lie in it.
-#[unsafe(no_mangle)]
-pub extern "C" fn calf_segment_write(
+pub fn calf_segment_write(
     ranges: &[u64],
     payload: &[u8],
     out: &mut [u8],

@@ -27,8 +27,7 @@ fn index_of(v: Verdict) -> usize
 }
 
 // Whether a list is what reading under the schema would give: the index of its fault, or the first bad entry of the schema.
-#[unsafe(no_mangle)]
-pub extern "C" fn calf_check_list(
+pub fn calf_check_list(
     types: u32,
     numbers: &[u32],
     list: &[u64],
@@ -44,8 +43,7 @@ pub extern "C" fn calf_check_list(
 }
 
 // How many bytes a list takes when it is written, and the index of its fault.
-#[unsafe(no_mangle)]
-pub extern "C" fn calf_size(
+pub fn calf_size(
     types: u32,
     numbers: &[u32],
     list: &[u64],
@@ -62,8 +60,7 @@ pub extern "C" fn calf_size(
 }
 
 // Writes a list to the front of `out`: how many bytes it takes, and the index of its fault.
-#[unsafe(no_mangle)]
-pub extern "C" fn calf_write(
+pub fn calf_write(
     types: u32,
     numbers: &[u32],
     list: &[u64],

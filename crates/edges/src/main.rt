@@ -23,21 +23,21 @@ mod spans;
 mod tags;
 mod unknowns;
 
-use libc::STDOUT_FILENO;
+use std::io;
+use std::io::Write;
 
 // The text of all lines.
 const TEXT: usize = 16384;
 
 // The first characters of the output are written.
-fn write_front(out: &[u8], size: usize) {
+fn write_front<W: Write>(output: &mut W, out: &[u8], size: usize) -> io::Result<()> {
     if size <= out.len() {
-        if !io::write_all(STDOUT_FILENO, &out[0..size]) {
-            os::fail(b"write");
-        }
+        return output.write_all(&out[0..size]);
     }
+    Ok(())
 }
 
-fn main() {
+fn main(rt: HostRuntime) -> io::Result<()> {
     let mut out = [0u8; TEXT];
     let listed = lists::lists(0, &mut out);
     let roomed = rooms::rooms(listed, &mut out);
@@ -50,5 +50,5 @@ fn main() {
     let cut = segments::segments(copied, &mut out);
     let spelled = letters::letters(cut, &mut out);
     let size = spans::spans(spelled, &mut out);
-    write_front(&out, size);
+    write_front(&mut rt.stdout(), &out, size)
 }

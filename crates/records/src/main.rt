@@ -1,11 +1,12 @@
 // The program that prints the records of one message on standard input, read under schema A of the rules: at most 65,536 bytes, and room for 1,024 records.
 #![tactic(auto)]
 
-use libc::{STDIN_FILENO, STDOUT_FILENO};
 use printing::{put_byte, put_listing};
 use read::Answer;
 use spec::columns::{ENTRY_STRIDE, STRIDE};
 use spec::{kinds32, refusals};
+use std::io;
+use std::io::{Read, Write};
 
 // The buffer of the input: the longest message, and one byte by which a longer one is known.
 const INPUT: usize = 65537;
@@ -68,106 +69,72 @@ const SCHEMA: [u32; 9 * ENTRY_STRIDE] = [
     1,
 ];
 
-// How much of the input there is in the buffer, and whether a read failed.
-#[derive(Drop)]
-struct Input {
-    have: usize,
-    failed: bool,
-}
-
-// Reads more after what there is: nothing more at the end of the input, or where the buffer is full.
-fn read_some(buf: &mut [u8], have: usize) -> Input {
+// Reads more after what there is: how much there is then. Nothing more at the end of the input, or where the buffer is full.
+fn read_some<R: Read>(input: &mut R, buf: &mut [u8], have: usize) -> io::Result<usize> {
     if buf.len() <= have {
-        return Input {
-            have,
-            failed: false,
-        };
+        return Ok(have);
     }
-    let rest = &mut buf[have..];
-    let got = libc::read(STDIN_FILENO, rest);
-    if got < 0 {
-        return Input { have, failed: true };
-    }
-    let more = io::count(got, rest);
-    Input {
-        have: have + more,
-        failed: false,
-    }
+    let more = input.read(&mut buf[have..])?;
+    Ok(have + more)
 }
 
-// Reads until the buffer is full, the input ends or a read fails. Each iteration but the last reads a byte at least.
-fn read_input(buf: &mut [u8]) -> Input {
+// Reads until the buffer is full or the input ends: how much there is then. Each iteration but the last reads a byte at least.
+fn read_input<R: Read>(input: &mut R, buf: &mut [u8]) -> io::Result<usize> {
     let mut have: usize = 0;
-    let mut turns = buf.len();
-    while 0 < turns {
-        let i = read_some(buf, have);
-        if i.failed {
-            return i;
+    for _ in 0..buf.len() {
+        let now = read_some(input, buf, have)?;
+        if now <= have {
+            return Ok(have);
         }
-        if i.have <= have {
-            return i;
-        }
-        have = i.have;
-        turns -= 1;
+        have = now;
     }
-    Input {
-        have,
-        failed: false,
-    }
+    Ok(have)
 }
 
 // The first bytes of the output are written.
-fn write_front(out: &[u8], size: usize) {
+fn write_front<W: Write>(output: &mut W, out: &[u8], size: usize) -> io::Result<()> {
     if size <= out.len() {
-        if !io::write_all(STDOUT_FILENO, &out[0..size]) {
-            os::fail(b"write");
-        }
+        return output.write_all(&out[0..size]);
     }
+    Ok(())
 }
 
-// The listing and its line end are written.
-fn write_listing(number: u32, count: usize, place: usize, list: &[u64], out: &mut [u8]) {
+// The listing and its line end, in the buffer of the output: how many characters they have.
+fn put_ended(number: u32, count: usize, place: usize, list: &[u64], out: &mut [u8]) -> usize {
     let listed = put_listing(number, count, place, list, b'\n', 0, out);
-    let size = put_byte(b'\n', listed, out);
-    write_front(out, size);
+    put_byte(b'\n', listed, out)
 }
 
 // Lists the records in the room, and how the reading ended.
-fn list_answer(r: Answer, room: &[u64], out: &mut [u8]) {
+fn list_answer(r: Answer, room: &[u64], out: &mut [u8]) -> usize {
     let count = r.count;
     if count <= room.len() / STRIDE {
         let end = count * STRIDE;
-        write_listing(r.number, count, r.place, &room[0..end], out);
+        return put_ended(r.number, count, r.place, &room[0..end], out);
     }
+    0
 }
 
 // Reads the message and lists its records.
-fn list_records(s: &[u8], room: &mut [u64], out: &mut [u8]) {
+fn list_records(s: &[u8], room: &mut [u64], out: &mut [u8]) -> usize {
     let r = read::read(TYPES, &SCHEMA, s, room);
-    list_answer(r, room, out);
+    list_answer(r, room, out)
 }
 
 // The input is what the buffer has of it, and its last byte is after the longest message.
-fn list_input(buf: &[u8], have: usize, room: &mut [u64], out: &mut [u8]) {
+fn list_input(buf: &[u8], have: usize, room: &mut [u64], out: &mut [u8]) -> usize {
     if have < buf.len() {
-        list_records(&buf[0..have], room, out);
+        list_records(&buf[0..have], room, out)
     } else {
-        write_listing(refusals::TOO_LARGE, 0, 0, &[], out);
+        put_ended(refusals::TOO_LARGE, 0, 0, &[], out)
     }
 }
 
-fn run(buf: &mut [u8], room: &mut [u64], out: &mut [u8]) {
-    let i = read_input(buf);
-    if i.failed {
-        os::fail(b"read");
-        return;
-    }
-    list_input(buf, i.have, room, out);
-}
-
-fn main() {
+fn main(rt: HostRuntime) -> io::Result<()> {
     let mut buf = [0u8; INPUT];
     let mut room = [0u64; ROOM];
     let mut out = [0u8; OUTPUT];
-    run(&mut buf, &mut room, &mut out);
+    let have = read_input(&mut rt.stdin(), &mut buf)?;
+    let size = list_input(&buf, have, &mut room, &mut out);
+    write_front(&mut rt.stdout(), &out, size)
 }

@@ -1,10 +1,11 @@
 // Lines of standard input, one at a time, in a buffer that is longer than any line may be.
 ghost use Rattle.std.specs.Prelude.{◌≤◌, length};
 
-use libc::STDIN_FILENO;
+use std::io;
+use std::io::Read;
 
 // Where a line stands in the buffer, how much of the buffer is filled, and whether there is a line at all, or one that is too long for the buffer.
-#[derive(Drop)]
+#[derive(Clone, Copy)]
 pub struct Line {
     pub start: usize,
     pub end: usize,
@@ -55,22 +56,17 @@ fn moved(buf: &mut [u8], from: usize, have: usize) -> usize {
     to
 }
 
-// Reads more after what there is, and returns how much there is then: as much as before at the end of the input, or where a read failed.
-fn more(buf: &mut [u8], have: usize) -> usize {
+// Reads more after what there is, and returns how much there is then: as much as before at the end of the input.
+fn more<R: Read>(input: &mut R, buf: &mut [u8], have: usize) -> io::Result<usize> {
     if buf.len() <= have {
-        return have;
+        return Ok(have);
     }
-    let rest = &mut buf[have..];
-    let got = libc::read(STDIN_FILENO, rest);
-    if got < 0 {
-        os::fail(b"read");
-    }
-    let n = io::count(got, rest);
-    have + n
+    let n = input.read(&mut buf[have..])?;
+    Ok(have + n)
 }
 
 // What is known while a line is looked for: where it begins, how much of the buffer is filled, and whether the line is too long for the buffer.
-#[derive(Drop)]
+#[derive(Clone, Copy)]
 struct Seen {
     start: usize,
     have: usize,
@@ -113,33 +109,36 @@ fn last_line(s: Seen) -> Line {
 }
 
 // The next line of what is left from `from` on, and of what comes. The last one may end without a line end.
-pub fn next_line(buf: &mut [u8], from: usize, have: usize) -> Line {
+pub fn next_line<R: Read>(
+    input: &mut R,
+    buf: &mut [u8],
+    from: usize,
+    have: usize,
+) -> io::Result<Line> {
     let mut s = Seen {
         start: from,
         have,
         long: false,
     };
     let mut look = from;
-    let mut turns: u64 = 0xffff_ffff_ffff_ffff;
-    while 0 < turns {
+    for _ in 0..u64::MAX {
         let end = line_end_from(buf, look, s.have);
         if end < s.have {
-            return line_of(s, end, true);
+            return Ok(line_of(s, end, true));
         }
         let r = make_room(buf, s);
         look = r.have;
-        let now = more(buf, look);
+        let now = more(input, buf, look)?;
         s = Seen {
             start: r.start,
             have: now,
             long: r.long,
         };
         if now <= look {
-            return last_line(s);
+            return Ok(last_line(s));
         }
-        turns -= 1;
     }
-    last_line(s)
+    Ok(last_line(s))
 }
 
 // Where what comes after a line begins.

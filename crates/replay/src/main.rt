@@ -21,8 +21,9 @@ use crate::cases::{Case, case_of};
 use crate::input::{Line, after, next_line};
 use crate::verbs::{shape_of, verb_in};
 use crate::words::{done, past};
-use libc::STDOUT_FILENO;
 use printing::{put_byte, put_text};
+use std::io;
+use std::io::{Read, Write};
 
 // The most characters of a line.
 const LONGEST: usize = 65536;
@@ -174,48 +175,56 @@ fn respond(
     ended(answered, out)
 }
 
-// Writes the first characters; whether that went well.
-fn write_front(out: &[u8], size: usize) -> bool {
+// Writes the first characters; whether there are as many.
+fn write_front<W: Write>(output: &mut W, out: &[u8], size: usize) -> io::Result<bool> {
     if out.len() < size {
-        return false;
+        return Ok(false);
     }
-    if io::write_all(STDOUT_FILENO, &out[0..size]) {
-        return true;
-    }
-    os::fail(b"write");
-    false
+    output.write_all(&out[0..size])?;
+    output.flush()?;
+    Ok(true)
 }
 
 // Answers each line in order.
-fn serve(buf: &mut [u8], bytes: &mut [u8], list: &mut [u64], numbers: &mut [u32], out: &mut [u8]) {
+fn serve<R: Read, W: Write>(
+    input: &mut R,
+    output: &mut W,
+    buf: &mut [u8],
+    bytes: &mut [u8],
+    list: &mut [u64],
+    numbers: &mut [u32],
+    out: &mut [u8],
+) -> io::Result<()> {
     let mut from: usize = 0;
     let mut have: usize = 0;
-    let mut turns: u64 = 0xffff_ffff_ffff_ffff;
-    while 0 < turns {
-        let l = next_line(buf, from, have);
+    for _ in 0..u64::MAX {
+        let l = next_line(input, buf, from, have)?;
         if !l.found {
-            return;
+            return Ok(());
         }
         let size = respond(buf, l, bytes, list, numbers, out);
-        if !write_front(out, size) {
-            return;
+        if !write_front(output, out, size)? {
+            return Ok(());
         }
         have = l.have;
         from = after(l);
-        turns -= 1;
     }
+    Ok(())
 }
 
-// Answers each line in order, with buffers for lists and entries.
-fn serve_all(buf: &mut [u8], bytes: &mut [u8], out: &mut [u8]) {
-    let mut list = [0u64; NUMBERS];
-    let mut numbers = [0u32; NUMBERS];
-    serve(buf, bytes, &mut list, &mut numbers, out);
-}
-
-fn main() {
+fn main(rt: HostRuntime) -> io::Result<()> {
     let mut buf = [0u8; INPUT];
     let mut bytes = [0u8; BYTES];
+    let mut list = [0u64; NUMBERS];
+    let mut numbers = [0u32; NUMBERS];
     let mut out = [0u8; ANSWER];
-    serve_all(&mut buf, &mut bytes, &mut out);
+    serve(
+        &mut rt.stdin(),
+        &mut rt.stdout(),
+        &mut buf,
+        &mut bytes,
+        &mut list,
+        &mut numbers,
+        &mut out,
+    )
 }

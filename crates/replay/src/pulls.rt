@@ -76,7 +76,7 @@ struct Told {
 }
 
 // The reader on top: where its slice stands in the bytes, its position in it, its level, and how many readers lie below.
-#[derive(Drop)]
+#[derive(Clone, Copy)]
 struct Top {
     start: usize,
     end: usize,
@@ -93,7 +93,7 @@ struct Gone {
 }
 
 // A step that a line names: which, the tag after `skip:`, and where it ends.
-#[derive(Drop)]
+#[derive(Clone, Copy)]
 struct Named {
     which: usize,
     tag: u32,

@@ -78,7 +78,7 @@ pub fn verb_in(line: &[u8]) -> Many {
 
 // The words of a verb, in the order in which they stand: a schema; as many numbers of 32 bits; the steps of a pull reader; a list of so many numbers
 // a group, 0 for no list; bytes; a number of 64 bits.
-#[derive(Drop)]
+#[derive(Clone, Copy)]
 pub struct Shape {
     pub schema: bool,
     pub narrow: usize,

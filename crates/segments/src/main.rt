@@ -1,10 +1,11 @@
 // The program that lists the messages of the segment on standard input, at most 65,536 bytes: where each starts and ends, a line each, and how the reading ended.
 #![tactic(auto)]
 
-use libc::{STDIN_FILENO, STDOUT_FILENO};
 use printing::{put_byte, put_lines};
 use segment::{Answer, RANGE_END, RANGE_STRIDE};
 use spec::refusals;
+use std::io;
+use std::io::{Read, Write};
 
 // The longest segment.
 const LONGEST: usize = 65536;
@@ -21,108 +22,75 @@ const LINE: usize = 12;
 // The characters of the listing. The front is no message, so that there is room for the last line, which is another.
 const OUTPUT: usize = LONGEST * LINE;
 
-// How much of the input there is in the buffer, and whether a read failed.
-#[derive(Drop)]
-struct Input {
-    have: usize,
-    failed: bool,
-}
-
-// Reads more after what there is: nothing more at the end of the input, or where the buffer is full.
-fn read_some(buf: &mut [u8], have: usize) -> Input {
+// Reads more after what there is: how much there is then. Nothing more at the end of the input, or where the buffer is full.
+fn read_some<R: Read>(input: &mut R, buf: &mut [u8], have: usize) -> io::Result<usize> {
     if buf.len() <= have {
-        return Input {
-            have,
-            failed: false,
-        };
+        return Ok(have);
     }
-    let rest = &mut buf[have..];
-    let got = libc::read(STDIN_FILENO, rest);
-    if got < 0 {
-        return Input { have, failed: true };
-    }
-    let more = io::count(got, rest);
-    Input {
-        have: have + more,
-        failed: false,
-    }
+    let more = input.read(&mut buf[have..])?;
+    Ok(have + more)
 }
 
-// Reads until the buffer is full, the input ends or a read fails. Each iteration but the last reads a byte at least.
-fn read_input(buf: &mut [u8]) -> Input {
+// Reads until the buffer is full or the input ends: how much there is then. Each iteration but the last reads a byte at least.
+fn read_input<R: Read>(input: &mut R, buf: &mut [u8]) -> io::Result<usize> {
     let mut have: usize = 0;
-    let mut left = buf.len();
-    while 0 < left {
-        let i = read_some(buf, have);
-        if i.failed {
-            return i;
+    for _ in 0..buf.len() {
+        let now = read_some(input, buf, have)?;
+        if now <= have {
+            return Ok(have);
         }
-        if i.have <= have {
-            return i;
-        }
-        have = i.have;
-        left -= 1;
+        have = now;
     }
-    Input {
-        have,
-        failed: false,
-    }
+    Ok(have)
 }
 
 // The first bytes of the output are written, but not the very first.
-fn write_after_first(out: &[u8], size: usize) {
+fn write_after_first<W: Write>(output: &mut W, out: &[u8], size: usize) -> io::Result<()> {
     if 0 < size {
         if size <= out.len() {
-            if !io::write_all(STDOUT_FILENO, &out[1..size]) {
-                os::fail(b"write");
-            }
+            return output.write_all(&out[1..size]);
         }
     }
+    Ok(())
 }
 
-// The listing and its line end are written. The line end before the first line is not: that is for a header, and there is none.
-fn write_lines(number: u32, count: usize, place: usize, list: &[u64], out: &mut [u8]) {
+// The listing and its line end, in the buffer of the output: how many characters they have. The line end before the first line is among them: that is for
+// a header, and there is none.
+fn put_ended(number: u32, count: usize, place: usize, list: &[u64], out: &mut [u8]) -> usize {
     let listed = put_lines(number, count, place, list, RANGE_END, b'\n', 0, out);
-    let size = put_byte(b'\n', listed, out);
-    write_after_first(out, size);
+    put_byte(b'\n', listed, out)
 }
 
 // Lists the ranges in the room, and how the reading ended.
-fn list_answer(r: Answer, room: &[u64], out: &mut [u8]) {
+fn list_answer(r: Answer, room: &[u64], out: &mut [u8]) -> usize {
     let count = r.count;
     if count <= room.len() / RANGE_STRIDE {
         let end = count * RANGE_STRIDE;
-        write_lines(r.number, count, r.place, &room[0..end], out);
+        return put_ended(r.number, count, r.place, &room[0..end], out);
     }
+    0
 }
 
 // Reads the segment and lists its messages.
-fn list_messages(s: &[u8], room: &mut [u64], out: &mut [u8]) {
+fn list_messages(s: &[u8], room: &mut [u64], out: &mut [u8]) -> usize {
     let r = segment::read(s, room);
-    list_answer(r, room, out);
+    list_answer(r, room, out)
 }
 
 // The input is what the buffer has of it, and its last byte is after the longest segment.
-fn list_input(buf: &[u8], have: usize, room: &mut [u64], out: &mut [u8]) {
+fn list_input(buf: &[u8], have: usize, room: &mut [u64], out: &mut [u8]) -> usize {
     if have < buf.len() {
-        list_messages(&buf[0..have], room, out);
+        list_messages(&buf[0..have], room, out)
     } else {
-        write_lines(refusals::TOO_LARGE, 0, 0, &[], out);
+        put_ended(refusals::TOO_LARGE, 0, 0, &[], out)
     }
 }
 
-fn run(buf: &mut [u8], room: &mut [u64], out: &mut [u8]) {
-    let i = read_input(buf);
-    if i.failed {
-        os::fail(b"read");
-        return;
-    }
-    list_input(buf, i.have, room, out);
-}
-
-fn main() {
+fn main(rt: HostRuntime) -> io::Result<()> {
     let mut buf = [0u8; INPUT];
     let mut room = [0u64; ROOM];
     let mut out = [0u8; OUTPUT];
-    run(&mut buf, &mut room, &mut out);
+    let have = read_input(&mut rt.stdin(), &mut buf)?;
+    let size = list_input(&buf, have, &mut room, &mut out);
+    write_after_first(&mut rt.stdout(), &out, size)
 }
