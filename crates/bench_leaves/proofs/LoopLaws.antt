@@ -11,7 +11,8 @@ use lib.Dec.{leb}
 use lib.ListN.{length, get_or, drop, drop_of_length-le}
 use lib.Seq.{drop-cons, drop-drop}
 use Rattle.spec.specs.Names.{ends_early}
-use Rattle.spec.specs.Base.{if◌then◌else◌, Took, No}
+use Rattle.std.specs.Prelude.{if◌then◌else◌}
+use Rattle.spec.specs.Base.{Took, No}
 use Rattle.spec.specs.Varint.{varint, varint64, encode}
 use Rattle.wire.specs.Answers.{as_read, stored, Stored}
 use Rattle.wire.specs.declared.found.Found.{Found}

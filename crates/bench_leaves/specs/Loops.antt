@@ -1,7 +1,7 @@
 -- What the loops that bench/ counts return. Assumes nothing: these are definitions. Public promises cite it.
-use Rattle.std.specs.Prelude.{ℕ, zero, suc, ◌+◌, List, [], ◌∷◌, leb, length, drop}
+use Rattle.std.specs.Prelude.{ℕ, zero, suc, ◌+◌, List, [], ◌∷◌, leb, length, drop, if◌then◌else◌}
 use Rattle.std.specs.Int.Bits.{bit_xor}
-use Rattle.spec.specs.Base.{if◌then◌else◌, Read, Took, No}
+use Rattle.spec.specs.Base.{Read, Took, No}
 use Rattle.spec.specs.Varint.{varint64, encode}
 use Rattle.spec.specs.Kind.{uint64}
 use Rattle.spec.specs.Pull.{Said, Number, Content, End, Refused, raw_tag, value, step_at}

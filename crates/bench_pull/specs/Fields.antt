@@ -1,9 +1,9 @@
 -- What the pull loop over a message of bench/bench.proto returns: the exclusive or of all values and of the lengths of contents. Assumes nothing: these are definitions.
 -- Public promises cite it.
-use Rattle.std.specs.Prelude.{ℕ, zero, suc, ◌+◌, ◌-◌, ◌*◌, ◌≤◌, ◌≡◌, Bool, true, List, eqb, leb, length}
+use Rattle.std.specs.Prelude.{ℕ, zero, suc, ◌+◌, ◌-◌, ◌*◌, ◌≤◌, ◌≡◌, Bool, true, List, eqb, leb, length, if◌then◌else◌}
 use Rattle.std.specs.Int.Bits.{bit_xor}
 use Rattle.spec.specs.Names.{delimited_wire, fixed32_wire, most_levels, varint_wire}
-use Rattle.spec.specs.Base.{if◌then◌else◌, part}
+use Rattle.spec.specs.Base.{part}
 use Rattle.spec.specs.Kind.{int32, uint32, sint32, fixed32, bool}
 use Rattle.spec.specs.Pull.{Ask, raw_tag, value, bytes, string, skip, Said, Number, Content, End, Refused, Moved, step_at, enter_at}
 use Rattle.wire.specs.declared.found.Found.{Found}
