@@ -30,7 +30,7 @@ const DEEPEST_HEAD: u32 = limits::MOST_LEVELS - 1;
 
 // A field that gives a record: what the record says, and what is in it, which is the type of a message's fields or the kind of a packed field's
 // elements, else 0.
-#[derive(Drop)]
+#[derive(Clone, Copy)]
 pub struct Row {
     pub number: u64,
     pub kind: u64,

@@ -9,7 +9,7 @@ pub mod refusals;
 pub mod wire_types;
 
 // A schema's entry: the field `number` of the message type `owner` has this kind; `child` is the type of a message's fields, else 0.
-#[derive(Drop)]
+#[derive(Clone, Copy)]
 pub struct Entry {
     pub owner: u32,
     pub number: u32,
@@ -20,7 +20,7 @@ pub struct Entry {
 
 // How a message is read, where the caller chooses: with `dropped`, what is dropped, a skipped group or an empty packed field, gives a record of the kind
 // `kinds::DROPPED_SPAN` with its whole span.
-#[derive(Drop)]
+#[derive(Clone, Copy)]
 pub struct Mode {
     pub dropped: bool,
 }
