@@ -1,6 +1,6 @@
 pub mod CallLaws
 pub mod CopyLaws
 pub mod LentLaws
-pub mod Locals
+pub mod LookupLaws
 pub mod NumbersLaws
-pub mod Pieces
+pub mod StoringLaws

@@ -1,5 +1,5 @@
-// The calls over a schema that is lent as a slice of entry structs. The borrow checker covers no function with a `&[Entry]`, so `lookup`,
-// `copy` and the calls are proved by hand; each copies the entries once into numbers, and a covered function does the work.
+// The calls over a schema that is lent as a slice of entry structs. Each call copies the entries once into numbers, and a function over numbers does
+// the work; `lookup` goes over the entries themselves.
 #![tactic(auto)]
 
 ghost use Rattle.std.specs.Prelude.{◌≡◌, ◌+◌, ◌*◌, ◌/◌, ◌<◌, ◌≤◌, length, take};
