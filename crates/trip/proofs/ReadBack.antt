@@ -8,7 +8,7 @@ use lib.ListN.{length, take}
 use Rattle.spec.specs.Base.{limit}
 use Rattle.spec.specs.Schema.{Schema}
 use Rattle.spec.specs.Record.{Record, stride, records_of}
-use Rattle.spec.specs.Reading.{plainly, reading, number}
+use Rattle.spec.specs.Reading.{plainly, reading}
 use Rattle.spec.specs.Writing as spec
 use Rattle.spec.proofs.SizeLaws.{Answered, wrote, short, above, faulty, writing_answered}
 use Rattle.onward.specs.Onward.{seen}
