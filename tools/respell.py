@@ -21,6 +21,8 @@ OTHER = {
     "first_entry": "first_entry_lem",
     "room_after": "room_after_lem",
 }
+# Constructors that stand together in one line.
+TOGETHER = {"startGroup": "start_group", "endGroup": "end_group"}
 IN_FILE = {"crates/write/proofs/InnerLaws.antt": {"is-packed": "is_packed_lem"}}
 
 TOKEN = re.compile(r"[^\s\x01(){}\[\],;.:|\"`…]+(?:\.\.)?")
@@ -131,6 +133,7 @@ def main():
     tops, fields = own_names()
     mapping = {n: new_name(n) for n in tops | fields if new_name(n) != n}
     camel = {new for old, new in mapping.items() if re.search("[a-z0-9][A-Z]", old)}
+    mapping |= TOGETHER
     mapping |= {old: new + "_lem" for old, new in mapping.items() if new in camel and "-" in old and old not in OTHER}
     for n in [n for n in mapping if "◌" in n]:
         for old, new in zip(n.split("◌"), mapping[n].split("◌")):

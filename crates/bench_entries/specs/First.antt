@@ -1,6 +1,5 @@
 -- The schema of the first sixteen entries of some numbers. Assumes nothing: these are definitions. Public promises cite it.
-use Rattle.std.specs.Prelude.{ℕ, ◌/◌, List, ltb, length}
-use Rattle.spec.specs.Base.{if◌then◌else◌}
+use Rattle.std.specs.Prelude.{ℕ, ◌/◌, List, ltb, length, if◌then◌else◌}
 use Rattle.spec.specs.Schema.{Schema, entries_of, entry_stride}
 
 -- how many entries are made at most

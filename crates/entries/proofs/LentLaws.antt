@@ -11,7 +11,8 @@ use lib.Seq.{take-append_seam}
 use lib.Dec.{leb}
 use borrow.Author.Tests.{lt-ltb, le-ltb, lt-leb}
 use Rattle.spec.specs.Names.{most_entries, most_types}
-use Rattle.spec.specs.Base.{if◌then◌else◌, between, filled, limit}
+use Rattle.std.specs.Prelude.{if◌then◌else◌}
+use Rattle.spec.specs.Base.{between, filled, limit}
 use Rattle.spec.specs.Schema.{Schema, bad_entry, bad_schema, schema_of, copied, entry_stride}
 use Rattle.spec.specs.Reading.{reading_as, reading_by, called, refused_or}
 use Rattle.spec.specs.Record.{Record}

@@ -1,7 +1,6 @@
 -- What the functions of this crate compute on the list of entries. Assumes nothing: these are definitions. Public promises cite it.
-use Rattle.std.specs.Prelude.{ℕ, ◌+◌, ◌*◌, ◌/◌, ◌%◌, ◌&&◌, List, [], ◌∷◌, length, take, get_or, set, ltb, eqb}
+use Rattle.std.specs.Prelude.{ℕ, ◌+◌, ◌*◌, ◌/◌, ◌%◌, ◌&&◌, List, [], ◌∷◌, length, take, get_or, set, ltb, eqb, if◌then◌else◌}
 use Rattle.spec.specs.Names.{child_column, entry_kind_column, entry_number_column, most_entries, repeated_column}
-use Rattle.spec.specs.Base.{if◌then◌else◌}
 use Rattle.spec.specs.Schema.{bit, entry_of, schema_of, entry_stride}
 use Rattle.spec.specs.declared.Entry.{Entry}
 use Rattle.schema.specs.declared.Place.{Place}

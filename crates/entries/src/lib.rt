@@ -9,7 +9,7 @@ ghost use Rattle.spec.specs.Reading.{reading, reading_as, number, place, listed,
 ghost use Rattle.spec.specs.Schema.{entries_of, schema_of, place_of, entry_stride};
 ghost use Rattle.spec.specs.Writing.{list_check, writing, sizing, output};
 ghost use Rattle.list.specs.Told.{as_verdict as verdict};
-ghost use Rattle.schema.specs.Told.{place as entryPlace};
+ghost use Rattle.schema.specs.Told.{place as entry_place};
 ghost use Rattle.write.specs.Answers.{answer_of_writing as answer};
 ghost use Rattle.entries.specs.Copied.{most_numbers, one_more, next_place, few_of, stored_at, copied_to, lent_of, entry_at, count_of, types_of, first_entries};
 
@@ -49,7 +49,7 @@ fn seen(found: Place, i: usize, e: Entry, owner: u32, number: u32) -> Place
 
 // The place of the first entry of this owner and number.
 pub fn lookup(entries: &[Entry], owner: u32, number: u32) -> Place
-    ensures { entryPlace result ≡ place_of 0 entries.now owner number }
+    ensures { entry_place result ≡ place_of 0 entries.now owner number }
 {
     let mut found = nothing();
     let mut i: usize = 0;
@@ -284,7 +284,7 @@ fn lend_read(
 // Lends the first of these entries to `lookup`.
 fn lend_lookup(entries: [Entry; ONE_MORE], count: usize, owner: u32, number: u32) -> Place
     requires { count ≤ one_more }
-    ensures { entryPlace result ≡ place_of 0 (take count entries) owner number }
+    ensures { entry_place result ≡ place_of 0 (take count entries) owner number }
 {
     lookup(&entries[..count], owner, number)
 }
@@ -391,7 +391,7 @@ pub fn read_numbers(types: u32, numbers: &[u32], s: &[u8], room: &mut [u64]) -> 
 
 // The place of the first entry of this owner and number, among as many as `entry_count` says.
 pub fn lookup_numbers(numbers: &[u32], owner: u32, number: u32) -> Place
-    ensures { entryPlace result ≡ place_of 0 (first_entries numbers.now) owner number }
+    ensures { entry_place result ≡ place_of 0 (first_entries numbers.now) owner number }
 {
     let count = entry_count(numbers.len());
     let entries = entries_from(numbers, count);

@@ -11,7 +11,7 @@ use lib.Dec.{leb, ltb, eqb}
 use borrow.Author.Tests.{lt-ltb, le-ltb, le-leb, ne_eqb, leb-true}
 use Rattle.spec.specs.Names.{bool_kind, delimited_wire, enum_kind, fixed32_kind, fixed32_wire, float_kind, group_kind, int32_kind, sfixed32_kind, sint32_kind, uint32_kind, unknown_fixed32, all_kinds, double_kind, no_wire, own_kinds, record_kinds, sint64_kind}
 use Rattle.std.specs.Prelude.{if◌then◌else◌}
-use Rattle.spec.specs.Kind.{Scalar, int32, uint32, uint64, bool, sint32, sint64, fixed32, sfixed32, fixed64, Shape, one, other, string, bytes, message, packed, startGroup, endGroup, nothing, kind_wires, own_wires, wires, wire, shapes, shape, signed32, fits}
+use Rattle.spec.specs.Kind.{Scalar, int32, uint32, uint64, bool, sint32, sint64, fixed32, sfixed32, fixed64, Shape, one, other, string, bytes, message, packed, start_group, end_group, nothing, kind_wires, own_wires, wires, wire, shapes, shape, signed32, fits}
 use Rattle.spec.specs.Writing.{recorded}
 use Rattle.spec.proofs.ListLaws.{recorded_small}
 use Rattle.spec.proofs.Laws.{either_way, by_test}
@@ -67,8 +67,8 @@ one_number k r n = go (shape k) refl (sym (ap recorded (wire_shape k)) ∙ r) (�
     go (other bytes) e r n = absurd (n refl)
     go (other message) e r n = absurd (n refl)
     go (other packed) e r n = absurd (n refl)
-    go (other startGroup) e r n = absurd (false≢true r)
-    go (other endGroup) e r n = absurd (false≢true r)
+    go (other start_group) e r n = absurd (false≢true r)
+    go (other end_group) e r n = absurd (false≢true r)
     go (other nothing) e r n = absurd (false≢true r)
 
 -- those of wire type 2
@@ -99,8 +99,8 @@ delimited k w = go (shape k) (sym (wire_shape k) ∙ w)
     go (other bytes) e = a_content
     go (other message) e = a_message
     go (other packed) e = a_packed
-    go (other startGroup) e = absurd (omega arith)
-    go (other endGroup) e = absurd (omega arith)
+    go (other start_group) e = absurd (omega arith)
+    go (other end_group) e = absurd (omega arith)
     go (other nothing) e = absurd (omega arith)
 
 -- ---- values

@@ -15,7 +15,7 @@ use Rattle.std.specs.Prelude.{if◌then◌else◌}
 use Rattle.spec.specs.Base.{part, limit}
 use Rattle.spec.specs.Varint.{encode}
 use Rattle.spec.specs.Utf8.{utf8}
-use Rattle.spec.specs.Kind.{Scalar, Shape, one, other, string, bytes, message, packed, startGroup, endGroup, nothing, shapes, shape, wires, wire, encoded, fits}
+use Rattle.spec.specs.Kind.{Scalar, Shape, one, other, string, bytes, message, packed, start_group, end_group, nothing, shapes, shape, wires, wire, encoded, fits}
 use Rattle.spec.specs.Schema.{Schema, bad_schema, lookup, unknown_kind, kind_of}
 use Rattle.spec.specs.Record.{Record, row, deeper}
 use Rattle.spec.specs.declared.Mode.{Mode}
@@ -49,8 +49,8 @@ content_alike s p q r (other string) e = e refl
 content_alike s p q r (other bytes) e = e refl
 content_alike s p q r (other message) e = refl
 content_alike s p q r (other packed) e = refl
-content_alike s p q r (other startGroup) e = refl
-content_alike s p q r (other endGroup) e = refl
+content_alike s p q r (other start_group) e = refl
+content_alike s p q r (other end_group) e = refl
 content_alike s p q r (other nothing) e = refl
 
 same_seen : {s p : List ℕ} {q r : Record} → Same s p q r → seen s q ≡ seen p r

@@ -5,7 +5,7 @@ use Rattle.std.proofs.Math.Option.{none}
 use Rattle.spec.specs.Names.{message_kind, packed_head}
 use Rattle.spec.specs.Base.{part, limit}
 use Rattle.spec.specs.Varint.{zigzag}
-use Rattle.spec.specs.Kind.{Scalar, int32, uint32, uint64, bool, sint32, sint64, fixed32, sfixed32, fixed64, Shape, one, other, string, bytes, message, packed, startGroup, endGroup, nothing, shape, wire}
+use Rattle.spec.specs.Kind.{Scalar, int32, uint32, uint64, bool, sint32, sint64, fixed32, sfixed32, fixed64, Shape, one, other, string, bytes, message, packed, start_group, end_group, nothing, shape, wire}
 use Rattle.spec.specs.Schema.{Schema, bad_schema, lookup, unknown_kind}
 use Rattle.spec.specs.Record.{Record, deeper}
 use Rattle.spec.specs.declared.Mode.{Mode}
@@ -43,8 +43,8 @@ held (other string) payload r inner = part r.start r.stop payload
 held (other bytes) payload r inner = part r.start r.stop payload
 held (other message) payload r inner = inner
 held (other packed) payload r inner = inner
-held (other startGroup) payload r inner = []
-held (other endGroup) payload r inner = []
+held (other start_group) payload r inner = []
+held (other end_group) payload r inner = []
 held (other nothing) payload r inner = []
 
 -- A record as written. What is under a head is shown by the records after it, so here the head holds nothing.

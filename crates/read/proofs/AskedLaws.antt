@@ -13,7 +13,7 @@ use Rattle.std.specs.Prelude.{if◌then◌else◌}
 use Rattle.spec.specs.Base.{part, Read, Took, No}
 use Rattle.spec.specs.Varint.{varint32, varint64, tag}
 use Rattle.spec.specs.Utf8.{utf8, valid_end}
-use Rattle.spec.specs.Kind.{Shape, one, other, string, bytes, message, packed, startGroup, endGroup, nothing, shape, scalar}
+use Rattle.spec.specs.Kind.{Shape, one, other, string, bytes, message, packed, start_group, end_group, nothing, shape, scalar}
 use Rattle.spec.specs.Skip.{content, outer_group}
 use Rattle.spec.specs.declared.Mode.{Mode}
 use Rattle.spec.specs.Reading as spec
@@ -119,8 +119,8 @@ module _ (depth at n m kind inner : ℕ) (s : List ℕ) where
         there_either (leb most_levels depth) (body.Bad too_deep) (ranged (at + n) (content varint64 behind)) (there_bad too_deep refl)
         (there_ranged _ (λ a e. as_message m kind inner 0 (n + a) (n + e) (head_one kind message_kind (omega arith) h)) (ordinary_content _ _ behind))
     there_bodied mode (other packed) h = there_ranged _ (λ a e. as_packed m kind inner 0 (n + a) (n + e) (head_one kind packed_head (omega arith) h)) (ordinary_content _ _ behind)
-    there_bodied mode (other startGroup) h = ap (λ (k : ℕ). spec.given (outer_group depth behind) λ v l. spec.Dropped m (k + l)) (omega arith)
-    there_bodied mode (other endGroup) h = there_bad no_group_open refl
+    there_bodied mode (other start_group) h = ap (λ (k : ℕ). spec.given (outer_group depth behind) λ v l. spec.Dropped m (k + l)) (omega arith)
+    there_bodied mode (other end_group) h = there_bad no_group_open refl
     there_bodied mode (other nothing) h = there_bad bad_tag refl
 
 module _ (look : spec.Look) (depth type at : ℕ) (s : List ℕ) where
@@ -194,8 +194,8 @@ module _ (depth m kind inner next at : ℕ) where
   kept_bodied s (other message) h =
       chosen (λ b. Kept depth (from b)) (leb most_levels depth) (λ e. of_bad) (λ e. kept_ranged (λ _. leb-false most_levels depth e) (content varint64 s))
   kept_bodied s (other packed) h = kept_ranged (λ e. absurd (not_head kind packed_head h message_kind refl (λ z. omega arith) e)) (content varint64 s)
-  kept_bodied s (other startGroup) h = of_group
-  kept_bodied s (other endGroup) h = of_bad
+  kept_bodied s (other start_group) h = of_group
+  kept_bodied s (other end_group) h = of_bad
   kept_bodied s (other nothing) h = of_bad
 
 -- where the definition's field lies, its record's range lies too

@@ -13,7 +13,7 @@ use Rattle.std.specs.Prelude.{if◌then◌else◌}
 use Rattle.spec.specs.Base.{Read, Took, No}
 use Rattle.spec.specs.Varint.{varint32, tag, good_tag}
 use Rattle.spec.specs.Utf8.{utf8}
-use Rattle.spec.specs.Kind.{head_kind, Shape, one, other, string, bytes, message, packed, startGroup, endGroup, nothing, shape, shapes}
+use Rattle.spec.specs.Kind.{head_kind, Shape, one, other, string, bytes, message, packed, start_group, end_group, nothing, shape, shapes}
 use Rattle.spec.specs.Schema.{Says}
 use Rattle.spec.specs.Skip.{content}
 use Rattle.spec.proofs.Laws.{by_test, Takes, took, none, takes_tag}
@@ -175,8 +175,8 @@ unsized (other string) at s h = absurd (omega arith)
 unsized (other bytes) at s h = absurd (omega arith)
 unsized (other message) at s h = absurd (omega arith)
 unsized (other packed) at s h = absurd (omega arith)
-unsized (other startGroup) at s h = absurd (omega arith)
-unsized (other endGroup) at s h = absurd (omega arith)
+unsized (other start_group) at s h = absurd (omega arith)
+unsized (other end_group) at s h = absurd (omega arith)
 unsized (other nothing) at s h = refl
 
 module _ (x : Shape) (at : ℕ) (s : List ℕ) (h : sort_of x ≡ 0) where
@@ -206,8 +206,8 @@ shallow_body depth at s kind d = go (shape kind) (head_kind_lem kind)
     go (other bytes) h = refl
     go (other message) h = rw (lt-leb most_levels depth (d (head_one kind message_kind (omega arith) h))) refl
     go (other packed) h = refl
-    go (other startGroup) h = refl
-    go (other endGroup) h = refl
+    go (other start_group) h = refl
+    go (other end_group) h = refl
     go (other nothing) h = refl
 
 pub deep_body : (depth at : ℕ) (s : List ℕ) → most_levels ≤ depth → body.Bad too_deep ≡ bodied (shape message_kind) depth at s

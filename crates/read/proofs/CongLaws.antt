@@ -10,7 +10,7 @@ use Rattle.spec.specs.Names.{fixed32_wire, message_kind, most_levels}
 use Rattle.spec.specs.Base.{part, Read, Took, No}
 use Rattle.spec.specs.Varint.{varint32, varint64, tag}
 use Rattle.spec.specs.Utf8.{utf8}
-use Rattle.spec.specs.Kind.{Shape, one, other, string, bytes, message, packed, startGroup, endGroup, nothing, shape, scalar}
+use Rattle.spec.specs.Kind.{Shape, one, other, string, bytes, message, packed, start_group, end_group, nothing, shape, scalar}
 use Rattle.spec.specs.Schema.{Says}
 use Rattle.spec.specs.Skip.{content, outer_group}
 use Rattle.spec.specs.Record.{row}
@@ -42,8 +42,8 @@ known_shaped mode types (other bytes) depth inner m kind n s h i = known_given (
 known_shaped mode types (other message) depth inner m kind n s h i =
     either_way (Known types) (leb most_levels depth) of_fault (known_given (content varint64 s) λ a z. of_message (i (head_one kind message_kind (omega arith) h)))
 known_shaped mode types (other packed) depth inner m kind n s h i = known_given (content varint64 s) λ a z. of_packed
-known_shaped mode types (other startGroup) depth inner m kind n s h i = known_given (outer_group depth s) λ v l. of_dropped
-known_shaped mode types (other endGroup) depth inner m kind n s h i = of_fault
+known_shaped mode types (other start_group) depth inner m kind n s h i = known_given (outer_group depth s) λ v l. of_dropped
+known_shaped mode types (other end_group) depth inner m kind n s h i = of_fault
 known_shaped mode types (other nothing) depth inner m kind n s h i = of_fault
 
 records_same : (mode : Mode) {types : ℕ} (p q : ℕ → ℕ → List ℕ → Reading) (depth at : ℕ) (s : List ℕ) (x : Field) → Known types x

@@ -13,7 +13,7 @@ use Rattle.spec.specs.Names.{all_kinds, bad_tag, bool_kind, bytes_kind, double_k
 use Rattle.std.specs.Prelude.{if◌then◌else◌}
 use Rattle.spec.specs.Base.{Read, Took, No, meaning, require}
 use Rattle.spec.specs.Varint.{varint32, varint64, unzigzag}
-use Rattle.spec.specs.Kind.{int32, uint32, uint64, bool, sint32, sint64, fixed32, sfixed32, fixed64, Shape, one, other, string, bytes, message, packed, startGroup, endGroup, nothing, shape, shapes, scalar, signed32}
+use Rattle.spec.specs.Kind.{int32, uint32, uint64, bool, sint32, sint64, fixed32, sfixed32, fixed64, Shape, one, other, string, bytes, message, packed, start_group, end_group, nothing, shape, shapes, scalar, signed32}
 use Rattle.spec.specs.Schema.{bit}
 use Rattle.wire.specs.Reached.{varint_of}
 use Rattle.spec.proofs.Below.{agree, equal_below}
@@ -39,8 +39,8 @@ head_of (other string) = 0
 head_of (other bytes) = 0
 head_of (other message) = message_kind
 head_of (other packed) = packed_head
-head_of (other startGroup) = 0
-head_of (other endGroup) = 0
+head_of (other start_group) = 0
+head_of (other end_group) = 0
 head_of (other nothing) = 0
 
 abbrev pub head_test : ℕ → ℕ
@@ -67,8 +67,8 @@ sort_of (other string) = 1
 sort_of (other bytes) = 1
 sort_of (other message) = 1
 sort_of (other packed) = 1
-sort_of (other startGroup) = 2
-sort_of (other endGroup) = 3
+sort_of (other start_group) = 2
+sort_of (other end_group) = 3
 sort_of (other nothing) = 0
 
 abbrev pub sort_test : ℕ → ℕ

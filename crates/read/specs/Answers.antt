@@ -5,7 +5,7 @@ use Rattle.spec.specs.Names.{bytes_kind, enum_kind, int32_kind, message_kind, mo
 use Rattle.spec.specs.Base.{part, Read, Took, No}
 use Rattle.spec.specs.Varint.{varint, varint32, varint64, unzigzag, tag}
 use Rattle.spec.specs.Utf8.{utf8, valid_end}
-use Rattle.spec.specs.Kind.{Scalar, int32, uint32, uint64, bool, sint32, sint64, fixed32, sfixed32, fixed64, Shape, one, other, string, bytes, message, packed, startGroup, endGroup, nothing, shape, scalar, signed32, head_kind}
+use Rattle.spec.specs.Kind.{Scalar, int32, uint32, uint64, bool, sint32, sint64, fixed32, sfixed32, fixed64, Shape, one, other, string, bytes, message, packed, start_group, end_group, nothing, shape, scalar, signed32, head_kind}
 use Rattle.spec.specs.Schema.{Says}
 use Rattle.spec.specs.Skip.{content, outer_group}
 use Rattle.wire.specs.Reached.{varint_of}
@@ -129,8 +129,8 @@ bodied (other string) depth at s = texted at s (content varint32 s)
 bodied (other bytes) depth at s = ranged at (content varint32 s)
 bodied (other message) depth at s = if leb most_levels depth then body.Bad too_deep else ranged at (content varint64 s)
 bodied (other packed) depth at s = ranged at (content varint64 s)
-bodied (other startGroup) depth at s = body.Group
-bodied (other endGroup) depth at s = body.Bad no_group_open
+bodied (other start_group) depth at s = body.Group
+bodied (other end_group) depth at s = body.Bad no_group_open
 bodied (other nothing) depth at s = body.Bad bad_tag
 
 -- ---- a field

@@ -12,7 +12,7 @@ use Rattle.spec.specs.Names.{delimited_wire, fixed32_wire, fixed64_wire, varint_
 use Rattle.std.specs.Prelude.{if◌then◌else◌}
 use Rattle.spec.specs.Base.{between, limit, limited, Took}
 use Rattle.spec.specs.Varint.{size, tag_size, zigzag}
-use Rattle.spec.specs.Kind.{int32, uint32, uint64, bool, sint32, sint64, fixed32, sfixed32, fixed64, Shape, one, other, string, bytes, message, packed, startGroup, endGroup, nothing, shapes, shape, wire}
+use Rattle.spec.specs.Kind.{int32, uint32, uint64, bool, sint32, sint64, fixed32, sfixed32, fixed64, Shape, one, other, string, bytes, message, packed, start_group, end_group, nothing, shapes, shape, wire}
 use Rattle.spec.specs.Sizes.{scalar_size, prefixed_size, value_size, field_size}
 use Rattle.spec.proofs.KindLaws.{wire_one, wire_of, wire_shape}
 use Rattle.sizes.specs.SizeParts.{capped, coded}
@@ -75,8 +75,8 @@ by_wire_lem (other string) v = refl
 by_wire_lem (other bytes) v = refl
 by_wire_lem (other message) v = refl
 by_wire_lem (other packed) v = refl
-by_wire_lem (other startGroup) v = refl
-by_wire_lem (other endGroup) v = refl
+by_wire_lem (other start_group) v = refl
+by_wire_lem (other end_group) v = refl
 by_wire_lem (other nothing) v = refl
 
 -- the size of a value, as the wire type of its kind finds it

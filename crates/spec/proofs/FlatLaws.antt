@@ -12,7 +12,7 @@ use Rattle.spec.specs.Names.{invalid_list, message_kind, most_levels, not_utf8, 
 use Rattle.std.specs.Prelude.{if◌then◌else◌}
 use Rattle.spec.specs.Base.{part}
 use Rattle.spec.specs.Utf8.{utf8}
-use Rattle.spec.specs.Kind.{Shape, one, other, string, bytes, message, packed, startGroup, endGroup, nothing, shape}
+use Rattle.spec.specs.Kind.{Shape, one, other, string, bytes, message, packed, start_group, end_group, nothing, shape}
 use Rattle.spec.specs.Schema.{Schema, bad_schema}
 use Rattle.spec.specs.Record.{Record, stride, numbers, loaded, stored, broken, records_up_to, records_of, deeper}
 use Rattle.spec.specs.Writing.{body, tag_of, bytes_of, written, Place, Fields, Elements, expected, fitting, next_deeper, around, inside, record_fault, Verdict, or_else, list_fault, schema_first, list_check, judged, sized, writing}
@@ -83,8 +83,8 @@ body_untagged (other string) payload r i = refl
 body_untagged (other bytes) payload r i = refl
 body_untagged (other message) payload r i = refl
 body_untagged (other packed) payload r i = refl
-body_untagged (other startGroup) payload r i = refl
-body_untagged (other endGroup) payload r i = refl
+body_untagged (other start_group) payload r i = refl
+body_untagged (other end_group) payload r i = refl
 body_untagged (other nothing) payload r i = refl
 
 tag_untagged : (tags : Bool) (r : Record) → tag_of tags (untagged r) ≡ tag_of tags r
@@ -98,12 +98,12 @@ bytes_untagged (suc k) tags payload [] = refl
 bytes_untagged (suc k) tags payload (r ∷ rs) =
     let n : ℕ = deeper r.depth rs in
     let x : Shape = shape r.kind in
-    let inTags : Bool = not (eqb r.kind packed_head) in
-    ap₂ (λ (m : ℕ) (t : List ℕ). t ++ body x payload (untagged r) (bytes_of k inTags payload (take m (map untagged rs))) ++ bytes_of k tags payload (drop m (map untagged rs)))
+    let in_tags : Bool = not (eqb r.kind packed_head) in
+    ap₂ (λ (m : ℕ) (t : List ℕ). t ++ body x payload (untagged r) (bytes_of k in_tags payload (take m (map untagged rs))) ++ bytes_of k tags payload (drop m (map untagged rs)))
     (deeper_untagged r.depth rs) (tag_untagged tags r)
-    ∙ ap₂ (λ (a b : List Record). tag_of tags r ++ body x payload (untagged r) (bytes_of k inTags payload a) ++ bytes_of k tags payload b) (take_map n rs) (drop_map n rs)
-    ∙ ap₂ (λ (a b : List ℕ). tag_of tags r ++ body x payload (untagged r) a ++ b) (bytes_untagged k inTags payload (take n rs)) (bytes_untagged k tags payload (drop n rs))
-    ∙ ap (λ (a : List ℕ). tag_of tags r ++ a ++ bytes_of k tags payload (drop n rs)) (body_untagged x payload r (bytes_of k inTags payload (take n rs)))
+    ∙ ap₂ (λ (a b : List Record). tag_of tags r ++ body x payload (untagged r) (bytes_of k in_tags payload a) ++ bytes_of k tags payload b) (take_map n rs) (drop_map n rs)
+    ∙ ap₂ (λ (a b : List ℕ). tag_of tags r ++ body x payload (untagged r) a ++ b) (bytes_untagged k in_tags payload (take n rs)) (bytes_untagged k tags payload (drop n rs))
+    ∙ ap (λ (a : List ℕ). tag_of tags r ++ a ++ bytes_of k tags payload (drop n rs)) (body_untagged x payload r (bytes_of k in_tags payload (take n rs)))
 
 module _ (sch : Schema) (payload : List ℕ) where
   expected_untagged : (here : Place) (r : Record) → expected sch here (untagged r) ≡ expected sch here r
@@ -118,8 +118,8 @@ module _ (sch : Schema) (payload : List ℕ) where
   fitting_untagged (other bytes) r = refl
   fitting_untagged (other message) r = refl
   fitting_untagged (other packed) r = refl
-  fitting_untagged (other startGroup) r = refl
-  fitting_untagged (other endGroup) r = refl
+  fitting_untagged (other start_group) r = refl
+  fitting_untagged (other end_group) r = refl
   fitting_untagged (other nothing) r = refl
 
   next_untagged : (r : Record) (rs : List Record) → next_deeper (untagged r) (map untagged rs) ≡ next_deeper r rs

@@ -15,7 +15,7 @@ use Rattle.std.specs.Prelude.{if◌then◌else◌}
 use Rattle.spec.specs.Base.{part, Read, Took, No, refusal, meaning, require, longer, ◌>>=◌, digit}
 use Rattle.spec.specs.Varint.{varint, fixed, tag, varint32, varint64}
 use Rattle.spec.specs.Utf8.{utf8}
-use Rattle.spec.specs.Kind.{Scalar, int32, uint32, uint64, bool, sint32, sint64, fixed32, sfixed32, fixed64, Shape, one, other, string, bytes, message, packed, startGroup, endGroup, nothing, shape, scalar}
+use Rattle.spec.specs.Kind.{Scalar, int32, uint32, uint64, bool, sint32, sint64, fixed32, sfixed32, fixed64, Shape, one, other, string, bytes, message, packed, start_group, end_group, nothing, shape, scalar}
 use Rattle.spec.specs.Skip.{content, spanned, plain, skip_field, skip_group, inner_group, outer_group}
 use Rattle.spec.specs.Reading.{Mode, Look, Field, Value, Message, Packed, Dropped, Fault, given, shaped, field, used}
 use Rattle.spec.proofs.Laws.{either_way, chosen, Takes, took, none, takes_tag}
@@ -325,8 +325,8 @@ shaped_kept mode (other message) depth inner m kind n s u =
     (λ c. kept_same n s u _ _ (λ x. message_head mode depth inner m kind n x c) (kept_given n s u _ _ (λ a z. refl) (again_content _ _ s u)))
     (λ c. subst (Kept n _ s u) (sym (message_too_deep mode depth inner m kind n s c)) faulty)
 shaped_kept mode (other packed) depth inner m kind n s u = kept_given n s u _ _ (λ a z. refl) (again_content _ _ s u)
-shaped_kept mode (other startGroup) depth inner m kind n s u = kept_given n s u _ _ (λ v l. refl) (again_outer_group_lem depth s u)
-shaped_kept mode (other endGroup) depth inner m kind n s u = faulty
+shaped_kept mode (other start_group) depth inner m kind n s u = kept_given n s u _ _ (λ v l. refl) (again_outer_group_lem depth s u)
+shaped_kept mode (other end_group) depth inner m kind n s u = faulty
 shaped_kept mode (other nothing) depth inner m kind n s u = faulty
 
 module _ (look : Look) (depth type : ℕ) where
@@ -379,8 +379,8 @@ shaped_of mode (other message) depth inner m k n s =
     (λ c. subst (Of k) (sym (message_head mode depth inner m k n s c)) (of_given _ _ λ a z. of_message))
     (λ c. subst (Of k) (sym (message_too_deep mode depth inner m k n s c)) of_fault)
 shaped_of mode (other packed) depth inner m k n s = of_given _ _ λ a z. of_packed
-shaped_of mode (other startGroup) depth inner m k n s = of_given _ _ λ v l. of_dropped
-shaped_of mode (other endGroup) depth inner m k n s = of_fault
+shaped_of mode (other start_group) depth inner m k n s = of_given _ _ λ v l. of_dropped
+shaped_of mode (other end_group) depth inner m k n s = of_fault
 shaped_of mode (other nothing) depth inner m k n s = of_fault
 
 -- What g reads in s, after a tag of n bytes, is a content that it ignores: from where that starts on, any bytes will do that are enough.

@@ -12,7 +12,7 @@ use Rattle.spec.specs.Names.{out_of_range, end_group_wire, fixed32_wire, no_wire
 use Rattle.std.specs.Prelude.{if◌then◌else◌}
 use Rattle.spec.specs.Base.{Took, No, meaning, require}
 use Rattle.spec.specs.Varint.{varint64, varint32, encode, zigzag, unzigzag}
-use Rattle.spec.specs.Kind.{Scalar, int32, uint32, uint64, bool, sint32, sint64, fixed32, sfixed32, fixed64, Shape, one, other, string, bytes, message, packed, startGroup, endGroup, nothing, wires, wire, shapes, shape, signed32, extend, scalar, encoded, fits}
+use Rattle.spec.specs.Kind.{Scalar, int32, uint32, uint64, bool, sint32, sint64, fixed32, sfixed32, fixed64, Shape, one, other, string, bytes, message, packed, start_group, end_group, nothing, wires, wire, shapes, shape, signed32, extend, scalar, encoded, fits}
 use Rattle.spec.proofs.VarintLaws.{lower_or_not, varint_shortest, zigzag_back, fixed_little, length_little}
 
 -- the two ways to be a signed number of 32 bits
@@ -91,8 +91,8 @@ wire_of (other string) = 2
 wire_of (other bytes) = 2
 wire_of (other message) = 2
 wire_of (other packed) = 2
-wire_of (other startGroup) = start_group_wire
-wire_of (other endGroup) = end_group_wire
+wire_of (other start_group) = start_group_wire
+wire_of (other end_group) = end_group_wire
 wire_of (other nothing) = no_wire
 
 tables : map wire_of shapes ≡ wires

@@ -14,7 +14,7 @@ use Rattle.std.specs.Prelude.{if◌then◌else◌}
 use Rattle.spec.specs.Base.{part, limit, Read, Took, No}
 use Rattle.spec.specs.Varint.{varint32, tag}
 use Rattle.spec.specs.Utf8.{valid_prefix, utf8, valid_end}
-use Rattle.spec.specs.Kind.{Scalar, Shape, one, other, string, bytes, message, packed, startGroup, endGroup, nothing, shape, scalar}
+use Rattle.spec.specs.Kind.{Scalar, Shape, one, other, string, bytes, message, packed, start_group, end_group, nothing, shape, scalar}
 use Rattle.spec.specs.Schema.{bad_schema}
 use Rattle.spec.specs.Skip.{content}
 use Rattle.spec.specs.Record.{row}
@@ -115,8 +115,8 @@ module _ (look : Look) (type : ℕ) (w : List ℕ) where
         (λ c. subst Told (sym (message_head mode depth _ (v / 8) kind n (drop n w) c)) (told_given (ordinary_content _ _ (drop n w)) (λ a z. a_message)))
         (λ c. subst Told (sym (message_too_deep mode depth _ (v / 8) kind n (drop n w) c)) (a_fault refl))
     told_shaped (other packed) sh = told_given (ordinary_content _ _ (drop n w)) (λ a z. a_packed)
-    told_shaped (other startGroup) sh = told_given (ordinary_group (length (drop n w)) depth (drop n w) (refused_by refl)) (λ v l. a_group)
-    told_shaped (other endGroup) sh = a_fault refl
+    told_shaped (other start_group) sh = told_given (ordinary_group (length (drop n w)) depth (drop n w) (refused_by refl)) (λ v l. a_group)
+    told_shaped (other end_group) sh = a_fault refl
     told_shaped (other nothing) sh = a_fault refl
 
   told_field : (depth : ℕ) → Told (field look depth type w)

@@ -13,7 +13,7 @@ use Rattle.spec.specs.Names.{fixed32_wire, largest_number, message_kind, most_le
 use Rattle.std.specs.Prelude.{if◌then◌else◌}
 use Rattle.spec.specs.Base.{between, part, limit}
 use Rattle.spec.specs.Utf8.{utf8}
-use Rattle.spec.specs.Kind.{Scalar, Shape, Special, one, other, string, bytes, message, packed, startGroup, endGroup, nothing, shapes, shape, wire, is_scalar, encoded, fits}
+use Rattle.spec.specs.Kind.{Scalar, Shape, Special, one, other, string, bytes, message, packed, start_group, end_group, nothing, shapes, shape, wire, is_scalar, encoded, fits}
 use mathlib.Core.Option.{Option, none, some}
 use Rattle.spec.specs.Schema.{Schema, bad_schema, lookup, unknown_kind, kind_of}
 use Rattle.spec.proofs.Laws.{either_way, chosen, both, by_test}
@@ -73,8 +73,8 @@ special_message string = false
 special_message bytes = false
 special_message message = true
 special_message packed = false
-special_message startGroup = false
-special_message endGroup = false
+special_message start_group = false
+special_message end_group = false
 special_message nothing = false
 
 is_packed : Special → Bool
@@ -82,8 +82,8 @@ is_packed string = false
 is_packed bytes = false
 is_packed message = false
 is_packed packed = true
-is_packed startGroup = false
-is_packed endGroup = false
+is_packed start_group = false
+is_packed end_group = false
 is_packed nothing = false
 
 special_string : Special → Bool
@@ -91,8 +91,8 @@ special_string string = true
 special_string bytes = false
 special_string message = false
 special_string packed = false
-special_string startGroup = false
-special_string endGroup = false
+special_string start_group = false
+special_string end_group = false
 special_string nothing = false
 
 pub is_string_kind : (k : ℕ) → shape k ≡ other string → k ≡ string_kind
@@ -407,8 +407,8 @@ module _ (sch : Schema) (payload : List ℕ) where
       (λ g. blob dep (expects t r ok.is_expected) sh (eqb-true r.value 0 (both (eqb r.value 0) (lies payload r) fit).0) (both (eqb r.value 0) (lies payload r) fit).1 g.tree) g
   plain_record t out r rs dep ok no11 no20 (other message) sh g = absurd (false≢true (sym no11 ∙ eq-eqb r.kind message_kind (is_message_kind r.kind sh)))
   plain_record t out r rs dep ok no11 no20 (other packed) sh g = absurd (false≢true (sym no20 ∙ eq-eqb r.kind packed_head (is_packed_head r.kind sh)))
-  plain_record t out r rs dep ok no11 no20 (other startGroup) sh g = absurd (false≢true (ap (λ (x : Shape). fitting x payload r) (sym sh) ∙ ok.is_fitting))
-  plain_record t out r rs dep ok no11 no20 (other endGroup) sh g = absurd (false≢true (ap (λ (x : Shape). fitting x payload r) (sym sh) ∙ ok.is_fitting))
+  plain_record t out r rs dep ok no11 no20 (other start_group) sh g = absurd (false≢true (ap (λ (x : Shape). fitting x payload r) (sym sh) ∙ ok.is_fitting))
+  plain_record t out r rs dep ok no11 no20 (other end_group) sh g = absurd (false≢true (ap (λ (x : Shape). fitting x payload r) (sym sh) ∙ ok.is_fitting))
   plain_record t out r rs dep ok no11 no20 (other nothing) sh g = absurd (false≢true (ap (λ (x : Shape). fitting x payload r) (sym sh) ∙ ok.is_fitting))
 
   -- ---- heads; in a valid schema no entry is of kind 20

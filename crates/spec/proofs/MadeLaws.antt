@@ -14,7 +14,7 @@ use Rattle.std.specs.Prelude.{if◌then◌else◌}
 use Rattle.spec.specs.Base.{part, Read, Took, No}
 use Rattle.spec.specs.Varint.{encode, tag}
 use Rattle.spec.specs.Utf8.{utf8}
-use Rattle.spec.specs.Kind.{Scalar, Shape, one, other, string, bytes, message, packed, startGroup, endGroup, nothing, wire, shape, is_scalar, scalar, encoded, fits}
+use Rattle.spec.specs.Kind.{Scalar, Shape, one, other, string, bytes, message, packed, start_group, end_group, nothing, wire, shape, is_scalar, scalar, encoded, fits}
 use Rattle.spec.specs.Schema.{Schema, lookup, unknown_kind, kind_of, inside_of, says_of, says}
 use Rattle.spec.specs.Record.{Record, row}
 use Rattle.spec.specs.Skip.{outer_group}
@@ -203,8 +203,8 @@ module _ (mode : Mode) (unasked : mode.dropped ≡ false) (sch : Schema) (kinds 
         found_framed (content_framed 9 1 (drop n u) (omega arith)) λ a e f.
         let same : (lookup sch.entries t m).kind ≡ inside_of k (lookup sch.entries t m) = sym (ap (λ (j : ℕ). inside_of j (lookup sch.entries t m)) kin) in
         a_row c.0 is same (ap shape (sym same) ∙ c.1) (subst (λ (j : ℕ). Frame (length u) m j (n + a) (n + e)) kin f)
-    shaped_found (other startGroup) sh = found_group (outer_group d (drop n u))
-    shaped_found (other endGroup) sh = a_fault
+    shaped_found (other start_group) sh = found_group (outer_group d (drop n u))
+    shaped_found (other end_group) sh = a_fault
     shaped_found (other nothing) sh = a_fault
 
   known_tag : (t v : ℕ) → v < 2 ^ 32 → v % 8 ≤ fixed32_wire → 1 ≤ v / 8 → Known t (v / 8) (kind_of (lookup sch.entries t (v / 8)) (v % 8))

@@ -8,7 +8,7 @@ use lib.ListN.{length, drop, length-drop, length-take}
 use Rattle.spec.specs.Names.{ends_early, message_kind, most_levels}
 use Rattle.spec.specs.Base.{part, Read, No}
 use Rattle.spec.specs.Utf8.{utf8}
-use Rattle.spec.specs.Kind.{Scalar, Shape, one, other, string, bytes, message, packed, startGroup, endGroup, nothing, shape, scalar}
+use Rattle.spec.specs.Kind.{Scalar, Shape, one, other, string, bytes, message, packed, start_group, end_group, nothing, shape, scalar}
 use Rattle.spec.specs.Reading.{Mode, Look, Field, Value, Message, Packed, Dropped, Fault, given, shaped, field, used, Reading, Done, Refused, ◌then◌, ◌followed_by◌, element, elements, span, records, fields, read}
 use Rattle.spec.specs.Record.{row}
 use Rattle.spec.proofs.Laws.{either_way, Takes, took, none, takes_tag, takes_scalar, takes_varint, Holds, holds, content_holds}
@@ -88,9 +88,9 @@ shaped_sound mode (other message) depth inner m k n s most h j =
     (λ c. subst (Sound most) (sym (message_too_deep mode depth inner m k n s c)) fault_first)
 shaped_sound mode (other packed) depth inner m k n s most h j =
     sound_held (content_holds _ s (takes_varint _ _ s)) λ a z p o q. packed_in (omega arith)
-shaped_sound mode (other startGroup) depth inner m k n s most h j =
+shaped_sound mode (other start_group) depth inner m k n s most h j =
     sound_given (takes_skip_group_lem (length s) (No ends_early) none depth s) λ v i p q. dropped_in (omega arith)
-shaped_sound mode (other endGroup) depth inner m k n s most h j = fault_first
+shaped_sound mode (other end_group) depth inner m k n s most h j = fault_first
 shaped_sound mode (other nothing) depth inner m k n s most h j = fault_first
 
 pub field_sound : (look : Look) (depth type : ℕ) (s : List ℕ) → Sound (length s) (field look depth type s)

@@ -16,7 +16,7 @@ use Rattle.spec.specs.Varint.{varint, encode, shortest, tag}
 use Rattle.spec.specs.Record.{Record, row}
 use Rattle.spec.proofs.VarintLaws.{lower_or_not, shortest_ends, shortest_goes_on}
 use Rattle.spec.specs.Utf8.{utf8}
-use Rattle.spec.specs.Kind.{Scalar, Shape, Special, one, other, string, bytes, message, packed, startGroup, endGroup, nothing, shape, wire, scalar, encoded, fits}
+use Rattle.spec.specs.Kind.{Scalar, Shape, Special, one, other, string, bytes, message, packed, start_group, end_group, nothing, shape, wire, scalar, encoded, fits}
 use Rattle.spec.specs.Schema.{Schema, lookup, inside_of, says_of}
 use Rattle.spec.specs.Reading.{Mode, looking, Field, Value, Message, Packed, given, shaped, field, used, Reading, Done, ◌then◌, ◌followed_by◌, element, elements, contents, span, records, read, after}
 use Rattle.spec.specs.Writing.{prefixed, lies}
@@ -37,8 +37,8 @@ has_content (other string) = true
 has_content (other bytes) = true
 has_content (other message) = false
 has_content (other packed) = false
-has_content (other startGroup) = false
-has_content (other endGroup) = false
+has_content (other start_group) = false
+has_content (other end_group) = false
 has_content (other nothing) = false
 
 -- the record q, with its content in s, is r, with its content in the payload

@@ -17,7 +17,7 @@ use Rattle.spec.specs.Names.{group_start, largest_number, message_kind, most_lev
 use Rattle.std.specs.Prelude.{if◌then◌else◌}
 use Rattle.spec.specs.Base.{part}
 use Rattle.spec.specs.Varint.{encode, tag_size}
-use Rattle.spec.specs.Kind.{Scalar, int32, uint32, uint64, bool, sint32, sint64, fixed32, sfixed32, fixed64, Shape, one, other, string, bytes, message, packed, startGroup, endGroup, nothing, shapes, shape, wire, encoded, fits}
+use Rattle.spec.specs.Kind.{Scalar, int32, uint32, uint64, bool, sint32, sint64, fixed32, sfixed32, fixed64, Shape, one, other, string, bytes, message, packed, start_group, end_group, nothing, shapes, shape, wire, encoded, fits}
 use Rattle.spec.specs.Schema.{Schema, bad_schema}
 use Rattle.spec.specs.Record.{Record, stride, records_of, record_at, records_from}
 use Rattle.spec.specs.Sizes.{body_size, size_of}
@@ -193,8 +193,8 @@ has_record (other string) = true
 has_record (other bytes) = true
 has_record (other message) = true
 has_record (other packed) = true
-has_record (other startGroup) = false
-has_record (other endGroup) = false
+has_record (other start_group) = false
+has_record (other end_group) = false
 has_record (other nothing) = false
 
 nested_record : {r : Record} {rs : List Record} {x : Shape} → Nested r rs x → has_record x ≡ true

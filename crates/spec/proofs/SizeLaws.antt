@@ -16,7 +16,7 @@ use Rattle.std.specs.Prelude.{if◌then◌else◌}
 use Rattle.spec.specs.Base.{between, part, limit, Took, No, limited}
 use Rattle.spec.specs.Varint.{encode, tag_size, zigzag}
 use Rattle.spec.specs.Utf8.{utf8}
-use Rattle.spec.specs.Kind.{Scalar, int32, uint32, uint64, bool, sint32, sint64, fixed32, sfixed32, fixed64, Shape, one, other, string, bytes, message, packed, startGroup, endGroup, nothing, wires, wire, shape, encoded, fits}
+use Rattle.spec.specs.Kind.{Scalar, int32, uint32, uint64, bool, sint32, sint64, fixed32, sfixed32, fixed64, Shape, one, other, string, bytes, message, packed, start_group, end_group, nothing, wires, wire, shape, encoded, fits}
 use Rattle.spec.specs.Schema.{Schema, bad_schema}
 use Rattle.spec.specs.Record.{Record, row, deeper}
 use Rattle.spec.specs.Sizes.{scalar_size, prefixed_size, value_size, field_size, values_size, packed_size, body_size, unknowns_size, unknown_fields_size, size_up_to, size_of}
@@ -127,8 +127,8 @@ size_body (other string) payload r inner h = size_part payload r (h refl)
 size_body (other bytes) payload r inner h = size_part payload r (h refl)
 size_body (other message) payload r inner h = size_prefixed inner
 size_body (other packed) payload r inner h = size_prefixed inner
-size_body (other startGroup) payload r inner h = refl
-size_body (other endGroup) payload r inner h = refl
+size_body (other start_group) payload r inner h = refl
+size_body (other end_group) payload r inner h = refl
 size_body (other nothing) payload r inner h = refl
 
 pub size_bytes : (k : ℕ) (tags : Bool) (payload : List ℕ) (rs : List Record) → Held payload rs → size_up_to k tags rs ≡ length (bytes_of k tags payload rs)
@@ -154,8 +154,8 @@ fitting_held (other string) payload r h k = (both (eqb r.value 0) (lies payload 
 fitting_held (other bytes) payload r h k = (both (eqb r.value 0) (lies payload r) h).1
 fitting_held (other message) payload r h k = absurd (false≢true k)
 fitting_held (other packed) payload r h k = absurd (false≢true k)
-fitting_held (other startGroup) payload r h k = absurd (false≢true k)
-fitting_held (other endGroup) payload r h k = absurd (false≢true k)
+fitting_held (other start_group) payload r h k = absurd (false≢true k)
+fitting_held (other end_group) payload r h k = absurd (false≢true k)
 fitting_held (other nothing) payload r h k = absurd (false≢true k)
 
 module _ (sch : Schema) (payload : List ℕ) where
@@ -349,8 +349,8 @@ size_content payload r h l =
     same (other bytes) k = refl
     same (other message) k = absurd (false≢true k)
     same (other packed) k = absurd (false≢true k)
-    same (other startGroup) k = absurd (false≢true k)
-    same (other endGroup) k = absurd (false≢true k)
+    same (other start_group) k = absurd (false≢true k)
+    same (other end_group) k = absurd (false≢true k)
     same (other nothing) k = absurd (false≢true k)
 
 -- a packed head and its elements; there is no head where there are none

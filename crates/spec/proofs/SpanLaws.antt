@@ -14,7 +14,7 @@ use Rattle.std.specs.Prelude.{if◌then◌else◌}
 use Rattle.spec.specs.Base.{part, limit, Read, Took, No}
 use Rattle.spec.specs.Varint.{tag}
 use Rattle.spec.specs.Utf8.{utf8}
-use Rattle.spec.specs.Kind.{Scalar, Shape, one, other, string, bytes, message, packed, startGroup, endGroup, nothing, shapes, shape, head_kind, scalar}
+use Rattle.spec.specs.Kind.{Scalar, Shape, one, other, string, bytes, message, packed, start_group, end_group, nothing, shapes, shape, head_kind, scalar}
 use Rattle.spec.specs.Schema.{Schema, bad_schema, lookup, inside_of, Says, says_of, says}
 use Rattle.spec.specs.declared.Entry.{Entry}
 use Rattle.spec.specs.Record.{Record, row, deeper}
@@ -43,8 +43,8 @@ valued (other string) = true
 valued (other bytes) = true
 valued (other message) = false
 valued (other packed) = false
-valued (other startGroup) = false
-valued (other endGroup) = false
+valued (other start_group) = false
+valued (other end_group) = false
 valued (other nothing) = false
 
 -- a value is of such a shape, and P holds of the kind of a packed field's elements
@@ -71,8 +71,8 @@ module _ (P : ℕ → Type 0) where
       (λ c. subst (Kinded P) (sym (message_head mode depth inner m k n s c)) (kinded_given _ λ a z. kinded_message))
       (λ c. subst (Kinded P) (sym (message_too_deep mode depth inner m k n s c)) kinded_fault)
   shaped_kinded mode (other packed) depth inner m k n s sh h = kinded_given _ λ a z. kinded_packed (h (is_packed_head k sh))
-  shaped_kinded mode (other startGroup) depth inner m k n s sh h = kinded_given _ λ v l. kinded_dropped
-  shaped_kinded mode (other endGroup) depth inner m k n s sh h = kinded_fault
+  shaped_kinded mode (other start_group) depth inner m k n s sh h = kinded_given _ λ v l. kinded_dropped
+  shaped_kinded mode (other end_group) depth inner m k n s sh h = kinded_fault
   shaped_kinded mode (other nothing) depth inner m k n s sh h = kinded_fault
 
   field_kinded : (look : Look) → ((type t : ℕ) → (look.says type t).kind ≡ packed_head → P (look.says type t).inner) → (depth type : ℕ) (s : List ℕ) → Kinded P (field look depth type s)
@@ -161,8 +161,8 @@ module _ (f : ℕ → ℕ → Says) (mode : Mode) where
   shaped_asking (other bytes) depth inner m k n s = refl
   shaped_asking (other message) depth inner m k n s = refl
   shaped_asking (other packed) depth inner m k n s = refl
-  shaped_asking (other startGroup) depth inner m k n s = refl
-  shaped_asking (other endGroup) depth inner m k n s = refl
+  shaped_asking (other start_group) depth inner m k n s = refl
+  shaped_asking (other end_group) depth inner m k n s = refl
   shaped_asking (other nothing) depth inner m k n s = refl
 
   field_asking : (depth type : ℕ) (s : List ℕ) → field asked depth type s ≡ field unasked depth type s

@@ -12,7 +12,7 @@ use Rattle.spec.specs.Names.{invalid_list, largest_number, message_kind, most_le
 use Rattle.std.specs.Prelude.{if◌then◌else◌}
 use Rattle.spec.specs.Base.{part}
 use Rattle.spec.specs.Utf8.{utf8}
-use Rattle.spec.specs.Kind.{Scalar, int32, uint32, uint64, bool, sint32, sint64, fixed32, sfixed32, fixed64, Shape, one, other, string, bytes, message, packed, startGroup, endGroup, nothing, shape, wire, is_scalar, encoded}
+use Rattle.spec.specs.Kind.{Scalar, int32, uint32, uint64, bool, sint32, sint64, fixed32, sfixed32, fixed64, Shape, one, other, string, bytes, message, packed, start_group, end_group, nothing, shape, wire, is_scalar, encoded}
 use Rattle.spec.specs.Schema.{Schema, bad_schema, lookup}
 use Rattle.spec.specs.Writing.{prefixed, body, tag_of, bytes_of, written, Place, Fields, Elements, recorded, expected, fitting, next_deeper, inside, record_fault, Verdict, Fine, or_else, list_fault, schema_first, list_check}
 use Rattle.spec.specs.Tree.{ListHasTree, TreeIsList}
@@ -36,8 +36,8 @@ is_bytes (other string) = false
 is_bytes (other bytes) = true
 is_bytes (other message) = false
 is_bytes (other packed) = false
-is_bytes (other startGroup) = false
-is_bytes (other endGroup) = false
+is_bytes (other start_group) = false
+is_bytes (other end_group) = false
 is_bytes (other nothing) = false
 
 -- a kind that is no head and no string

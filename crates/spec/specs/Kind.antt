@@ -11,7 +11,7 @@ pub data Scalar : Type 0 where
 
 -- a field that is not
 pub data Special : Type 0 where
-  string bytes message packed startGroup endGroup nothing : Special
+  string bytes message packed start_group end_group nothing : Special
 
 pub data Shape : Type 0 where
   one : Scalar → Shape
@@ -41,7 +41,7 @@ shapes =
     ∷ one fixed64 ∷ one fixed32 ∷ one uint64 ∷ one uint64 ∷ one int32 ∷ one fixed64  -- double float int64 uint64 int32 fixed64
     ∷ one fixed32 ∷ one bool ∷ other string ∷ other nothing ∷ other message ∷ other bytes  -- fixed32 bool string - message bytes
     ∷ one uint32 ∷ one int32 ∷ one sfixed32 ∷ one fixed64 ∷ one sint32 ∷ one sint64  -- uint32 enum sfixed32 sfixed64 sint32 sint64
-    ∷ other nothing ∷ other packed ∷ one uint64 ∷ one fixed64 ∷ other bytes ∷ one fixed32 ∷ other startGroup ∷ other endGroup ∷ []
+    ∷ other nothing ∷ other packed ∷ one uint64 ∷ one fixed64 ∷ other bytes ∷ one fixed32 ∷ other start_group ∷ other end_group ∷ []
 
 unfoldable pub wire : ℕ → ℕ
 unfolding wires

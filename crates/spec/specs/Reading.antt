@@ -5,7 +5,7 @@ use Rattle.spec.specs.Names.{bad_tag, dropped_span, invalid_schema, message_kind
 use Rattle.spec.specs.Base.{part, filled, limit, Read, Took, No}
 use Rattle.spec.specs.Varint.{varint32, varint64, tag}
 use Rattle.spec.specs.Utf8.{utf8, valid_end}
-use Rattle.spec.specs.Kind.{Scalar, Shape, one, other, string, bytes, message, packed, startGroup, endGroup, nothing, shape, scalar}
+use Rattle.spec.specs.Kind.{Scalar, Shape, one, other, string, bytes, message, packed, start_group, end_group, nothing, shape, scalar}
 use Rattle.spec.specs.Schema.{Schema, bad_schema, Says, says}
 use Rattle.spec.specs.Skip.{content, outer_group}
 use Rattle.spec.specs.Record.{Record, row, stored}
@@ -55,8 +55,8 @@ shaped mode (other message) depth inner m kind n s =
     if leb most_levels depth then Fault too_deep 0 else
     given (content varint64 s) λ a z. Message m inner (n + a) (n + z)
 shaped mode (other packed) depth inner m kind n s = given (content varint64 s) λ a z. Packed m inner (n + a) (n + z)
-shaped mode (other startGroup) depth inner m kind n s = given (outer_group depth s) λ v l. Dropped m (n + l)
-shaped mode (other endGroup) depth inner m kind n s = Fault no_group_open 0
+shaped mode (other start_group) depth inner m kind n s = given (outer_group depth s) λ v l. Dropped m (n + l)
+shaped mode (other end_group) depth inner m kind n s = Fault no_group_open 0
 shaped mode (other nothing) depth inner m kind n s = Fault bad_tag 0  -- no kind of a valid schema
 
 -- the field at the front of s, in a message of this type and depth

@@ -4,7 +4,7 @@ use Rattle.std.specs.Prelude.{ℕ, zero, suc, ◌+◌, ◌-◌, Bool, true, not,
 use Rattle.spec.specs.Names.{packed_head, unknown_varint, unknown_fixed32}
 use Rattle.spec.specs.Base.{between, Read, Took, limited}
 use Rattle.spec.specs.Varint.{size, tag_size, zigzag}
-use Rattle.spec.specs.Kind.{Scalar, int32, uint32, uint64, bool, sint32, sint64, fixed32, sfixed32, fixed64, Shape, one, other, string, bytes, message, packed, startGroup, endGroup, nothing, shape}
+use Rattle.spec.specs.Kind.{Scalar, int32, uint32, uint64, bool, sint32, sint64, fixed32, sfixed32, fixed64, Shape, one, other, string, bytes, message, packed, start_group, end_group, nothing, shape}
 use Rattle.spec.specs.Record.{Record, deeper}
 
 -- ---- one field
@@ -31,8 +31,8 @@ value_size (other string) v = prefixed_size v
 value_size (other bytes) v = prefixed_size v
 value_size (other message) v = prefixed_size v
 value_size (other packed) v = prefixed_size v
-value_size (other startGroup) v = 0
-value_size (other endGroup) v = 0
+value_size (other start_group) v = 0
+value_size (other end_group) v = 0
 value_size (other nothing) v = 0
 
 -- `int32_size` and its like, `bytes_size`, `string_size`: a field with its tag
@@ -57,8 +57,8 @@ body_size (other string) r inner = prefixed_size (r.stop - r.start)
 body_size (other bytes) r inner = prefixed_size (r.stop - r.start)
 body_size (other message) r inner = prefixed_size inner
 body_size (other packed) r inner = prefixed_size inner
-body_size (other startGroup) r inner = 0
-body_size (other endGroup) r inner = 0
+body_size (other start_group) r inner = 0
+body_size (other end_group) r inner = 0
 body_size (other nothing) r inner = 0
 
 -- `unknown_fields_size`: the records of the four unknown kinds; others count nothing

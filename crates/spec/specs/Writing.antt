@@ -5,7 +5,7 @@ use Rattle.spec.specs.Names.{delimited_wire, fixed32_wire, invalid_list, invalid
 use Rattle.spec.specs.Base.{between, part, filled, limit}
 use Rattle.spec.specs.Varint.{encode}
 use Rattle.spec.specs.Utf8.{utf8}
-use Rattle.spec.specs.Kind.{Shape, one, other, string, bytes, message, packed, startGroup, endGroup, nothing, shape, wire, fits, encoded}
+use Rattle.spec.specs.Kind.{Shape, one, other, string, bytes, message, packed, start_group, end_group, nothing, shape, wire, fits, encoded}
 use Rattle.spec.specs.Schema.{Schema, bad_schema, lookup, kind_of}
 use Rattle.spec.specs.Record.{Record, deeper}
 
@@ -22,8 +22,8 @@ body (other string) payload r inner = prefixed (part r.start r.stop payload)
 body (other bytes) payload r inner = prefixed (part r.start r.stop payload)
 body (other message) payload r inner = prefixed inner
 body (other packed) payload r inner = prefixed inner
-body (other startGroup) payload r inner = []
-body (other endGroup) payload r inner = []
+body (other start_group) payload r inner = []
+body (other end_group) payload r inner = []
 body (other nothing) payload r inner = []
 
 abbrev pub tag_of : Bool → Record → List ℕ
@@ -72,8 +72,8 @@ fitting (other string) payload r = eqb r.value 0 && lies payload r
 fitting (other bytes) payload r = eqb r.value 0 && lies payload r
 fitting (other message) payload r = eqb r.value 0
 fitting (other packed) payload r = eqb r.value 0
-fitting (other startGroup) payload r = false
-fitting (other endGroup) payload r = false
+fitting (other start_group) payload r = false
+fitting (other end_group) payload r = false
 fitting (other nothing) payload r = false
 
 -- the next record stands one deeper

@@ -9,7 +9,7 @@ use lib.Dec.{ltb}
 use Rattle.spec.specs.Names.{fixed32_wire, fixed64_wire, message_kind, packed_head}
 use Rattle.std.specs.Prelude.{if◌then◌else◌}
 use Rattle.spec.specs.Varint.{encode, zigzag, little}
-use Rattle.spec.specs.Kind.{int32, uint32, uint64, bool, sint32, sint64, fixed32, sfixed32, fixed64, Shape, one, other, string, bytes, message, packed, startGroup, endGroup, nothing, shape, wire, is_scalar, encoded, head_kind}
+use Rattle.spec.specs.Kind.{int32, uint32, uint64, bool, sint32, sint64, fixed32, sfixed32, fixed64, Shape, one, other, string, bytes, message, packed, start_group, end_group, nothing, shape, wire, is_scalar, encoded, head_kind}
 use Rattle.spec.specs.Record.{Record}
 use Rattle.spec.specs.Writing.{body}
 use Rattle.spec.proofs.RoundTrip.{shape_message, shape_packed}
@@ -47,8 +47,8 @@ heads (other string) = false
 heads (other bytes) = false
 heads (other message) = true
 heads (other packed) = true
-heads (other startGroup) = false
-heads (other endGroup) = false
+heads (other start_group) = false
+heads (other end_group) = false
 heads (other nothing) = false
 
 headless : (k : ℕ) → heads (shape k) ≡ false → head_kind k ≡ false
@@ -71,6 +71,6 @@ body_lead k payload r inner none = go (shape k) refl
     go (other bytes) e = alone (other bytes) _ e refl
     go (other message) e = refl
     go (other packed) e = refl
-    go (other startGroup) e = alone (other startGroup) _ e refl
-    go (other endGroup) e = alone (other endGroup) _ e refl
+    go (other start_group) e = alone (other start_group) _ e refl
+    go (other end_group) e = alone (other end_group) _ e refl
     go (other nothing) e = alone (other nothing) _ e refl

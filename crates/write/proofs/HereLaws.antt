@@ -12,7 +12,7 @@ use borrow.Author.Tests.{leb-true, lt-ltb}
 use Rattle.spec.specs.Names.{fixed64_wire, delimited_wire, kind_column, message_kind, no_wire, number_column, packed_head, record_kinds, start_column, stop_column, value_column}
 use Rattle.spec.specs.Base.{part}
 use Rattle.spec.specs.Varint.{encode}
-use Rattle.spec.specs.Kind.{Shape, one, other, string, bytes, message, packed, startGroup, endGroup, nothing, wires, shape, wire, is_scalar, head_kind}
+use Rattle.spec.specs.Kind.{Shape, one, other, string, bytes, message, packed, start_group, end_group, nothing, wires, shape, wire, is_scalar, head_kind}
 use Rattle.spec.specs.Record.{Record, stride}
 use Rattle.spec.specs.Writing.{prefixed, tag_of}
 use Rattle.spec.proofs.RoundTrip.{has_content, shape_message, shape_packed}
@@ -33,8 +33,8 @@ content_lead (other string) payload r n h = refl
 content_lead (other bytes) payload r n h = refl
 content_lead (other message) payload r n h = absurd (false≢true h)
 content_lead (other packed) payload r n h = absurd (false≢true h)
-content_lead (other startGroup) payload r n h = absurd (false≢true h)
-content_lead (other endGroup) payload r n h = absurd (false≢true h)
+content_lead (other start_group) payload r n h = absurd (false≢true h)
+content_lead (other end_group) payload r n h = absurd (false≢true h)
 content_lead (other nothing) payload r n h = absurd (false≢true h)
 
 module _ {list payload : List ℕ} {b : ℕ} (h : Here list payload b) where

@@ -12,7 +12,7 @@ use Rattle.spec.specs.Names.{delimited_wire, message_kind, packed_head, kind_col
 use Rattle.std.specs.Prelude.{if◌then◌else◌}
 use Rattle.spec.specs.Base.{limit}
 use Rattle.spec.specs.Varint.{size, tag_size, zigzag}
-use Rattle.spec.specs.Kind.{int32, uint32, uint64, bool, sint32, sint64, fixed32, sfixed32, fixed64, Shape, one, other, string, bytes, message, packed, startGroup, endGroup, nothing, shape, wire, is_scalar, head_kind}
+use Rattle.spec.specs.Kind.{int32, uint32, uint64, bool, sint32, sint64, fixed32, sfixed32, fixed64, Shape, one, other, string, bytes, message, packed, start_group, end_group, nothing, shape, wire, is_scalar, head_kind}
 use Rattle.spec.specs.Record.{Record, row, records_of, stride, record_at, records_from}
 use Rattle.spec.specs.Sizes.{scalar_size, prefixed_size, value_size, body_size, size_up_to}
 use Rattle.spec.proofs.VarintLaws.{lower_or_not}
@@ -149,8 +149,8 @@ content_body (other string) r i e = refl
 content_body (other bytes) r i e = refl
 content_body (other message) r i e = absurd (false≢true e)
 content_body (other packed) r i e = absurd (false≢true e)
-content_body (other startGroup) r i e = absurd (false≢true e)
-content_body (other endGroup) r i e = absurd (false≢true e)
+content_body (other start_group) r i e = absurd (false≢true e)
+content_body (other end_group) r i e = absurd (false≢true e)
 content_body (other nothing) r i e = absurd (false≢true e)
 
 head_body : {k : ℕ} (r : Record) (i : ℕ) → Head k → body_size (shape k) r i ≡ prefixed_size i

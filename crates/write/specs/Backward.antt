@@ -4,7 +4,7 @@ use Rattle.std.specs.Prelude.{ℕ, zero, suc, ◌+◌, ◌-◌, ◌*◌, ◌/◌
 use Rattle.spec.specs.Names.{largest_number, packed_head, kind_column, no_wire, number_column, record_kinds, value_column}
 use Rattle.spec.specs.Base.{part}
 use Rattle.spec.specs.Varint.{encode}
-use Rattle.spec.specs.Kind.{Shape, one, other, string, bytes, message, packed, startGroup, endGroup, nothing, wires, shape, is_scalar, encoded}
+use Rattle.spec.specs.Kind.{Shape, one, other, string, bytes, message, packed, start_group, end_group, nothing, wires, shape, is_scalar, encoded}
 use Rattle.spec.specs.Record.{Record, records_of, stride, record_at}
 use Rattle.spec.specs.Writing.{prefixed}
 use Rattle.spec.proofs.WritingLaws.{bytes_in}
@@ -96,8 +96,8 @@ lead (other string) payload r n = prefixed (part r.start r.stop payload)
 lead (other bytes) payload r n = prefixed (part r.start r.stop payload)
 lead (other message) payload r n = encode n
 lead (other packed) payload r n = encode n
-lead (other startGroup) payload r n = []
-lead (other endGroup) payload r n = []
+lead (other start_group) payload r n = []
+lead (other end_group) payload r n = []
 lead (other nothing) payload r n = []
 
 -- ---- what is asked
