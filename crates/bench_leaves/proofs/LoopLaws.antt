@@ -6,7 +6,6 @@ use native.Mathlib.Omega.{arith}
 use mathlib.Core.Bool.{Bool, true, false}
 use mathlib.Core.Path.{◌≡◌, refl, sym, ap, ap₂, ◌∙◌}
 use mathlib.Core.List.{List, [], ◌∷◌}
-use mathlib.Core.Logic.{◌⊎◌, inl, inr}
 use lib.Bits.{bit_xor}
 use lib.Dec.{leb}
 use lib.ListN.{length, get_or, drop, drop_of_length-le}
@@ -20,7 +19,6 @@ use Rattle.wire.specs.declared.found.Found.TheVariants.{Value, Refused}
 use Rattle.wire.specs.declared.put.Put.{Put}
 use Rattle.wire.specs.declared.put.Put.TheVariants.{Next, NoRoom}
 use Rattle.wire.proofs.FoundLaws.{Placed, varint_placed}
-use denote.Enum.Declared.{tag_of}
 use Rattle.spec.specs.Kind.{uint64}
 use Rattle.spec.specs.Pull as spec
 use Rattle.spec.specs.Pull.{raw_tag, value, step_at}
@@ -29,7 +27,6 @@ use Rattle.pull.specs.Told as pull
 use Rattle.pull.specs.declared.step.Moved.{Moved}
 use Rattle.pull.specs.declared.step.Said.{Said}
 use Rattle.pull.specs.declared.step.Said.TheVariants as said
-use Rattle.pull.specs.contracts.step.Said.{the_type}
 use Rattle.bench_leaves.specs.Loops.{xor_on, xors, varints, puts, said_on, pulls, pulled}
 
 -- The whole answer is what the rest adds to `acc` from here. `left` counts the iterations that may follow.
@@ -151,18 +148,13 @@ pulls_end (suc k) acc at s h = rw (raw_end s at 0 h) refl
 pub pulled_end : {s : List ℕ} {at acc : ℕ} → Pulled s at acc → length s ≤ at → acc ≡ pulled s
 pulled_end {s} {at} {acc} x h = sym (x.same ∙ pulls_end x.left acc at s h)
 
--- what a step said is no number, by its variant's tag
+-- what a step said is no number
 abbrev pub Other : Said → Type 0
-Other x = (tag_of the_type x ≡ 1) ⊎ ((tag_of the_type x ≡ 2) ⊎ (tag_of the_type x ≡ 3))
+Other x = (v : ℕ) → x ≡ said.Number v → ⊥
 
 other : (x : Said) → Other x → (acc : ℕ) (f : ℕ → ℕ) → said_on acc (pull.said_told x) f ≡ acc
 unfolding said_on
-other (said.Number v) h acc f = absurd (none refl h)
-  where
-    none : {n : ℕ} → n ≡ 0 → (n ≡ 1) ⊎ ((n ≡ 2) ⊎ (n ≡ 3)) → ⊥
-    none z (inl h) = omega arith
-    none z (inr (inl h)) = omega arith
-    none z (inr (inr h)) = omega arith
+other (said.Number v) h acc f = absurd (h v refl)
 other (said.Content a z) h acc f = refl
 other said.End h acc f = refl
 other (said.Refused k p) h acc f = refl

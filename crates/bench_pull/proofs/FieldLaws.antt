@@ -5,11 +5,9 @@ use native.Mathlib.Omega.{arith}
 use mathlib.Core.Bool.{true, false}
 use mathlib.Core.Path.{◌≡◌, refl, sym, ap, ◌∙◌}
 use mathlib.Core.List.{List}
-use mathlib.Core.Logic.{◌⊎◌, inl, inr}
 use lib.Bits.{bit_xor}
 use lib.ListN.{length, drop}
 use borrow.Author.Tests.{le-leb, lt-leb, ne_eqb}
-use denote.Enum.Declared.{tag_of}
 use Rattle.spec.specs.Names.{most_levels, too_deep}
 use Rattle.spec.specs.Base.{part, Read, Took, No}
 use Rattle.spec.specs.Varint.{varint32}
@@ -18,7 +16,6 @@ use Rattle.spec.specs.Pull as spec
 use Rattle.spec.specs.Pull.{Ask, raw_tag, value, bytes, string, skip, moved, numbered, step_at, enter_at}
 use Rattle.spec.proofs.VarintLaws.{lower_or_not}
 use Rattle.spec.proofs.PullLaws.{enter_too_deep, raw_tag_lem, fewest, fewest_raw, goes_forward, takes_fewest, content_in, enter_content_in}
-use Rattle.wire.specs.Answers as wire
 use Rattle.wire.specs.declared.found.Found.{Found}
 use Rattle.wire.specs.declared.found.Found.TheVariants as found
 use Rattle.wire.proofs.FoundLaws.{varint_placed}
@@ -26,36 +23,30 @@ use Rattle.pull.specs.Told.{as_moved, said_told}
 use Rattle.pull.specs.declared.step.Moved.{Moved}
 use Rattle.pull.specs.declared.step.Said.{Said}
 use Rattle.pull.specs.declared.step.Said.TheVariants as said
-use Rattle.pull.specs.contracts.step.Said.{the_type}
 use Rattle.bench_pull.specs.declared.message.Sum.{Sum}
 use Rattle.bench_pull.specs.declared.message.Sum.TheVariants.{All, Part}
 use Rattle.bench_pull.specs.Fields.{root_int32, root_string, root_message, root_float, root_bool, inner_uint32, inner_bytes, root_ask, inner_ask, amount, amount_of, Ordered, number_on, content_on, found_on, sum_on, elements, Way, field, turns, inner_way, inner, root_content}
 
 -- ---- what a step says
 
--- it is none of a sort, by its variant's tag
-abbrev pub Among : (a b c : ℕ) → Said → Type 0
-Among a b c x = (tag_of the_type x ≡ a) ⊎ ((tag_of the_type x ≡ b) ⊎ (tag_of the_type x ≡ c))
+-- it is no number, or no content
+abbrev pub NoNumber : Said → Type 0
+NoNumber x = (v : ℕ) → x ≡ said.Number v → ⊥
 
-none_of : {a b c n k : ℕ} → n ≡ k → k < a ⊎ a < k → k < b ⊎ b < k → k < c ⊎ c < k → (n ≡ a) ⊎ ((n ≡ b) ⊎ (n ≡ c)) → ⊥
-none_of z (inl i) j l (inl h) = omega arith
-none_of z (inr i) j l (inl h) = omega arith
-none_of z i (inl j) l (inr (inl h)) = omega arith
-none_of z i (inr j) l (inr (inl h)) = omega arith
-none_of z i j (inl l) (inr (inr h)) = omega arith
-none_of z i j (inr l) (inr (inr h)) = omega arith
+abbrev pub NoContent : Said → Type 0
+NoContent x = (a z : ℕ) → x ≡ said.Content a z → ⊥
 
-no_number : (x : Said) → Among 1 2 3 x → (acc : ℕ) (f : ℕ → Sum) → number_on acc (said_told x) f ≡ Part acc
+no_number : (x : Said) → NoNumber x → (acc : ℕ) (f : ℕ → Sum) → number_on acc (said_told x) f ≡ Part acc
 unfolding number_on
-no_number (said.Number v) h acc f = absurd (none_of refl (inl (omega arith)) (inl (omega arith)) (inl (omega arith)) h)
+no_number (said.Number v) h acc f = absurd (h v refl)
 no_number (said.Content a z) h acc f = refl
 no_number said.End h acc f = refl
 no_number (said.Refused k p) h acc f = refl
 
-no_content : (x : Said) → Among 0 2 3 x → (acc : ℕ) (f : ℕ → ℕ → Sum) → content_on acc (said_told x) f ≡ Part acc
+no_content : (x : Said) → NoContent x → (acc : ℕ) (f : ℕ → ℕ → Sum) → content_on acc (said_told x) f ≡ Part acc
 unfolding content_on
 no_content (said.Number v) h acc f = refl
-no_content (said.Content a z) h acc f = absurd (none_of refl (inr (omega arith)) (inl (omega arith)) (inl (omega arith)) h)
+no_content (said.Content a z) h acc f = absurd (h a z refl)
 no_content said.End h acc f = refl
 no_content (said.Refused k p) h acc f = refl
 
@@ -141,7 +132,7 @@ module _ {s : List ℕ} {from at acc : ℕ} (m : Moved) (x : Rest s from at acc)
   unfolding elements
   turned k = rw (lt-leb (length s) at l, ← e) refl
 
-  pub rest_refused : Among 1 2 3 m.said → Part acc ≡ elements (length s) from 0 s
+  pub rest_refused : NoNumber m.said → Part acc ≡ elements (length s) from 0 s
   rest_refused h = sym (x.same ∙ go x.left x.few)
     where
       go : (k : ℕ) → length s ≤ at + k → elements k acc at s ≡ Part acc
@@ -218,7 +209,7 @@ module _ {w : Way} {whole : Sum} {s : List ℕ} {at acc : ℕ} (t : Moved) (x : 
       go zero f q = absurd (omega arith)
       go (suc k) f q = record { left = k; few = f; same = q ∙ rw (lt-leb (length s) at l, ← e) refl }
 
-  pub tag_refused : Among 1 2 3 t.said → Part acc ≡ whole
+  pub tag_refused : NoNumber t.said → Part acc ≡ whole
   tag_refused h = sym (turn.same ∙ no_number t.said h acc _)
 
   module _ {g : ℕ} (n : t.said ≡ said.Number g) where
@@ -242,7 +233,7 @@ module _ {w : Way} {whole : Sum} {s : List ℕ} {at acc : ℕ} (t : Moved) (x : 
       unfolding field
       entered = tagged ∙ rw (h, ← f) refl
 
-      pub enter_refused : Among 0 2 3 m.said → Part acc ≡ whole
+      pub enter_refused : NoContent m.said → Part acc ≡ whole
       enter_refused r = sym (entered ∙ no_content m.said r acc _)
 
       module _ {a z : ℕ} (q : m.said ≡ said.Content a z) where

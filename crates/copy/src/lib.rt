@@ -2,8 +2,7 @@
 // begins before the bytes or ends after them.
 #![tactic(auto)]
 
-ghost use Rattle.std.specs.Prelude.{◌≡◌, ◌+◌, ◌≤◌, ◌<◌, length, leb};
-ghost use Rattle.spec.specs.Base.{if◌then◌else◌};
+ghost use Rattle.std.specs.Prelude.{◌≡◌, ◌+◌, ◌≤◌, ◌<◌, length, leb, if◌then◌else◌};
 ghost use Rattle.wire.specs.Answers.{stored};
 ghost use Rattle.copy.specs.Pieces.{copied, four, word, pair, half, block};
 

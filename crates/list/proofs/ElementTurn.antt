@@ -9,7 +9,7 @@ use lib.ListN.{length, drop, get_or, length-drop}
 use lib.Dec.{eqb}
 use borrow.Author.Tests.{eq-eqb, eqb-true}
 use Rattle.spec.specs.Names.{invalid_list, kind_column, number_column, value_column}
-use Rattle.spec.specs.Base.{if◌then◌else◌}
+use Rattle.std.specs.Prelude.{if◌then◌else◌}
 use Rattle.spec.specs.Kind.{Scalar, one, shape, fits}
 use Rattle.spec.specs.Schema.{Schema}
 use Rattle.spec.specs.Record.{broken, stride, record_at, records_from}

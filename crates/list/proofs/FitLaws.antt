@@ -10,7 +10,7 @@ use lib.ListN.{take, get_or, get_or-eq_default}
 use lib.Dec.{leb, ltb, eqb}
 use borrow.Author.Tests.{lt-ltb, le-ltb, le-leb, ne_eqb, leb-true}
 use Rattle.spec.specs.Names.{bool_kind, delimited_wire, enum_kind, fixed32_kind, fixed32_wire, float_kind, group_kind, int32_kind, sfixed32_kind, sint32_kind, uint32_kind, unknown_fixed32, all_kinds, double_kind, no_wire, own_kinds, record_kinds, sint64_kind}
-use Rattle.spec.specs.Base.{if◌then◌else◌}
+use Rattle.std.specs.Prelude.{if◌then◌else◌}
 use Rattle.spec.specs.Kind.{Scalar, int32, uint32, uint64, bool, sint32, sint64, fixed32, sfixed32, fixed64, Shape, one, other, string, bytes, message, packed, startGroup, endGroup, nothing, kind_wires, own_wires, wires, wire, shapes, shape, signed32, fits}
 use Rattle.spec.specs.Writing.{recorded}
 use Rattle.spec.proofs.ListLaws.{recorded_small}

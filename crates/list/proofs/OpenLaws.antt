@@ -10,7 +10,7 @@ use lib.ListN.{length, drop, get_or, set}
 use lib.Seq.{get_or-set_same, get_or-set_other}
 use borrow.Author.Tests.{le-ltb}
 use Rattle.spec.specs.Names.{invalid_list}
-use Rattle.spec.specs.Base.{if◌then◌else◌}
+use Rattle.std.specs.Prelude.{if◌then◌else◌}
 use Rattle.spec.specs.Schema.{Schema}
 use Rattle.spec.specs.Record.{Record}
 use Rattle.spec.specs.Writing.{Place, Fields, around, inside, record_fault, Fine, Faulty, or_else, list_fault}

@@ -10,7 +10,8 @@ use lib.ListN.{length, drop, get_or, length-drop, drop_of_length-le}
 use lib.Dec.{leb, eqb}
 use borrow.Author.Tests.{le-leb, lt-leb, eq-eqb, ne_eqb, leb-true, leb-false, eqb-true}
 use Rattle.spec.specs.Names.{fixed32_wire, invalid_list, largest_number, message_kind, most_levels, not_utf8, packed_head, string_kind, too_deep, delimited_wire, kind_column, most_types, no_wire, record_kinds, start_column, stop_column, unknown_fixed32, value_column}
-use Rattle.spec.specs.Base.{if◌then◌else◌, between, part}
+use Rattle.std.specs.Prelude.{if◌then◌else◌}
+use Rattle.spec.specs.Base.{between, part}
 use Rattle.spec.specs.Utf8.{utf8}
 use Rattle.spec.specs.Kind.{Scalar, Shape, one, other, nothing, shapes, shape, is_scalar, wire, fits}
 use Rattle.spec.specs.Schema.{Schema, lookup, kind_of, Says, inside_of, says_of, says}

@@ -9,7 +9,7 @@ use lib.ListN.{length, get_or, set, length-set}
 use lib.Seq.{get_or-set_same, get_or-set_other}
 use borrow.Author.Tests.{eq-eqb, ne_eqb}
 use Rattle.spec.specs.Names.{invalid_list, most_levels, delimited_wire, kind_column, message_kind, most_types, number_column, packed_head, value_column}
-use Rattle.spec.specs.Base.{if◌then◌else◌}
+use Rattle.std.specs.Prelude.{if◌then◌else◌}
 use Rattle.spec.specs.Kind.{Scalar, one, shape, kind_wires, own_wires, wires, wire, fits}
 use Rattle.spec.specs.Schema.{Schema}
 use Rattle.spec.specs.Record.{broken, records_of, stride, record_at, records_from}

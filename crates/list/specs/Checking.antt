@@ -1,9 +1,9 @@
 -- What the parts of the list check ask and answer. The check goes over the records with the tables of a schema; a place in the list counts
 -- numbers, `stride` to a record. Assumes nothing: these are definitions. Only inner functions and loops cite it.
-use Rattle.std.specs.Prelude.{ℕ, zero, suc, ◌+◌, ◌*◌, ◌/◌, ◌%◌, ◌^◌, ◌≤◌, ◌<◌, ◌≡◌, Bool, true, false, not, ◌&&◌, ◌||◌, List, [], ◌∷◌, length, drop, get_or, leb, eqb}
+use Rattle.std.specs.Prelude.{ℕ, zero, suc, ◌+◌, ◌*◌, ◌/◌, ◌%◌, ◌^◌, ◌≤◌, ◌<◌, ◌≡◌, Bool, true, false, not, ◌&&◌, ◌||◌, List, [], ◌∷◌, length, drop, get_or, leb, eqb, if◌then◌else◌}
 use Rattle.std.proofs.Math.Option.{none}
 use Rattle.spec.specs.Names.{enum_kind, fixed32_kind, fixed32_wire, float_kind, int32_kind, invalid_list, message_kind, not_utf8, packed_head, sfixed32_kind, sint32_kind, string_kind, uint32_kind, unknown_fixed32, most_types}
-use Rattle.spec.specs.Base.{if◌then◌else◌, part}
+use Rattle.spec.specs.Base.{part}
 use Rattle.spec.specs.Utf8.{utf8}
 use Rattle.spec.specs.Kind.{Scalar, one, shape, wire}
 use Rattle.spec.specs.Schema.{Schema, bad_schema, lookup, says}

@@ -8,7 +8,8 @@ use lib.ListN.{length, take, drop}
 use lib.Seq.{take-append-le}
 use lib.Dec.{ltb}
 use Rattle.spec.specs.Names.{ends_early}
-use Rattle.spec.specs.Base.{if◌then◌else◌, filled}
+use Rattle.std.specs.Prelude.{if◌then◌else◌}
+use Rattle.spec.specs.Base.{filled}
 use Rattle.spec.specs.Reading as message
 use Rattle.spec.specs.Writing.{Writing, Wrote, output, sent, size}
 use Rattle.spec.specs.Writing as writer

@@ -7,7 +7,8 @@ use mathlib.Core.List.{List, []}
 use lib.ListN.{length}
 use lib.Dec.{ltb}
 use Rattle.spec.specs.Names.{output_short, too_large}
-use Rattle.spec.specs.Base.{if◌then◌else◌, limit}
+use Rattle.std.specs.Prelude.{if◌then◌else◌}
+use Rattle.spec.specs.Base.{limit}
 use Rattle.spec.specs.Schema.{Schema}
 use Rattle.spec.specs.Record.{Record}
 use Rattle.spec.specs.Writing.{written, Verdict, Fine, Faulty, list_check, Writing, Wrote, Failed, judged, sized, writing}

@@ -10,7 +10,8 @@ use lib.ListN.{length}
 use lib.Dec.{ltb, eqb}
 use borrow.Author.Tests.{ltb-true, leb-true, le-leb, eq-eqb, lt-ltb}
 use Rattle.spec.specs.Names.{delimited_wire}
-use Rattle.spec.specs.Base.{if◌then◌else◌, between}
+use Rattle.std.specs.Prelude.{if◌then◌else◌}
+use Rattle.spec.specs.Base.{between}
 use Rattle.spec.specs.Varint.{zigzag, little}
 use Rattle.spec.specs.Kind.{Scalar, int32, uint32, uint64, bool, sint32, sint64, fixed32, sfixed32, fixed64, one, other, bytes, wires, wire, shapes, shape, encoded, fits}
 use Rattle.spec.specs.Schema.{Schema, rises, bad_entry, bad_schema, no_entry, lookup, unknown_kind}

@@ -11,7 +11,8 @@ use lib.Seq.{take-append_seam, drop-append_seam}
 use lib.Dec.{eqb}
 use borrow.Author.Tests.{le-leb, le-ltb, eqb-true, eqb-false, eq-eqb}
 use Rattle.spec.specs.Names.{message_kind, most_levels, output_short, packed_head, too_large, unknown_bytes, unknown_fixed32, unknown_fixed64, unknown_varint, fixed32_wire, delimited_wire}
-use Rattle.spec.specs.Base.{if◌then◌else◌, part, limit}
+use Rattle.std.specs.Prelude.{if◌then◌else◌}
+use Rattle.spec.specs.Base.{part, limit}
 use Rattle.spec.specs.Varint.{encode}
 use Rattle.spec.specs.Utf8.{utf8}
 use Rattle.spec.specs.Kind.{Scalar, Shape, one, other, string, bytes, message, packed, startGroup, endGroup, nothing, shapes, shape, wires, wire, encoded, fits}

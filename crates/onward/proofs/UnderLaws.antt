@@ -11,7 +11,8 @@ use lib.Seq.{take-append_seam, drop-append_seam}
 use lib.Dec.{eqb}
 use borrow.Author.Tests.{eq-eqb}
 use Rattle.spec.specs.Names.{message_kind, packed_head}
-use Rattle.spec.specs.Base.{if◌then◌else◌, part, limit}
+use Rattle.std.specs.Prelude.{if◌then◌else◌}
+use Rattle.spec.specs.Base.{part, limit}
 use Rattle.spec.specs.Varint.{encode}
 use Rattle.spec.specs.Kind.{Scalar, Shape, one, shape, encoded}
 use Rattle.spec.specs.Schema.{Schema, lookup, inside_of}

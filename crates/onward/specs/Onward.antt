@@ -1,9 +1,9 @@
 -- Demand 3: what was written under a newer schema goes through an older one unharmed. The older schema is the newer one with some entries left out.
 -- It is stated in the last section; the sections before it say what its words mean. Assumes nothing: these are definitions. Public promises cite it.
-use Rattle.std.specs.Prelude.{ℕ, zero, suc, ◌%◌, ◌^◌, ◌≤◌, ◌≡◌, Bool, true, false, not, List, [], ◌∷◌, ◌++◌, map, length, take, drop, eqb}
+use Rattle.std.specs.Prelude.{ℕ, zero, suc, ◌%◌, ◌^◌, ◌≤◌, ◌≡◌, Bool, true, false, not, List, [], ◌∷◌, ◌++◌, map, length, take, drop, eqb, if◌then◌else◌}
 use Rattle.std.proofs.Math.Option.{none}
 use Rattle.spec.specs.Names.{message_kind, packed_head}
-use Rattle.spec.specs.Base.{if◌then◌else◌, part, limit}
+use Rattle.spec.specs.Base.{part, limit}
 use Rattle.spec.specs.Varint.{zigzag}
 use Rattle.spec.specs.Kind.{Scalar, int32, uint32, uint64, bool, sint32, sint64, fixed32, sfixed32, fixed64, Shape, one, other, string, bytes, message, packed, startGroup, endGroup, nothing, shape, wire}
 use Rattle.spec.specs.Schema.{Schema, bad_schema, lookup, unknown_kind}

@@ -1,9 +1,9 @@
 -- That a content holds all that was under it: the content of a message or packed field, read alone, shows the records that were under its head. So who
 -- receives an unknown field from an older reader, and has the newer schema, has everything. Assumes nothing: these are definitions. Only laws cite it.
-use Rattle.std.specs.Prelude.{ℕ, ◌+◌, ◌-◌, ◌≤◌, ◌≡◌, true, List, ◌∷◌, map, length, take, drop, eqb}
+use Rattle.std.specs.Prelude.{ℕ, ◌+◌, ◌-◌, ◌≤◌, ◌≡◌, true, List, ◌∷◌, map, length, take, drop, eqb, if◌then◌else◌}
 use Rattle.std.proofs.Math.Option.{none}
 use Rattle.spec.specs.Names.{message_kind, packed_head}
-use Rattle.spec.specs.Base.{if◌then◌else◌, limit}
+use Rattle.spec.specs.Base.{limit}
 use Rattle.spec.specs.Kind.{shape}
 use Rattle.spec.specs.Schema.{Schema, bad_schema, lookup, inside_of}
 use Rattle.spec.specs.Record.{Record, row, deeper}

@@ -1,8 +1,7 @@
 -- What the functions of this crate store: bytes from a position on, and the texts of numbers and of listings.
 -- A text is a list of bytes in ASCII. Assumes nothing: these are definitions. Public promises cite it.
-use Rattle.std.specs.Prelude.{ℕ, zero, suc, ◌+◌, ◌/◌, ◌%◌, ◌≡◌, List, [], ◌∷◌, ◌++◌, ltb, eqb, length, set}
+use Rattle.std.specs.Prelude.{ℕ, zero, suc, ◌+◌, ◌/◌, ◌%◌, ◌≡◌, List, [], ◌∷◌, ◌++◌, ltb, eqb, length, set, if◌then◌else◌}
 use Rattle.spec.specs.Names.{tag_column}
-use Rattle.spec.specs.Base.{if◌then◌else◌}
 
 -- ---- storing
 

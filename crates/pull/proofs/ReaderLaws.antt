@@ -8,7 +8,8 @@ use lib.ListN.{length}
 use lib.Dec.{ltb}
 use denote.Ref.{Bor}
 use Rattle.spec.specs.Names.{too_large}
-use Rattle.spec.specs.Base.{if◌then◌else◌, part, limit}
+use Rattle.std.specs.Prelude.{if◌then◌else◌}
+use Rattle.spec.specs.Base.{part, limit}
 use Rattle.spec.specs.Pull as spec
 use Rattle.spec.specs.Pull.{says, reader, opened, stepped, entered, step_at, enter_at}
 use Rattle.pull.specs.declared.step.Ask.{Ask}

@@ -1,7 +1,7 @@
 -- What the pull reader's structs say, in the definitions' terms. Assumes nothing: these are definitions. Public promises cite it.
-use Rattle.std.specs.Prelude.{ℕ, List, [], length, ltb}
+use Rattle.std.specs.Prelude.{ℕ, List, [], length, ltb, if◌then◌else◌}
 use Rattle.spec.specs.Names.{too_large}
-use Rattle.spec.specs.Base.{if◌then◌else◌, limit}
+use Rattle.spec.specs.Base.{limit}
 use Rattle.spec.specs.Pull as spec
 use Rattle.pull.specs.Told.{said_told}
 use Rattle.pull.specs.declared.reader.Reader.{Reader}

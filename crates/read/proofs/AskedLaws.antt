@@ -9,7 +9,8 @@ use lib.Seq.{drop-drop}
 use lib.Dec.{leb, eqb}
 use borrow.Author.Tests.{ne_eqb, leb-false}
 use Rattle.spec.specs.Names.{bad_tag, message_kind, most_levels, no_group_open, not_utf8, packed_head, too_deep}
-use Rattle.spec.specs.Base.{if◌then◌else◌, part, Read, Took, No}
+use Rattle.std.specs.Prelude.{if◌then◌else◌}
+use Rattle.spec.specs.Base.{part, Read, Took, No}
 use Rattle.spec.specs.Varint.{varint32, varint64, tag}
 use Rattle.spec.specs.Utf8.{utf8, valid_end}
 use Rattle.spec.specs.Kind.{Shape, one, other, string, bytes, message, packed, startGroup, endGroup, nothing, shape, scalar}

@@ -9,7 +9,8 @@ use lib.ListN.{length, drop, take, get_or, length-drop}
 use lib.Dec.{eqb}
 use borrow.Author.Tests.{le-leb, lt-leb, eqb-true, eqb-false}
 use Rattle.spec.specs.Names.{bytes_kind, message_kind, most_levels, packed_head, string_kind, unknown_bytes, bad_tag, fixed32_wire, not_utf8, too_deep}
-use Rattle.spec.specs.Base.{if◌then◌else◌, Read, Took, No}
+use Rattle.std.specs.Prelude.{if◌then◌else◌}
+use Rattle.spec.specs.Base.{Read, Took, No}
 use Rattle.spec.specs.Varint.{varint32, tag, good_tag}
 use Rattle.spec.specs.Utf8.{utf8}
 use Rattle.spec.specs.Kind.{head_kind, Shape, one, other, string, bytes, message, packed, startGroup, endGroup, nothing, shape, shapes}

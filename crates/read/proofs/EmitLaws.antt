@@ -11,7 +11,8 @@ use lib.Seq.{set-append_seam, drop-drop}
 use lib.Dec.{leb}
 use borrow.Author.Tests.{le-leb, lt-leb}
 use Rattle.spec.specs.Names.{no_room}
-use Rattle.spec.specs.Base.{if◌then◌else◌, filled}
+use Rattle.std.specs.Prelude.{if◌then◌else◌}
+use Rattle.spec.specs.Base.{filled}
 use Rattle.spec.specs.Record.{Record, stride, numbers, stored}
 use Rattle.spec.specs.Reading.{Reading, Done, Refused, ◌then◌, ◌followed_by◌, within, number, place, listed, room_after}
 use Rattle.read.specs.Emit.{Left, left, stored_from, placed, emit}

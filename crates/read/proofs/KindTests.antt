@@ -10,7 +10,8 @@ use lib.ListN.{get_or-eq_default}
 use lib.Dec.{T, leb, ltb, eqb}
 use borrow.Author.Tests.{lt-ltb, le-ltb, le-leb, lt-leb, ne_eqb, eqb-true}
 use Rattle.spec.specs.Names.{all_kinds, bad_tag, bool_kind, bytes_kind, double_kind, enum_kind, fixed32_kind, fixed64_kind, float_kind, group_end, group_start, int32_kind, int64_kind, message_kind, out_of_range, packed_head, sfixed32_kind, sfixed64_kind, sint32_kind, sint64_kind, string_kind, uint32_kind, unknown_bytes, unknown_fixed32, unknown_fixed64, unknown_varint}
-use Rattle.spec.specs.Base.{if◌then◌else◌, Read, Took, No, meaning, require}
+use Rattle.std.specs.Prelude.{if◌then◌else◌}
+use Rattle.spec.specs.Base.{Read, Took, No, meaning, require}
 use Rattle.spec.specs.Varint.{varint32, varint64, unzigzag}
 use Rattle.spec.specs.Kind.{int32, uint32, uint64, bool, sint32, sint64, fixed32, sfixed32, fixed64, Shape, one, other, string, bytes, message, packed, startGroup, endGroup, nothing, shape, shapes, scalar, signed32}
 use Rattle.spec.specs.Schema.{bit}

@@ -1,8 +1,8 @@
 -- What the functions of this crate answer, by the definitions of reading. Assumes nothing: these are definitions. Public promises cite it. That a field which is asked
 -- for so is the field of the definition is a law (proofs/AskedLaws).
-use Rattle.std.specs.Prelude.{ℕ, suc, ◌+◌, ◌-◌, ◌/◌, ◌%◌, ◌^◌, ◌≤◌, ◌<◌, min, ◌≡◌, Bool, true, false, not, ◌||◌, List, drop, get_or, leb, eqb}
+use Rattle.std.specs.Prelude.{ℕ, suc, ◌+◌, ◌-◌, ◌/◌, ◌%◌, ◌^◌, ◌≤◌, ◌<◌, min, ◌≡◌, Bool, true, false, not, ◌||◌, List, drop, get_or, leb, eqb, if◌then◌else◌}
 use Rattle.spec.specs.Names.{bytes_kind, enum_kind, int32_kind, message_kind, most_levels, packed_head, sint32_kind, string_kind, uint32_kind, unknown_bytes, varint_wire, bad_tag, no_group_open, not_utf8, out_of_range, too_deep}
-use Rattle.spec.specs.Base.{if◌then◌else◌, part, Read, Took, No}
+use Rattle.spec.specs.Base.{part, Read, Took, No}
 use Rattle.spec.specs.Varint.{varint, varint32, varint64, unzigzag, tag}
 use Rattle.spec.specs.Utf8.{utf8, valid_end}
 use Rattle.spec.specs.Kind.{Scalar, int32, uint32, uint64, bool, sint32, sint64, fixed32, sfixed32, fixed64, Shape, one, other, string, bytes, message, packed, startGroup, endGroup, nothing, shape, scalar, signed32, head_kind}

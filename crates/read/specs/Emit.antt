@@ -1,8 +1,7 @@
 -- What a reader does with lent room: each record in order is stored after those before it, until one does not fit. Assumes nothing: these are
 -- definitions. That reading from the start of the room leaves what the definition of the call says is a law (proofs/EmitLaws). Only inner functions and loops cite it.
-use Rattle.std.specs.Prelude.{ℕ, suc, ◌+◌, ◌≤◌, ◌≡◌, List, [], ◌∷◌, length, set, leb}
+use Rattle.std.specs.Prelude.{ℕ, suc, ◌+◌, ◌≤◌, ◌≡◌, List, [], ◌∷◌, length, set, leb, if◌then◌else◌}
 use Rattle.spec.specs.Names.{no_room}
-use Rattle.spec.specs.Base.{if◌then◌else◌}
 use Rattle.spec.specs.Record.{Record, stride, numbers}
 use Rattle.spec.specs.Reading.{Reading, Done, Refused, ◌then◌}
 use Rattle.read.specs.declared.room.Step.{Step}

@@ -1,8 +1,8 @@
 // Values that are one number, at a place of a slice.
-ghost use Rattle.std.specs.Prelude.{◌≡◌, ◌+◌, ◌<◌, length, drop};
+ghost use Rattle.std.specs.Prelude.{◌≡◌, ◌+◌, ◌<◌, length, drop, if◌then◌else◌};
 ghost use Rattle.spec.specs.Names.{bad_tag};
 ghost use Rattle.spec.specs.Varint.{fixed};
-ghost use Rattle.spec.specs.Base.{if◌then◌else◌, No, meaning};
+ghost use Rattle.spec.specs.Base.{No, meaning};
 ghost use Rattle.spec.specs.Kind.{shape, extend};
 ghost use Rattle.wire.specs.Answers.{as_read};
 ghost use Rattle.wire.specs.Reached.{varint_of};

@@ -7,7 +7,7 @@ use lib.ListN.{get_or}
 use lib.Dec.{ltb, eqb}
 use borrow.Author.Tests.{lt-ltb, le-ltb, eq-eqb, ne_eqb, ltb-true, eqb-true}
 use Rattle.spec.specs.Names.{delimited_wire, message_kind, most_types, packed_head}
-use Rattle.spec.specs.Base.{if◌then◌else◌}
+use Rattle.std.specs.Prelude.{if◌then◌else◌}
 use Rattle.spec.proofs.Laws.{both, both_true, by_test}
 use Rattle.schema.specs.Layout.{guessed_tags, guesses, inners_at, key_count, kinds_at, may_pack, not_found, owner_unit}
 use Rattle.schema.specs.Search.{seek}

@@ -9,7 +9,7 @@ use lib.ListN.{length, get_or}
 use lib.Dec.{eqb}
 use borrow.Author.Tests.{lt-ltb, le-ltb, eqb-true, eqb-false}
 use Rattle.spec.specs.Names.{entry_number_column}
-use Rattle.spec.specs.Base.{if◌then◌else◌}
+use Rattle.std.specs.Prelude.{if◌then◌else◌}
 use Rattle.spec.specs.Schema.{Schema, bad_schema, good_entry, place_of, schema_of, entry_stride}
 use Rattle.spec.proofs.Laws.{by_test}
 use Rattle.spec.proofs.SchemaLaws.{Before, type_before, number_before, at, entry_at, length_entries, rest_bad, place_found, valid_good}

@@ -9,7 +9,7 @@ use mathlib.Core.Option.{Option, none, some}
 use lib.ListN.{length}
 use lib.Dec.{ltb, eqb}
 use borrow.Author.Tests.{lt-ltb, le-ltb, eq-eqb, ne_eqb}
-use Rattle.spec.specs.Base.{if◌then◌else◌}
+use Rattle.std.specs.Prelude.{if◌then◌else◌}
 use Rattle.spec.specs.Schema.{Schema, bad_schema, place_of}
 use Rattle.spec.proofs.VarintLaws.{lower_or_not}
 use Rattle.spec.proofs.SchemaLaws.{Is, Before, type_before, number_before, at, place_found, valid_rises, valid_found}

@@ -9,7 +9,7 @@ use lib.ListN.{length, get_or, replicate, length-replicate, get_or-replicate, ge
 use lib.Dec.{eqb}
 use borrow.Author.Tests.{eq-eqb, ne_eqb, eqb-true, eqb-false}
 use Rattle.spec.specs.Names.{delimited_wire, fixed32_wire, group_kind, message_kind, packed_head, most_entries, most_types, own_kinds, sint64_kind, unknown_varint}
-use Rattle.spec.specs.Base.{if◌then◌else◌}
+use Rattle.std.specs.Prelude.{if◌then◌else◌}
 use Rattle.spec.specs.Kind.{Scalar, one, kind_wires, own_wires, wires, wire, shapes, shape, is_scalar}
 use Rattle.spec.specs.Schema.{Schema, bad_schema, no_entry, lookup, place_of, unknown_kind, kind_of, Says, says_of, says, bit}
 use Rattle.spec.proofs.Laws.{either_way, chosen, both, both_true, by_test}

@@ -11,7 +11,8 @@ use lib.Seq.{get_or-drop, drop-drop}
 use lib.Dec.{leb, ltb, eqb}
 use borrow.Author.Tests.{ltb-true, ltb-false, lt-ltb, le-ltb, le-leb, lt-leb, leb-true, eqb-true, eqb-false, eq-eqb, ne_eqb}
 use Rattle.spec.specs.Names.{group_kind, largest_number, message_kind, sint64_kind, child_column, double_kind, entry_kind_column, entry_number_column, most_entries, most_types, repeated_column}
-use Rattle.spec.specs.Base.{if◌then◌else◌, between}
+use Rattle.std.specs.Prelude.{if◌then◌else◌}
+use Rattle.spec.specs.Base.{between}
 use Rattle.spec.specs.Schema.{Schema, rises, good_entry, bad_entry, bad_schema, no_entry, entry_of, entries_of, schema_of, entry_stride}
 use Rattle.spec.proofs.Laws.{both, by_test}
 use Rattle.spec.proofs.VarintLaws.{lower_or_not}

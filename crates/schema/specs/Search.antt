@@ -1,9 +1,8 @@
 -- A search by halves. What is searched is any function from places to numbers, so that the same is said of the numbers of a schema and of
 -- the keys of its tables. Assumes nothing: these are definitions. Public promises cite it.
-use Rattle.std.specs.Prelude.{ℕ, zero, suc, ◌+◌, ◌*◌, ◌/◌, not, List, length, get_or, ltb, eqb}
+use Rattle.std.specs.Prelude.{ℕ, zero, suc, ◌+◌, ◌*◌, ◌/◌, not, List, length, get_or, ltb, eqb, if◌then◌else◌}
 use Rattle.std.proofs.Math.Option.{Option, none, some}
 use Rattle.spec.specs.Names.{entry_number_column}
-use Rattle.spec.specs.Base.{if◌then◌else◌}
 use Rattle.spec.specs.Schema.{entry_stride}
 use Rattle.schema.specs.Layout.{owner_unit}
 

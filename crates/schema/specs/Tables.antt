@@ -2,10 +2,10 @@
 -- for all of them, and that those made of a valid schema say what the schema says is a law (proofs/TableLaws).
 -- How they are laid out, with the names of their places, is in specs/Layout.
 -- Assumes nothing: these are definitions. Public promises cite it.
-use Rattle.std.specs.Prelude.{ℕ, ◌+◌, ◌*◌, ◌/◌, ◌%◌, Bool, not, ◌&&◌, List, [], ◌∷◌, get_or, replicate, set, take, leb, ltb, eqb}
+use Rattle.std.specs.Prelude.{ℕ, ◌+◌, ◌*◌, ◌/◌, ◌%◌, Bool, not, ◌&&◌, List, [], ◌∷◌, get_or, replicate, set, take, leb, ltb, eqb, if◌then◌else◌}
 use Rattle.std.proofs.Math.Option.{Option, none, some}
 use Rattle.spec.specs.Names.{delimited_wire, message_kind, most_types, packed_head}
-use Rattle.spec.specs.Base.{if◌then◌else◌, between}
+use Rattle.spec.specs.Base.{between}
 use Rattle.spec.specs.Kind.{wire}
 use Rattle.spec.specs.Schema.{Schema, good_entry, bad_schema, entry_stride, Says, unknown_kind}
 use Rattle.spec.specs.declared.Entry.{Entry}

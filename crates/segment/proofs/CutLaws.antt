@@ -11,7 +11,8 @@ use lib.Seq.{take-append-le, take-append-add, length-take-le}
 use lib.Dec.{leb, ltb}
 use borrow.Author.Tests.{le-leb, lt-leb, le-ltb, lt-ltb}
 use Rattle.spec.specs.Names.{ends_early}
-use Rattle.spec.specs.Base.{if◌then◌else◌, limit, part, Took, No, digit}
+use Rattle.std.specs.Prelude.{if◌then◌else◌}
+use Rattle.spec.specs.Base.{limit, part, Took, No, digit}
 use Rattle.spec.specs.Varint.{varint, shortest, encode, varint32}
 use Rattle.spec.specs.Skip.{content, spanned}
 use Rattle.spec.specs.Writing.{prefixed}

@@ -10,7 +10,8 @@ use lib.Seq.{set-append_seam, drop-drop}
 use lib.Dec.{leb}
 use borrow.Author.Tests.{le-leb, lt-leb}
 use Rattle.spec.specs.Names.{ends_early, no_room}
-use Rattle.spec.specs.Base.{if◌then◌else◌, Took, No}
+use Rattle.std.specs.Prelude.{if◌then◌else◌}
+use Rattle.spec.specs.Base.{Took, No}
 use Rattle.spec.specs.Varint.{varint32}
 use Rattle.spec.specs.Skip.{content, spanned}
 use Rattle.wire.specs.declared.found.Found.TheVariants as found

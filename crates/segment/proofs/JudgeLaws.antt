@@ -12,7 +12,8 @@ use lib.Seq.{drop-cons, length-take-le}
 use lib.Dec.{leb}
 use borrow.Author.Tests.{le-leb, lt-leb}
 use Rattle.spec.specs.Names.{invalid_list, output_short, too_large}
-use Rattle.spec.specs.Base.{if◌then◌else◌, part, filled, limit}
+use Rattle.std.specs.Prelude.{if◌then◌else◌}
+use Rattle.spec.specs.Base.{part, filled, limit}
 use Rattle.spec.specs.Varint.{encode}
 use Rattle.spec.specs.Writing as w
 use Rattle.spec.specs.Writing.{prefixed, Writing, number, index, output, sized}

@@ -10,7 +10,8 @@ use lib.ListN.{length, drop, get_or, set, length-append, length-set}
 use lib.Seq.{sets, sets-eq, length-sets}
 use lib.Dec.{leb}
 use borrow.Author.Tests.{le-leb, leb-true}
-use Rattle.spec.specs.Base.{if◌then◌else◌, part}
+use Rattle.std.specs.Prelude.{if◌then◌else◌}
+use Rattle.spec.specs.Base.{part}
 use Rattle.spec.specs.Varint.{encode}
 use Rattle.spec.specs.Writing.{prefixed}
 use Rattle.spec.proofs.Laws.{both}

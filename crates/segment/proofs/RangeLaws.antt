@@ -7,7 +7,7 @@ use mathlib.Core.List.{List, [], ◌∷◌}
 use mathlib.Core.Option.{Option, some}
 use lib.ListN.{length, drop}
 use lib.Seq.{drop-append_seam}
-use Rattle.spec.specs.Base.{if◌then◌else◌}
+use Rattle.std.specs.Prelude.{if◌then◌else◌}
 use Rattle.spec.specs.Writing.{sized}
 use Rattle.segment.specs.Segment.{range_stride, segment, Range, Ranges, Done, Refused, ◌then◌, within, listed, stored, room_after, ranges_of, content_of, contents_of, lies, bad_range, ranges_first, writing}
 

@@ -11,7 +11,8 @@ use lib.Seq.{drop-append_seam}
 use lib.Dec.{leb, ltb, eqb}
 use borrow.Author.Tests.{le-leb, le-ltb, leb-true, not-false}
 use Rattle.spec.specs.Names.{bad_mark, invalid_list, too_large}
-use Rattle.spec.specs.Base.{if◌then◌else◌, limit, Read, Took, No}
+use Rattle.std.specs.Prelude.{if◌then◌else◌}
+use Rattle.spec.specs.Base.{limit, Read, Took, No}
 use Rattle.spec.specs.Varint.{varint32, encode}
 use Rattle.spec.specs.Skip.{content}
 use Rattle.spec.specs.Writing.{prefixed, Writing, Wrote, number, sized}

@@ -1,9 +1,9 @@
 -- What is promised of segments: written ranges read back, and a segment that was cut gives the messages that are whole.
 -- Assumes nothing: these are definitions and statements. Public promises cite it.
-use Rattle.std.specs.Prelude.{ℕ, ◌+◌, ◌≤◌, ◌≡◌, List, [], ◌∷◌, length, take, leb, ltb}
+use Rattle.std.specs.Prelude.{ℕ, ◌+◌, ◌≤◌, ◌≡◌, List, [], ◌∷◌, length, take, leb, ltb, if◌then◌else◌}
 use Rattle.std.proofs.Math.Option.{none}
 use Rattle.spec.specs.Names.{ends_early}
-use Rattle.spec.specs.Base.{if◌then◌else◌, limit}
+use Rattle.spec.specs.Base.{limit}
 use Rattle.spec.specs.Varint.{encode}
 use Rattle.spec.specs.Writing.{prefixed, Wrote}
 use Rattle.segment.specs.Segment.{front_size, segment, Range, range, Ranges, Done, Refused, after, reading, contents_of, bad_range, writing}

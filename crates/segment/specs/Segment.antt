@@ -1,9 +1,9 @@
 -- A segment file: the letters WFM, a 16-bit little-endian version, and then each message after its length. What it reads as, and how it is written.
 -- Assumes nothing: these are definitions, from the user's request. Public promises cite it.
-use Rattle.std.specs.Prelude.{ℕ, zero, suc, ◌+◌, ◌*◌, Bool, ◌&&◌, not, List, [], ◌∷◌, ◌++◌, length, drop, get_or, leb, ltb, eqb}
+use Rattle.std.specs.Prelude.{ℕ, zero, suc, ◌+◌, ◌*◌, Bool, ◌&&◌, not, List, [], ◌∷◌, ◌++◌, length, drop, get_or, leb, ltb, eqb, if◌then◌else◌}
 use Rattle.std.proofs.Math.Option.{Option, none, some}
 use Rattle.spec.specs.Names.{bad_mark, invalid_list, no_room, other_version, too_large}
-use Rattle.spec.specs.Base.{if◌then◌else◌, part, filled, limit, Read, Took, No}
+use Rattle.spec.specs.Base.{part, filled, limit, Read, Took, No}
 use Rattle.spec.specs.Varint.{varint32}
 use Rattle.spec.specs.Skip.{content}
 use Rattle.spec.specs.Writing.{prefixed, Writing, Failed, sized}

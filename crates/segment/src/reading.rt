@@ -1,6 +1,5 @@
 // A segment to the ranges of its messages, in lent room.
-ghost use Rattle.std.specs.Prelude.{◌≡◌, ℕ, ◌/◌, ◌%◌, ◌≤◌, length, drop, eqb};
-ghost use Rattle.spec.specs.Base.{if◌then◌else◌};
+ghost use Rattle.std.specs.Prelude.{◌≡◌, ℕ, ◌/◌, ◌%◌, ◌≤◌, length, drop, eqb, if◌then◌else◌};
 ghost use Rattle.segment.specs.Segment.{front_size, range_stride, Refused, split, within, reading, number, place, listed, room_after};
 ghost use Rattle.segment.specs.Emit.{Further, Told};
 

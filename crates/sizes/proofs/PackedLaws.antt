@@ -7,7 +7,8 @@ use native.Mathlib.Omega.{arith}
 use lib.Dec.{eqb}
 use lib.ListN.{length, length-map}
 use borrow.Author.Tests.{ne_eqb}
-use Rattle.spec.specs.Base.{if◌then◌else◌, Read, Took, limit, limited}
+use Rattle.std.specs.Prelude.{if◌then◌else◌}
+use Rattle.spec.specs.Base.{Read, Took, limit, limited}
 use Rattle.spec.specs.Varint.{tag_size}
 use Rattle.spec.specs.Kind.{shape}
 use Rattle.spec.specs.Sizes.{prefixed_size, value_size, values_size, packed_size}

@@ -8,7 +8,8 @@ use lib.Dec.{eqb}
 use lib.ListN.{length, drop, length-drop}
 use borrow.Author.Tests.{le-leb}
 use Rattle.spec.specs.Names.{unknown_bytes, unknown_fixed32, unknown_varint}
-use Rattle.spec.specs.Base.{if◌then◌else◌, between}
+use Rattle.std.specs.Prelude.{if◌then◌else◌}
+use Rattle.spec.specs.Base.{between}
 use Rattle.spec.specs.Varint.{tag_size}
 use Rattle.spec.specs.Kind.{shapes, shape}
 use Rattle.spec.specs.Record.{row, records_of, stride, record_at}

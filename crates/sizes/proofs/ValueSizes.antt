@@ -9,7 +9,8 @@ use lib.Dec.{eqb}
 use lib.ListN.{length, get_or-eq_default}
 use borrow.Author.Tests.{le-leb, lt-leb}
 use Rattle.spec.specs.Names.{delimited_wire, fixed32_wire, fixed64_wire, varint_wire, all_kinds, sint32_kind, sint64_kind}
-use Rattle.spec.specs.Base.{if◌then◌else◌, between, limit, limited, Took}
+use Rattle.std.specs.Prelude.{if◌then◌else◌}
+use Rattle.spec.specs.Base.{between, limit, limited, Took}
 use Rattle.spec.specs.Varint.{size, tag_size, zigzag}
 use Rattle.spec.specs.Kind.{int32, uint32, uint64, bool, sint32, sint64, fixed32, sfixed32, fixed64, Shape, one, other, string, bytes, message, packed, startGroup, endGroup, nothing, shapes, shape, wire}
 use Rattle.spec.specs.Sizes.{scalar_size, prefixed_size, value_size, field_size}

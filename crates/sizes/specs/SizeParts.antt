@@ -1,8 +1,8 @@
 -- What the parts of the sizes answer: a size that is cut off just above the limit, so that no sum of such sizes can wrap, and the number that is written
 -- for a value. Assumes nothing: these are definitions. Only inner functions and loops cite it.
-use Rattle.std.specs.Prelude.{ℕ, ◌+◌, min}
+use Rattle.std.specs.Prelude.{ℕ, ◌+◌, min, if◌then◌else◌}
 use Rattle.spec.specs.Names.{sint32_kind, sint64_kind}
-use Rattle.spec.specs.Base.{if◌then◌else◌, between, limit}
+use Rattle.spec.specs.Base.{between, limit}
 use Rattle.spec.specs.Varint.{zigzag}
 
 -- at most one more than the limit

@@ -1,11 +1,11 @@
 // Sizes of packed fields, with their tags and lengths: src/rt/packed.rs. A field of no values is not written.
-ghost use Rattle.std.specs.Prelude.{◌≡◌, map, ◌+◌, ◌*◌, ◌^◌, ◌<◌, eqb};
+ghost use Rattle.std.specs.Prelude.{◌≡◌, map, ◌+◌, ◌*◌, ◌^◌, ◌<◌, eqb, if◌then◌else◌};
 ghost use Rattle.std.specs.Float.{binary32, binary64};
 ghost use Rattle.std.specs.Float.Ieee.{to_bits};
 ghost use Rattle.std.specs.Int.{w64};
 ghost use mir.Val.{of_z, bool_byte};
 ghost use Rattle.spec.specs.Names.{bool_kind, double_kind, enum_kind, fixed32_kind, fixed64_kind, float_kind, int32_kind, int64_kind, sfixed32_kind, sfixed64_kind, sint32_kind, sint64_kind, uint32_kind, uint64_kind};
-ghost use Rattle.spec.specs.Base.{if◌then◌else◌, Took, limited};
+ghost use Rattle.spec.specs.Base.{Took, limited};
 ghost use Rattle.spec.specs.Varint.{tag_size};
 ghost use Rattle.spec.specs.Kind.{shape};
 ghost use Rattle.spec.specs.Sizes.{prefixed_size, values_size, packed_size};

@@ -1,7 +1,6 @@
 // The size of unknown fields: src/rt/unknown_or_group.rs. They are in a list of records, STRIDE numbers each: depth, number, kind, value, start, end, tag.
-ghost use Rattle.std.specs.Prelude.{◌≡◌, [], ◌∷◌, ℕ, ◌-◌, ◌^◌, ◌<◌, eqb};
+ghost use Rattle.std.specs.Prelude.{◌≡◌, [], ◌∷◌, ℕ, ◌-◌, ◌^◌, ◌<◌, eqb, if◌then◌else◌};
 ghost use Rattle.spec.specs.Names.{unknown_bytes};
-ghost use Rattle.spec.specs.Base.{if◌then◌else◌};
 ghost use Rattle.spec.specs.Varint.{tag_size};
 ghost use Rattle.spec.specs.Record.{row, records_of};
 ghost use Rattle.spec.specs.Sizes.{unknowns_size, unknown_fields_size};

@@ -8,7 +8,8 @@ use lib.ListN.{length, drop, length-drop}
 use lib.Dec.{ltb, eqb}
 use borrow.Author.Tests.{ltb-false}
 use Rattle.spec.specs.Names.{bad_tag, end_group_wire, ends_early, too_large}
-use Rattle.spec.specs.Base.{if◌then◌else◌, limit, Read, Took, No, refusal, taken, longer, ◌>>=◌}
+use Rattle.std.specs.Prelude.{if◌then◌else◌}
+use Rattle.spec.specs.Base.{limit, Read, Took, No, refusal, taken, longer, ◌>>=◌}
 use Rattle.spec.specs.Varint.{tag, good_tag}
 use Rattle.spec.specs.Skip.{plain, skip_field, skip_group, inner_group, outer_group, checked, skip_field_for_tag, read_unknown_or_skip_group}
 use Rattle.spec.proofs.Laws.{Takes, took, none, either_way, takes_tag, takes_weaker, takes_next}

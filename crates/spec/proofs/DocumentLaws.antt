@@ -10,7 +10,8 @@ use lib.Seq.{drop-drop, drop-append_seam}
 use lib.Dec.{leb, ltb, eqb}
 use borrow.Author.Tests.{ltb-true, lt-ltb, eqb-true, eq-eqb, ne_eqb}
 use Rattle.spec.specs.Names.{end_group_wire, most_levels, no_group_open, start_group_wire}
-use Rattle.spec.specs.Base.{if◌then◌else◌, limit, Read, Took, No, longer, require}
+use Rattle.std.specs.Prelude.{if◌then◌else◌}
+use Rattle.spec.specs.Base.{limit, Read, Took, No, longer, require}
 use Rattle.spec.specs.Varint.{tag, varint}
 use Rattle.spec.specs.Skip.{plain}
 use Rattle.spec.specs.Document.{IsTag, IsValue, Run, empty, field, group, Document, Step, Go, Stop, passed, closed, step, go_on, is_nil, is_run, is_document}
@@ -23,7 +24,7 @@ data Goes (most : ℕ) : Step → Type 0 where
   goes : {o : List ℕ} {n : ℕ} → 1 ≤ n → n ≤ most → Goes most (Go o n)
   stops : Goes most Stop
 
-either {ℓ κ} : {A : Type ℓ} (P : A → Type κ) (b : Bool) {x y : A} → P x → P y → P (if b then x else y)
+either {κ} : {A : Type 0} (P : A → Type κ) (b : Bool) {x y : A} → P x → P y → P (if b then x else y)
 either P true p q = p
 either P false p q = q
 
@@ -122,7 +123,7 @@ taken_value : (w : ℕ) (s : List ℕ) (v n : ℕ) → plain w s ≡ Took v n �
 taken_value w s v n e = record { value = v; reads = alone (plain w) (again_plain w) (takes_plain w) s v n e }
 
 -- what is read off a choice that was made
-when {ℓ κ μ} : {A : Type ℓ} (P : A → Type κ) (b : Bool) {x y : A} {Q : Type μ} → (b ≡ true → P x → Q) → (b ≡ false → P y → Q) → P (if b then x else y) → Q
+when {κ μ} : {A : Type 0} (P : A → Type κ) (b : Bool) {x y : A} {Q : Type μ} → (b ≡ true → P x → Q) → (b ≡ false → P y → Q) → P (if b then x else y) → Q
 when P true f g p = f refl p
 when P false f g p = g refl p
 

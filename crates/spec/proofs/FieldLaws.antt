@@ -9,7 +9,8 @@ use lib.ListN.{length, drop}
 use lib.Dec.{leb, eqb}
 use borrow.Author.Tests.{leb-true, leb-false, le-leb, eq-eqb, ne_eqb}
 use Rattle.spec.specs.Names.{dropped_span, bad_varint, delimited_wire, end_group_wire, ends_early, fixed32_wire, fixed64_wire, message_kind, most_levels, no_group_open, not_utf8, packed_head, start_group_wire, too_deep, varint_wire, group_end, group_start, unknown_bytes, unknown_fixed32, unknown_fixed64, unknown_varint}
-use Rattle.spec.specs.Base.{if◌then◌else◌, part, Read, Took, No, longer, ◌>>=◌, digit}
+use Rattle.std.specs.Prelude.{if◌then◌else◌}
+use Rattle.spec.specs.Base.{part, Read, Took, No, longer, ◌>>=◌, digit}
 use Rattle.spec.specs.Varint.{varint, varint32, varint64, fixed, tag}
 use Rattle.spec.specs.Utf8.{utf8, valid_end}
 use Rattle.spec.specs.Kind.{int32, uint32, uint64, bool, sint32, sint64, fixed32, sfixed32, fixed64, Shape, one, other, string, bytes, message, packed, wires, wire, shapes, shape, is_scalar, scalar}

@@ -9,7 +9,8 @@ use lib.ListN.{length, take, drop, length-map, length-drop}
 use lib.Dec.{leb, ltb, eqb}
 use borrow.Author.Tests.{lt-ltb, le-ltb}
 use Rattle.spec.specs.Names.{invalid_list, message_kind, most_levels, not_utf8, packed_head, string_kind, too_deep}
-use Rattle.spec.specs.Base.{if◌then◌else◌, part}
+use Rattle.std.specs.Prelude.{if◌then◌else◌}
+use Rattle.spec.specs.Base.{part}
 use Rattle.spec.specs.Utf8.{utf8}
 use Rattle.spec.specs.Kind.{Shape, one, other, string, bytes, message, packed, startGroup, endGroup, nothing, shape}
 use Rattle.spec.specs.Schema.{Schema, bad_schema}

@@ -11,7 +11,8 @@ use lib.Seq.{take-add, length-take-le, take-length, take-append-le, drop-append-
 use lib.Dec.{leb, ltb, eqb}
 use borrow.Author.Tests.{leb-true, le-leb}
 use Rattle.spec.specs.Names.{bad_varint, delimited_wire, end_group_wire, ends_early, fixed32_wire, fixed64_wire, most_levels, no_group_open, not_utf8, start_group_wire, too_deep, varint_wire}
-use Rattle.spec.specs.Base.{if◌then◌else◌, part, Read, Took, No, refusal, meaning, require, longer, ◌>>=◌, digit}
+use Rattle.std.specs.Prelude.{if◌then◌else◌}
+use Rattle.spec.specs.Base.{part, Read, Took, No, refusal, meaning, require, longer, ◌>>=◌, digit}
 use Rattle.spec.specs.Varint.{varint, fixed, tag, varint32, varint64}
 use Rattle.spec.specs.Utf8.{utf8}
 use Rattle.spec.specs.Kind.{Scalar, int32, uint32, uint64, bool, sint32, sint64, fixed32, sfixed32, fixed64, Shape, one, other, string, bytes, message, packed, startGroup, endGroup, nothing, shape, scalar}

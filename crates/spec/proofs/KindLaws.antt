@@ -9,7 +9,8 @@ use lib.ListN.{length, get_or, get_or-map}
 use lib.Dec.{leb, ltb}
 use borrow.Author.Tests.{lt-ltb, le-ltb, ltb-true, leb-true}
 use Rattle.spec.specs.Names.{out_of_range, end_group_wire, fixed32_wire, no_wire, start_group_wire}
-use Rattle.spec.specs.Base.{if◌then◌else◌, Took, No, meaning, require}
+use Rattle.std.specs.Prelude.{if◌then◌else◌}
+use Rattle.spec.specs.Base.{Took, No, meaning, require}
 use Rattle.spec.specs.Varint.{varint64, varint32, encode, zigzag, unzigzag}
 use Rattle.spec.specs.Kind.{Scalar, int32, uint32, uint64, bool, sint32, sint64, fixed32, sfixed32, fixed64, Shape, one, other, string, bytes, message, packed, startGroup, endGroup, nothing, wires, wire, shapes, shape, signed32, extend, scalar, encoded, fits}
 use Rattle.spec.proofs.VarintLaws.{lower_or_not, varint_shortest, zigzag_back, fixed_little, length_little}

@@ -11,7 +11,8 @@ use lib.Seq.{get_or-drop, get_or-take}
 use lib.Dec.{leb, ltb, eqb}
 use borrow.Author.Tests.{leb-true, ltb-true, le-ltb, lt-ltb, le-leb, eq-eqb, ne_eqb}
 use Rattle.spec.specs.Names.{out_of_range}
-use Rattle.spec.specs.Base.{if◌then◌else◌, between, Read, Took, No, meaning, require, digit}
+use Rattle.std.specs.Prelude.{if◌then◌else◌}
+use Rattle.spec.specs.Base.{between, Read, Took, No, meaning, require, digit}
 use Rattle.spec.specs.Varint.{varint, shortest, encode, unzigzag, fixed}
 use Rattle.spec.specs.Kind.{Scalar, int32, uint32, uint64, bool, sint32, sint64, fixed32, sfixed32, fixed64, signed32, extend, scalar, encoded, fits}
 use Rattle.spec.specs.Skip.{content, spanned}

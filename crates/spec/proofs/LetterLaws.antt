@@ -10,7 +10,8 @@ use lib.ListN.{length, take, drop, length-drop}
 use lib.Seq.{take-take}
 use lib.Dec.{leb, ltb, eqb}
 use Rattle.spec.specs.Names.{invalid_schema, most_levels, not_utf8, string_kind, too_large}
-use Rattle.spec.specs.Base.{if◌then◌else◌, part, limit, Read, Took, No}
+use Rattle.std.specs.Prelude.{if◌then◌else◌}
+use Rattle.spec.specs.Base.{part, limit, Read, Took, No}
 use Rattle.spec.specs.Varint.{varint32, tag}
 use Rattle.spec.specs.Utf8.{valid_prefix, utf8, valid_end}
 use Rattle.spec.specs.Kind.{Scalar, Shape, one, other, string, bytes, message, packed, startGroup, endGroup, nothing, shape, scalar}

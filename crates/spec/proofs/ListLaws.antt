@@ -10,7 +10,8 @@ use lib.Seq.{take-append_seam, drop-append_seam}
 use lib.Dec.{leb, eqb}
 use borrow.Author.Tests.{leb-true, leb-false, eqb-true, lt-ltb, le-ltb, eq-eqb}
 use Rattle.spec.specs.Names.{fixed32_wire, largest_number, message_kind, most_levels, packed_head, string_kind, delimited_wire, invalid_list, sint64_kind}
-use Rattle.spec.specs.Base.{if◌then◌else◌, between, part, limit}
+use Rattle.std.specs.Prelude.{if◌then◌else◌}
+use Rattle.spec.specs.Base.{between, part, limit}
 use Rattle.spec.specs.Utf8.{utf8}
 use Rattle.spec.specs.Kind.{Scalar, Shape, Special, one, other, string, bytes, message, packed, startGroup, endGroup, nothing, shapes, shape, wire, is_scalar, encoded, fits}
 use mathlib.Core.Option.{Option, none, some}

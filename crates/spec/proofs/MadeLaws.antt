@@ -10,7 +10,8 @@ use lib.Seq.{drop-drop, length-take-le}
 use lib.Dec.{eqb}
 use borrow.Author.Tests.{le-leb, eqb-true, eqb-false}
 use Rattle.spec.specs.Names.{delimited_wire, fixed32_wire, message_kind, most_levels, packed_head, sint64_kind}
-use Rattle.spec.specs.Base.{if◌then◌else◌, part, Read, Took, No}
+use Rattle.std.specs.Prelude.{if◌then◌else◌}
+use Rattle.spec.specs.Base.{part, Read, Took, No}
 use Rattle.spec.specs.Varint.{encode, tag}
 use Rattle.spec.specs.Utf8.{utf8}
 use Rattle.spec.specs.Kind.{Scalar, Shape, one, other, string, bytes, message, packed, startGroup, endGroup, nothing, wire, shape, is_scalar, scalar, encoded, fits}

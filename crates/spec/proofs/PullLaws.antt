@@ -10,7 +10,8 @@ use lib.ListN.{length, drop, length-take, length-drop}
 use lib.Dec.{leb, ltb}
 use borrow.Author.Tests.{leb-true, leb-false, le-leb, lt-leb, ltb-true, ltb-false}
 use Rattle.spec.specs.Names.{bad_tag, most_levels, not_utf8, too_deep, too_large}
-use Rattle.spec.specs.Base.{if◌then◌else◌, part, Read, Took, No, refusal, digit, limit}
+use Rattle.std.specs.Prelude.{if◌then◌else◌}
+use Rattle.spec.specs.Base.{part, Read, Took, No, refusal, digit, limit}
 use Rattle.spec.specs.Varint.{varint, varint32, varint64}
 use Rattle.spec.specs.Utf8.{utf8, valid_end}
 use Rattle.spec.specs.Skip.{content}

@@ -10,7 +10,8 @@ use lib.Seq.{drop-append_seam, take-append_seam, drop_at}
 use lib.Dec.{eqb}
 use borrow.Author.Tests.{le-leb, ne_eqb}
 use Rattle.spec.specs.Names.{message_kind, packed_head}
-use Rattle.spec.specs.Base.{if◌then◌else◌, part, Read, Took, require, limit}
+use Rattle.std.specs.Prelude.{if◌then◌else◌}
+use Rattle.spec.specs.Base.{part, Read, Took, require, limit}
 use Rattle.spec.specs.Varint.{varint, encode, shortest, tag}
 use Rattle.spec.specs.Record.{Record, row}
 use Rattle.spec.proofs.VarintLaws.{lower_or_not, shortest_ends, shortest_goes_on}

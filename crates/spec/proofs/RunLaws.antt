@@ -14,7 +14,8 @@ use lib.Seq.{drop-append_seam, drop-drop, drop-nil, get_or-drop}
 use lib.Dec.{leb, eqb}
 use borrow.Author.Tests.{le-leb, lt-leb, leb-true, leb-false}
 use Rattle.spec.specs.Names.{group_start, largest_number, message_kind, most_levels, packed_head, all_kinds, deepest, delimited_wire, group_end, kind_column, number_column, record_kinds, start_column, stop_column, tag_column, value_column}
-use Rattle.spec.specs.Base.{if◌then◌else◌, part}
+use Rattle.std.specs.Prelude.{if◌then◌else◌}
+use Rattle.spec.specs.Base.{part}
 use Rattle.spec.specs.Varint.{encode, tag_size}
 use Rattle.spec.specs.Kind.{Scalar, int32, uint32, uint64, bool, sint32, sint64, fixed32, sfixed32, fixed64, Shape, one, other, string, bytes, message, packed, startGroup, endGroup, nothing, shapes, shape, wire, encoded, fits}
 use Rattle.spec.specs.Schema.{Schema, bad_schema}

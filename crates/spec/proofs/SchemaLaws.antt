@@ -12,7 +12,8 @@ use lib.Seq.{drop-drop}
 use lib.Dec.{leb, ltb, eqb}
 use borrow.Author.Tests.{leb-true, le-ltb, ltb-true, eqb-true, eq-eqb, ne_eqb, eqb-false, not-true}
 use Rattle.spec.specs.Names.{group_kind, largest_number, message_kind, most_entries, most_types, sint64_kind, child_column, double_kind, entry_kind_column, entry_number_column, owner_column, repeated_column}
-use Rattle.spec.specs.Base.{if◌then◌else◌, between}
+use Rattle.std.specs.Prelude.{if◌then◌else◌}
+use Rattle.spec.specs.Base.{between}
 use Rattle.spec.specs.Schema.{Schema, rises, good_entry, bad_entry, bad_schema, no_entry, lookup, place_of, entry_of, entries_of, schema_of, bit, copied, entry_stride}
 use Rattle.spec.proofs.Laws.{both, both_true, by_test}
 use Rattle.spec.proofs.VarintLaws.{lower_or_not}

@@ -12,7 +12,8 @@ use lib.Seq.{take-length, drop-length, take-append_seam}
 use lib.Dec.{leb, ltb, eqb}
 use borrow.Author.Tests.{le-ltb, lt-ltb, le-leb, lt-leb, leb-true, ltb-true, ltb-false, ne_eqb}
 use Rattle.spec.specs.Names.{message_kind, most_levels, output_short, packed_head, string_kind, too_large, invalid_list, invalid_schema, no_wire, unknown_fixed32, unknown_varint}
-use Rattle.spec.specs.Base.{if◌then◌else◌, between, part, limit, Took, No, limited}
+use Rattle.std.specs.Prelude.{if◌then◌else◌}
+use Rattle.spec.specs.Base.{between, part, limit, Took, No, limited}
 use Rattle.spec.specs.Varint.{encode, tag_size, zigzag}
 use Rattle.spec.specs.Utf8.{utf8}
 use Rattle.spec.specs.Kind.{Scalar, int32, uint32, uint64, bool, sint32, sint64, fixed32, sfixed32, fixed64, Shape, one, other, string, bytes, message, packed, startGroup, endGroup, nothing, wires, wire, shape, encoded, fits}

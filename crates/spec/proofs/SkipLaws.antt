@@ -9,7 +9,8 @@ use lib.ListN.{length, drop, length-drop}
 use lib.Dec.{leb, ltb, eqb}
 use borrow.Author.Tests.{leb-true, leb-false, le-leb, lt-leb, ltb-true, ltb-false, eqb-true, eqb-false, eq-eqb, ne_eqb}
 use Rattle.spec.specs.Names.{bad_tag, delimited_wire, end_group_wire, ends_early, fixed32_wire, fixed64_wire, most_levels, no_group_open, start_group_wire, too_deep, too_large, varint_wire}
-use Rattle.spec.specs.Base.{if◌then◌else◌, limit, Read, Took, No, require, longer, ◌>>=◌}
+use Rattle.std.specs.Prelude.{if◌then◌else◌}
+use Rattle.spec.specs.Base.{limit, Read, Took, No, require, longer, ◌>>=◌}
 use Rattle.spec.specs.Varint.{varint, varint32, varint64, fixed, tag, good_tag}
 use Rattle.spec.specs.Skip.{content, plain, skip_field, skip_group, inner_group, outer_group, checked, skip_field_for_tag, read_unknown_or_skip_group}
 use Rattle.spec.proofs.Laws.{either_way, if_so, if_not, by_test, both, both_true, Takes, took, none, takes_weaker, takes_next, takes_tag, takes_plain, next_cong, next_took, next_no, longer_longer}

@@ -10,7 +10,8 @@ use lib.ListN.{length, take, drop, length-drop}
 use lib.Dec.{ltb, eqb}
 use borrow.Author.Tests.{ltb-false, eq-eqb, ne_eqb}
 use Rattle.spec.specs.Names.{dropped_span, invalid_list, message_kind, most_levels, no_room, packed_head, sint64_kind, too_large}
-use Rattle.spec.specs.Base.{if◌then◌else◌, part, limit, Read, Took, No}
+use Rattle.std.specs.Prelude.{if◌then◌else◌}
+use Rattle.spec.specs.Base.{part, limit, Read, Took, No}
 use Rattle.spec.specs.Varint.{tag}
 use Rattle.spec.specs.Utf8.{utf8}
 use Rattle.spec.specs.Kind.{Scalar, Shape, one, other, string, bytes, message, packed, startGroup, endGroup, nothing, shapes, shape, head_kind, scalar}

@@ -11,7 +11,8 @@ use lib.ListN.{length, take, drop, length-append, take-append-drop}
 use lib.Seq.{drop-append_seam}
 use lib.Dec.{leb, eqb}
 use borrow.Author.Tests.{leb-true, leb-false, eqb-true, eqb-false, le-leb, lt-leb, eq-eqb}
-use Rattle.spec.specs.Base.{if◌then◌else◌, between}
+use Rattle.std.specs.Prelude.{if◌then◌else◌}
+use Rattle.spec.specs.Base.{between}
 use Rattle.spec.specs.Utf8.{Lead, Follow, NoLead, lead, followers, behind, char, valid_prefix, utf8}
 use Rattle.spec.specs.Unicode.{ScalarValue, below_surrogates, above_surrogates, six, spell, Text, nothing, scalar}
 use Rattle.spec.proofs.Laws.{both, both_true, either_way, chosen}

@@ -10,7 +10,8 @@ use lib.ListN.{length, take, drop, get_or, length-append, length-drop, take-appe
 use lib.Seq.{length-take-le, take-add, drop_at}
 use lib.Dec.{eqb}
 use borrow.Author.Tests.{eqb-true, eqb-false, ne_eqb, eq-eqb, le-leb}
-use Rattle.spec.specs.Base.{if◌then◌else◌, between}
+use Rattle.std.specs.Prelude.{if◌then◌else◌}
+use Rattle.spec.specs.Base.{between}
 use Rattle.spec.specs.Utf8.{Lead, Follow, NoLead, lead, followers, behind, char, chars, valid_prefix, utf8}
 use Rattle.spec.proofs.Laws.{both, chosen, by_test}
 
@@ -44,7 +45,7 @@ unfolding valid_prefix
 valid_le s = chars_le (length s) s
 
 -- a choice whose two answers agree where they are taken
-choice_cong {ℓ} : {A : Type ℓ} (b : Bool) (x : A) {y z : A} → (b ≡ false → y ≡ z) → (if b then x else y) ≡ (if b then x else z)
+choice_cong : {A : Type 0} (b : Bool) (x : A) {y z : A} → (b ≡ false → y ≡ z) → (if b then x else y) ≡ (if b then x else z)
 choice_cong true x e = refl
 choice_cong false x e = e refl
 

@@ -9,7 +9,8 @@ use lib.ListN.{length}
 use lib.Dec.{ltb}
 use borrow.Author.Tests.{ltb-false, le-ltb}
 use Rattle.spec.specs.Names.{invalid_schema, no_room, too_large}
-use Rattle.spec.specs.Base.{if◌then◌else◌, limit}
+use Rattle.std.specs.Prelude.{if◌then◌else◌}
+use Rattle.spec.specs.Base.{limit}
 use Rattle.spec.specs.Schema.{bad_schema}
 use Rattle.spec.specs.Record.{Record}
 use Rattle.spec.specs.Reading.{Look, looking, Reading, Done, Refused, ◌then◌, after, within, refused_or, read, called, reading_by, reading_as}

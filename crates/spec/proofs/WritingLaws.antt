@@ -10,7 +10,8 @@ use lib.Seq.{drop-append_seam, take-append_seam}
 use lib.Dec.{leb, ltb, eqb}
 use borrow.Author.Tests.{le-leb}
 use Rattle.spec.specs.Names.{bad_tag, ends_early, fixed32_wire, largest_number, most_levels, not_utf8, packed_head}
-use Rattle.spec.specs.Base.{if◌then◌else◌, part, Took, No, require, limit}
+use Rattle.std.specs.Prelude.{if◌then◌else◌}
+use Rattle.spec.specs.Base.{part, Took, No, require, limit}
 use Rattle.spec.specs.Varint.{varint, encode, tag, good_tag}
 use Rattle.spec.specs.Utf8.{utf8, valid_end}
 use Rattle.spec.specs.Kind.{Scalar, one, other, string, bytes, message, packed, shape, encoded, fits}

@@ -4,12 +4,8 @@
 -- that any k which is no less gives the same, and the equations with no k, are laws (proofs/).
 -- Assumes nothing: these are definitions. Public promises cite it.
 use Rattle.std.specs.Prelude.{ℕ, suc, ◌+◌, ◌-◌, ◌*◌, Bool, true, false, ◌&&◌, List, ◌++◌, length, take, drop, leb}
+pub use Rattle.std.specs.Prelude.{if◌then◌else◌}
 use Rattle.spec.specs.Names.{too_large}
-
-infixr 10 if◌then◌else◌
-abbrev pub if◌then◌else◌ {ℓ} : {A : Type ℓ} → Bool → A → A → A
-if true then a else b = a
-if false then a else b = b
 
 -- lo ≤ x ≤ hi
 abbrev pub between : ℕ → ℕ → ℕ → Bool

@@ -1,8 +1,8 @@
 -- The kinds of descriptor.proto and our own, what stands on the wire for each, and how its value is read and written.
 -- Assumes nothing: these are definitions. Public promises cite it.
-use Rattle.std.specs.Prelude.{ℕ, ◌+◌, ◌-◌, ◌^◌, min, Bool, true, false, ◌||◌, List, [], ◌∷◌, ◌++◌, get_or, ltb, eqb}
+use Rattle.std.specs.Prelude.{ℕ, ◌+◌, ◌-◌, ◌^◌, min, Bool, true, false, ◌||◌, List, [], ◌∷◌, ◌++◌, get_or, ltb, eqb, if◌then◌else◌}
 use Rattle.spec.specs.Names.{out_of_range, message_kind, packed_head, varint_wire, fixed64_wire, delimited_wire, start_group_wire, end_group_wire, fixed32_wire, no_wire}
-use Rattle.spec.specs.Base.{if◌then◌else◌, between, Read, meaning, require}
+use Rattle.spec.specs.Base.{between, Read, meaning, require}
 use Rattle.spec.specs.Varint.{varint32, varint64, encode, zigzag, unzigzag, fixed, little}
 
 -- a value that is one number

@@ -1,7 +1,7 @@
 -- The pull reader: a state, what it may be asked, and what a step says and where it leaves the reader. Assumes nothing: these are definitions. Public promises cite it.
-use Rattle.std.specs.Prelude.{ℕ, ◌+◌, List, [], length, drop, leb, ltb}
+use Rattle.std.specs.Prelude.{ℕ, ◌+◌, List, [], length, drop, leb, ltb, if◌then◌else◌}
 use Rattle.spec.specs.Names.{most_levels, not_utf8, too_deep, too_large}
-use Rattle.spec.specs.Base.{if◌then◌else◌, limit, part, Read, Took, No}
+use Rattle.spec.specs.Base.{limit, part, Read, Took, No}
 use Rattle.spec.specs.Varint.{varint32, varint64}
 use Rattle.spec.specs.Utf8.{utf8, valid_end}
 use Rattle.spec.specs.Kind.{Scalar, scalar}

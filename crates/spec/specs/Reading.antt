@@ -1,8 +1,8 @@
 -- What bytes read as under a schema. Assumes nothing: these are definitions. Public promises cite it.
-use Rattle.std.specs.Prelude.{ℕ, zero, suc, ◌+◌, ◌/◌, Bool, false, List, [], ◌∷◌, length, drop, leb, ltb, eqb}
+use Rattle.std.specs.Prelude.{ℕ, zero, suc, ◌+◌, ◌/◌, Bool, false, List, [], ◌∷◌, length, drop, leb, ltb, eqb, if◌then◌else◌}
 use Rattle.std.proofs.Math.Option.{Option, none, some}
 use Rattle.spec.specs.Names.{bad_tag, dropped_span, invalid_schema, message_kind, most_levels, no_group_open, no_room, not_utf8, packed_head, too_deep, too_large}
-use Rattle.spec.specs.Base.{if◌then◌else◌, part, filled, limit, Read, Took, No}
+use Rattle.spec.specs.Base.{part, filled, limit, Read, Took, No}
 use Rattle.spec.specs.Varint.{varint32, varint64, tag}
 use Rattle.spec.specs.Utf8.{utf8, valid_end}
 use Rattle.spec.specs.Kind.{Scalar, Shape, one, other, string, bytes, message, packed, startGroup, endGroup, nothing, shape, scalar}

@@ -1,6 +1,5 @@
 -- A record, and how lists of records are laid out in lent numbers. Assumes nothing: these are definitions. Public promises cite it.
-use Rattle.std.specs.Prelude.{ℕ, zero, suc, ◌+◌, List, [], ◌∷◌, ◌++◌, length, drop, get_or, ltb}
-use Rattle.spec.specs.Base.{if◌then◌else◌}
+use Rattle.std.specs.Prelude.{ℕ, zero, suc, ◌+◌, List, [], ◌∷◌, ◌++◌, length, drop, get_or, ltb, if◌then◌else◌}
 use Rattle.spec.specs.Names.{number_column, kind_column, value_column, start_column, stop_column, tag_column}
 
 -- A record; `tag` is the place of its field's tag, for a packed element that of its head. Writing and the list check ignore it.

@@ -1,8 +1,8 @@
 -- A schema, when it is valid, and what it says of a field. Assumes nothing: these are definitions. Public promises cite it.
-use Rattle.std.specs.Prelude.{ℕ, zero, suc, ◌+◌, ◌/◌, ◌%◌, Bool, true, false, not, ◌&&◌, ◌||◌, List, [], ◌∷◌, length, drop, get_or, leb, ltb, eqb}
+use Rattle.std.specs.Prelude.{ℕ, zero, suc, ◌+◌, ◌/◌, ◌%◌, Bool, true, false, not, ◌&&◌, ◌||◌, List, [], ◌∷◌, length, drop, get_or, leb, ltb, eqb, if◌then◌else◌}
 use Rattle.std.proofs.Math.Option.{Option, none, some}
 use Rattle.spec.specs.Names.{double_kind, group_kind, message_kind, sint64_kind, packed_head, unknown_varint, unknown_fixed64, unknown_bytes, unknown_fixed32, group_start, group_end, delimited_wire, owner_column, entry_number_column, entry_kind_column, repeated_column, child_column, largest_number, most_types, most_entries}
-use Rattle.spec.specs.Base.{if◌then◌else◌, between}
+use Rattle.spec.specs.Base.{between}
 use Rattle.spec.specs.Kind.{shape, is_scalar, wire}
 use Rattle.spec.specs.declared.Entry.{Entry}
 

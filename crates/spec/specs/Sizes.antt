@@ -1,8 +1,8 @@
 -- How many bytes values, fields and records take: the size calls of rust-protobuf's rt, and the size of a list, level by level.
 -- Assumes nothing: these are definitions. That each is the length of what is written is a law (proofs/SizeLaws). Public promises cite it.
-use Rattle.std.specs.Prelude.{ℕ, zero, suc, ◌+◌, ◌-◌, Bool, true, not, List, [], ◌∷◌, length, take, drop, eqb}
+use Rattle.std.specs.Prelude.{ℕ, zero, suc, ◌+◌, ◌-◌, Bool, true, not, List, [], ◌∷◌, length, take, drop, eqb, if◌then◌else◌}
 use Rattle.spec.specs.Names.{packed_head, unknown_varint, unknown_fixed32}
-use Rattle.spec.specs.Base.{if◌then◌else◌, between, Read, Took, limited}
+use Rattle.spec.specs.Base.{between, Read, Took, limited}
 use Rattle.spec.specs.Varint.{size, tag_size, zigzag}
 use Rattle.spec.specs.Kind.{Scalar, int32, uint32, uint64, bool, sint32, sint64, fixed32, sfixed32, fixed64, Shape, one, other, string, bytes, message, packed, startGroup, endGroup, nothing, shape}
 use Rattle.spec.specs.Record.{Record, deeper}

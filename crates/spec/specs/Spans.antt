@@ -1,9 +1,8 @@
 -- What a reading that asks for dropped spans gives: the records of one that does not ask, and the dropped spans; and in its records every byte of the input.
 -- And what writing makes of the tags' places and of dropped spans.
 -- Assumes nothing: these are definitions. Only laws cite it.
-use Rattle.std.specs.Prelude.{ℕ, ◌+◌, ◌≤◌, ◌<◌, ◌≡◌, Bool, true, false, List, [], ◌∷◌, ◌++◌, map, length, take, eqb}
+use Rattle.std.specs.Prelude.{ℕ, ◌+◌, ◌≤◌, ◌<◌, ◌≡◌, Bool, true, false, List, [], ◌∷◌, ◌++◌, map, length, take, eqb, if◌then◌else◌}
 use Rattle.spec.specs.Names.{dropped_span, invalid_list, message_kind, no_room, packed_head}
-use Rattle.spec.specs.Base.{if◌then◌else◌}
 use Rattle.spec.specs.Kind.{head_kind}
 use Rattle.spec.specs.Schema.{Schema}
 use Rattle.spec.specs.Record.{Record, row, deeper}

@@ -1,8 +1,7 @@
 -- UTF-8 from the other side, as RFC 3629, section 3, builds it: the scalar values of Unicode, the octets of each, and the strings of such octets.
 -- Nothing here cites the table of section 4 (specs/Utf8); that both say the same is proved (proofs/UnicodeLaws).
 -- Assumes nothing: these are definitions. Only laws cite it.
-use Rattle.std.specs.Prelude.{ℕ, ◌+◌, ◌/◌, ◌%◌, ◌≤◌, List, [], ◌∷◌, ◌++◌, leb}
-use Rattle.spec.specs.Base.{if◌then◌else◌}
+use Rattle.std.specs.Prelude.{ℕ, ◌+◌, ◌/◌, ◌%◌, ◌≤◌, List, [], ◌∷◌, ◌++◌, leb, if◌then◌else◌}
 
 -- A Unicode scalar value: 0 to 10ffff without d800 to dfff, which are kept for the surrogates of UTF-16.
 pub data ScalarValue : ℕ → Type 0 where

@@ -1,6 +1,6 @@
 -- UTF-8, from the table of RFC 3629, section 4. Assumes nothing: these are definitions. Public promises cite it.
-use Rattle.std.specs.Prelude.{ℕ, zero, suc, ◌+◌, Bool, true, false, ◌&&◌, List, [], ◌∷◌, length, drop, leb, eqb}
-use Rattle.spec.specs.Base.{if◌then◌else◌, between, part}
+use Rattle.std.specs.Prelude.{ℕ, zero, suc, ◌+◌, Bool, true, false, ◌&&◌, List, [], ◌∷◌, length, drop, leb, eqb, if◌then◌else◌}
+use Rattle.spec.specs.Base.{between, part}
 
 -- What a lead byte says: how many bytes follow, and the bounds of the first of them; or that it is none.
 pub data Lead : Type 0 where

@@ -1,8 +1,8 @@
 -- Varints, zigzag, little-endian numbers and tags, from the Encoding page. Assumes nothing: these are definitions. Public promises cite it.
-use Rattle.std.specs.Prelude.{ℕ, zero, suc, ◌+◌, ◌-◌, ◌*◌, ◌/◌, ◌%◌, ◌^◌, ◌≤◌, ◌<◌, max, ◌≡◌, ◌↔◌, Bool, ◌&&◌, List, [], ◌∷◌, leb, ltb, eqb}
+use Rattle.std.specs.Prelude.{ℕ, zero, suc, ◌+◌, ◌-◌, ◌*◌, ◌/◌, ◌%◌, ◌^◌, ◌≤◌, ◌<◌, max, ◌≡◌, ◌↔◌, Bool, ◌&&◌, List, [], ◌∷◌, leb, ltb, eqb, if◌then◌else◌}
 use Rattle.std.specs.Int.Count.{count_leading_zeros}
 use Rattle.spec.specs.Names.{bad_tag, bad_varint, ends_early, fixed32_wire, largest_number}
-use Rattle.spec.specs.Base.{if◌then◌else◌, between, Read, Took, No, digit, require}
+use Rattle.spec.specs.Base.{between, Read, Took, No, digit, require}
 
 -- A varint of at most k bytes and one more, which is at most `last`: seven bits a byte, the lowest first; after a byte of 128 or more comes another.
 unfoldable pub varint : ℕ → ℕ → List ℕ → Read

@@ -1,8 +1,8 @@
 -- What a list of records is written as under a schema, and which lists are valid. Assumes nothing: these are definitions. Public promises cite it.
-use Rattle.std.specs.Prelude.{ℕ, zero, suc, ◌+◌, ◌-◌, ◌*◌, Bool, true, false, not, ◌&&◌, ◌||◌, List, [], ◌∷◌, ◌++◌, length, take, drop, leb, ltb, eqb}
+use Rattle.std.specs.Prelude.{ℕ, zero, suc, ◌+◌, ◌-◌, ◌*◌, Bool, true, false, not, ◌&&◌, ◌||◌, List, [], ◌∷◌, ◌++◌, length, take, drop, leb, ltb, eqb, if◌then◌else◌}
 use Rattle.std.proofs.Math.Option.{Option, none, some}
 use Rattle.spec.specs.Names.{delimited_wire, fixed32_wire, invalid_list, invalid_schema, largest_number, message_kind, most_levels, not_utf8, output_short, packed_head, string_kind, too_deep, too_large}
-use Rattle.spec.specs.Base.{if◌then◌else◌, between, part, filled, limit}
+use Rattle.spec.specs.Base.{between, part, filled, limit}
 use Rattle.spec.specs.Varint.{encode}
 use Rattle.spec.specs.Utf8.{utf8}
 use Rattle.spec.specs.Kind.{Shape, one, other, string, bytes, message, packed, startGroup, endGroup, nothing, shape, wire, fits, encoded}

@@ -10,7 +10,8 @@ use lib.ListN.{length, drop, get_or, length-drop}
 use lib.Seq.{drop-cons, drop-drop, get_or-drop}
 use lib.Dec.{leb}
 use borrow.Author.Tests.{le-leb, lt-leb, ne_eqb, leb-true}
-use Rattle.spec.specs.Base.{if◌then◌else◌, between}
+use Rattle.std.specs.Prelude.{if◌then◌else◌}
+use Rattle.spec.specs.Base.{between}
 use Rattle.spec.specs.Utf8.{Follow, NoLead, lead, followers, behind, char, valid_prefix, utf8}
 use Rattle.spec.proofs.Utf8Laws.{char_le, valid_le, prefix_stop, prefix_step, prefix_ascii}
 use Rattle.utf8.specs.Text.{most_followers, lead_of, Low, Passed, Ends}

@@ -1,8 +1,7 @@
 -- What the promises of `utf8` are stated with: the numbers of a lead byte in the definition's terms, tables of them, bytes taken at once
 -- as a number, what a run over valid bytes has passed, and where they end.
 -- Assumes nothing: these are definitions. Only inner functions and loops cite it.
-use Rattle.std.specs.Prelude.{ℕ, zero, suc, ◌+◌, ◌*◌, ◌<◌, ◌≤◌, ◌≡◌, List, length, drop, get_or, leb}
-use Rattle.spec.specs.Base.{if◌then◌else◌}
+use Rattle.std.specs.Prelude.{ℕ, zero, suc, ◌+◌, ◌*◌, ◌<◌, ◌≤◌, ◌≡◌, List, length, drop, get_or, leb, if◌then◌else◌}
 use Rattle.spec.specs.Utf8 as spec
 
 -- the most bytes that follow a lead byte

@@ -5,7 +5,8 @@ use mathlib.Core.Path.{◌≡◌, refl, sym, ap, ap₂, ◌∙◌}
 use native.Mathlib.Omega.{arith}
 use lib.Dec.{leb}
 use Rattle.spec.specs.Names.{delimited_wire, end_group_wire, fixed64_wire, start_group_wire, varint_wire}
-use Rattle.spec.specs.Base.{if◌then◌else◌, Read, Took}
+use Rattle.std.specs.Prelude.{if◌then◌else◌}
+use Rattle.spec.specs.Base.{Read, Took}
 use Rattle.wire.specs.FormatTold.{wire_number, wire_told, tag_value, tag_told, size_told}
 use Rattle.wire.specs.declared.wire_format.WireType.{WireType}
 use Rattle.wire.specs.declared.wire_format.WireType.TheVariants.{Varint, Fixed64, LengthDelimited, StartGroup, EndGroup, Fixed32}

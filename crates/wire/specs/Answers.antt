@@ -1,7 +1,7 @@
 -- The answers of the codec's functions, in the terms of the definitions.
 -- Assumes nothing: these are definitions. Public promises cite it.
-use Rattle.std.specs.Prelude.{ℕ, ◌+◌, ◌-◌, ◌≡◌, List, ◌++◌, length, take, drop, leb}
-use Rattle.spec.specs.Base.{if◌then◌else◌, Read, Took, No}
+use Rattle.std.specs.Prelude.{ℕ, ◌+◌, ◌-◌, ◌≡◌, List, ◌++◌, length, take, drop, leb, if◌then◌else◌}
+use Rattle.spec.specs.Base.{Read, Took, No}
 use Rattle.wire.specs.declared.found.Found.{Found}
 use Rattle.wire.specs.declared.found.Found.TheVariants.{Value, Refused}
 use Rattle.wire.specs.declared.put.Put.{Put}

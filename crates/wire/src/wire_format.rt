@@ -1,7 +1,7 @@
 // Wire types, tags and the size limit: src/wire_format.rs of rust-protobuf.
-ghost use Rattle.std.specs.Prelude.{◌≡◌, get_or, take, leb};
+ghost use Rattle.std.specs.Prelude.{◌≡◌, get_or, take, leb, if◌then◌else◌};
 ghost use Rattle.spec.specs.Names.{bad_tag, fixed32_wire, no_wire, record_kinds};
-ghost use Rattle.spec.specs.Base.{if◌then◌else◌, Took, require, limited};
+ghost use Rattle.spec.specs.Base.{Took, require, limited};
 ghost use Rattle.spec.specs.Varint.{good_tag, make_tag};
 ghost use Rattle.spec.specs.Kind.{kind_wires, wires, wire};
 ghost use Rattle.wire.specs.FormatTold.{wire_number, wire_told, tag_value, tag_told, size_told};

@@ -7,7 +7,7 @@ use lib.ListN.{length}
 use borrow.Author.Tests.{ne_eqb}
 use lib.Dec.{ltb}
 use Rattle.spec.specs.Names.{fixed32_wire, fixed64_wire, message_kind, packed_head}
-use Rattle.spec.specs.Base.{if◌then◌else◌}
+use Rattle.std.specs.Prelude.{if◌then◌else◌}
 use Rattle.spec.specs.Varint.{encode, zigzag, little}
 use Rattle.spec.specs.Kind.{int32, uint32, uint64, bool, sint32, sint64, fixed32, sfixed32, fixed64, Shape, one, other, string, bytes, message, packed, startGroup, endGroup, nothing, shape, wire, is_scalar, encoded, head_kind}
 use Rattle.spec.specs.Record.{Record}

@@ -9,7 +9,7 @@ use lib.ListN.{get_or}
 use borrow.Author.Tests.{eqb-true}
 use Rattle.spec.specs.Names.{kind_column, packed_head}
 use Rattle.spec.specs.Record.{stride}
-use Rattle.spec.specs.Base.{if◌then◌else◌}
+use Rattle.std.specs.Prelude.{if◌then◌else◌}
 use Rattle.spec.specs.Kind.{shape, is_scalar}
 use Rattle.spec.proofs.WritingLaws.{bytes_in}
 use Rattle.write.specs.Backward.{Stored, depth_at, kind_at, span, start, Upto, run_bytes, Run, Inner, is_packed, Values, Ran, kind_back}

@@ -9,7 +9,8 @@ use lib.ListN.{length, drop, get_or, length-drop}
 use lib.Seq.{drop-drop}
 use lib.Dec.{eqb}
 use Rattle.spec.specs.Names.{delimited_wire, message_kind, packed_head, kind_column, number_column, start_column, stop_column, value_column}
-use Rattle.spec.specs.Base.{if◌then◌else◌, limit}
+use Rattle.std.specs.Prelude.{if◌then◌else◌}
+use Rattle.spec.specs.Base.{limit}
 use Rattle.spec.specs.Varint.{size, tag_size, zigzag}
 use Rattle.spec.specs.Kind.{int32, uint32, uint64, bool, sint32, sint64, fixed32, sfixed32, fixed64, Shape, one, other, string, bytes, message, packed, startGroup, endGroup, nothing, shape, wire, is_scalar, head_kind}
 use Rattle.spec.specs.Record.{Record, row, records_of, stride, record_at, records_from}

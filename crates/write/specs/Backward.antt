@@ -1,8 +1,8 @@
 -- What the backward writer asks, and what it answers: bytes that end before a place of the output, and the records of a list by their index.
 -- Record i has the numbers of the list from stride * i on. Assumes nothing: these are definitions. Only inner functions and loops cite it.
-use Rattle.std.specs.Prelude.{ℕ, zero, suc, ◌+◌, ◌-◌, ◌*◌, ◌/◌, ◌%◌, ◌^◌, ◌≤◌, ◌<◌, ◌≡◌, Bool, true, false, List, [], ◌∷◌, ◌++◌, length, take, drop, get_or, ltb, eqb}
+use Rattle.std.specs.Prelude.{ℕ, zero, suc, ◌+◌, ◌-◌, ◌*◌, ◌/◌, ◌%◌, ◌^◌, ◌≤◌, ◌<◌, ◌≡◌, Bool, true, false, List, [], ◌∷◌, ◌++◌, length, take, drop, get_or, ltb, eqb, if◌then◌else◌}
 use Rattle.spec.specs.Names.{largest_number, packed_head, kind_column, no_wire, number_column, record_kinds, value_column}
-use Rattle.spec.specs.Base.{if◌then◌else◌, part}
+use Rattle.spec.specs.Base.{part}
 use Rattle.spec.specs.Varint.{encode}
 use Rattle.spec.specs.Kind.{Shape, one, other, string, bytes, message, packed, startGroup, endGroup, nothing, wires, shape, is_scalar, encoded}
 use Rattle.spec.specs.Record.{Record, records_of, stride, record_at}

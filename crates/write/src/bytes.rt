@@ -1,9 +1,9 @@
 // The bytes of a list that the check found without fault, from the last to the first: a length stands before its content, so a run of records is
 // written from its last record to its first, and every length is known when it is written. The work grows with the records and the bytes alone,
 // however deep they nest.
-ghost use Rattle.std.specs.Prelude.{◌≡◌, true, false, not, ◌++◌, ◌+◌, ◌-◌, ◌*◌, ◌/◌, ◌%◌, ◌≤◌, length, take, get_or};
+ghost use Rattle.std.specs.Prelude.{◌≡◌, true, false, not, ◌++◌, ◌+◌, ◌-◌, ◌*◌, ◌/◌, ◌%◌, ◌≤◌, length, take, get_or, if◌then◌else◌};
 ghost use Rattle.spec.specs.Names.{largest_number, no_wire, number_column, record_kinds};
-ghost use Rattle.spec.specs.Base.{if◌then◌else◌, part, filled};
+ghost use Rattle.spec.specs.Base.{part, filled};
 ghost use Rattle.spec.specs.Varint.{encode, little};
 ghost use Rattle.spec.specs.Kind.{wires, shape, wire, is_scalar};
 ghost use Rattle.spec.specs.Record.{records_of, stride};

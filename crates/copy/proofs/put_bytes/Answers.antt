@@ -7,7 +7,8 @@ use native.Mathlib.Omega.{arith}
 use borrow.Author.Tests.{le-leb, lt-leb}
 use lib.Dec.{leb}
 use lib.ListN.{length}
-use Rattle.spec.specs.Base.{if◌then◌else◌, part}
+use Rattle.std.specs.Prelude.{if◌then◌else◌}
+use Rattle.spec.specs.Base.{part}
 use Rattle.wire.specs.Answers.{stored}
 use Rattle.copy.proofs.CopyLaws.{part_all}
 use Rattle.copy.proofs.put_bytes.Goals as goal

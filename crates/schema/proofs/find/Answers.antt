@@ -8,7 +8,7 @@ use mathlib.Core.Option.{none, some}
 use borrow.Author.Tests.{lt-ltb, le-ltb}
 use Rattle.spec.specs.Names.{entry_number_column}
 use Rattle.spec.specs.Schema.{entry_stride}
-use Rattle.spec.specs.Base.{if◌then◌else◌}
+use Rattle.std.specs.Prelude.{if◌then◌else◌}
 use Rattle.schema.specs.Layout.{owner_unit}
 use Rattle.schema.specs.Search.{seek, owner_number, within, find_in}
 use Rattle.schema.proofs.SearchLaws.{halves_end, halves_here, halves_above, halves_below}

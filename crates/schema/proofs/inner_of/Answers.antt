@@ -6,7 +6,7 @@ use mathlib.Core.Bool.{Bool, true, ◌&&◌, not, and-false}
 use mathlib.Core.Path.{◌≡◌, sym, ap, ◌∙◌}
 use lib.Dec.{eqb}
 use Rattle.spec.specs.Names.{delimited_wire}
-use Rattle.spec.specs.Base.{if◌then◌else◌}
+use Rattle.std.specs.Prelude.{if◌then◌else◌}
 use Rattle.spec.proofs.Laws.{by_test}
 use Rattle.schema.specs.Layout.{may_pack}
 use Rattle.schema.specs.Tables.{inner_in}

@@ -4,7 +4,7 @@ use Prim.Native.Nat.{ℕ, ◌+◌}
 use mathlib.Core.Bool.{Bool}
 use lib.ListN.{get_or}
 use Rattle.spec.specs.Names.{message_kind}
-use Rattle.spec.specs.Base.{if◌then◌else◌}
+use Rattle.std.specs.Prelude.{if◌then◌else◌}
 use Rattle.spec.specs.Schema.{Says}
 use borrow.Author.Tests.{eq-eqb, ne_eqb}
 use Rattle.schema.specs.Layout.{inners_at, kinds_at}

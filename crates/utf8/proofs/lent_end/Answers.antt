@@ -7,7 +7,7 @@ use mathlib.Core.Bool.{Bool, ◌&&◌}
 use mathlib.Core.List.{List}
 use lib.ListN.{length, drop, get_or}
 use lib.Dec.{leb}
-use Rattle.spec.specs.Base.{if◌then◌else◌}
+use Rattle.std.specs.Prelude.{if◌then◌else◌}
 use Rattle.spec.specs.Utf8.{lead, followers, char}
 use Rattle.utf8.specs.Text.{most_followers, Leads, Passed}
 use Rattle.utf8.proofs.TextLaws.{stay, said, onward, character, whole, stopped}

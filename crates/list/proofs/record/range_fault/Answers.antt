@@ -2,7 +2,7 @@
 use mathlib.Core.Path.{sym, ap, ◌∙◌}
 use mathlib.Core.Bool.{Bool}
 use Rattle.spec.specs.Names.{not_utf8}
-use Rattle.spec.specs.Base.{if◌then◌else◌}
+use Rattle.std.specs.Prelude.{if◌then◌else◌}
 use Rattle.list.proofs.RecordLaws.{range_reversed, range_behind, range_other, range_text}
 use Rattle.list.proofs.record.range_fault.Goals as goal
 

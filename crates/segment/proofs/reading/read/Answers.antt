@@ -7,7 +7,7 @@ use mathlib.Core.List.{List}
 use lib.ListN.{length}
 use lib.Dec.{eqb}
 use borrow.Author.Tests.{eq-eqb, ne_eqb}
-use Rattle.spec.specs.Base.{if◌then◌else◌}
+use Rattle.std.specs.Prelude.{if◌then◌else◌}
 use Rattle.segment.specs.Segment.{Ranges, Refused, number, place, listed, stored, room_after}
 use Rattle.segment.specs.Emit.{Told}
 use Rattle.segment.proofs.reading.read.Goals as goal

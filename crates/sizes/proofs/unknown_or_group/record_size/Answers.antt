@@ -6,7 +6,8 @@ use native.Mathlib.Omega.{arith}
 use borrow.Author.Tests.{le-leb, lt-leb}
 use lib.Dec.{eqb}
 use Rattle.spec.specs.Names.{unknown_bytes, unknown_fixed32, unknown_varint}
-use Rattle.spec.specs.Base.{if◌then◌else◌, between}
+use Rattle.std.specs.Prelude.{if◌then◌else◌}
+use Rattle.spec.specs.Base.{between}
 use Rattle.spec.specs.Kind.{shape}
 use Rattle.spec.specs.Sizes.{value_size}
 use Rattle.sizes.specs.SizeParts.{capped}

@@ -9,7 +9,7 @@ use borrow.Author.Tests.{eq-eqb, ne_eqb}
 use lib.ListN.{length, get_or}
 use Rattle.spec.specs.Names.{kind_column, number_column, packed_head}
 use Rattle.spec.specs.Record.{stride}
-use Rattle.spec.specs.Base.{if◌then◌else◌}
+use Rattle.std.specs.Prelude.{if◌then◌else◌}
 use Rattle.spec.proofs.VarintLaws.{lower_or_not}
 use Rattle.write.specs.Backward.{depth_at, kind_at, start, Upto, Inner, is_packed, number_back, kind_back}
 use Rattle.write.proofs.SpanLaws.{start_le, start_over, start_low}

@@ -6,7 +6,8 @@ use native.Mathlib.Omega.{arith}
 use borrow.Author.Tests.{le-leb}
 use lib.Dec.{leb}
 use lib.ListN.{length}
-use Rattle.spec.specs.Base.{if◌then◌else◌, part}
+use Rattle.std.specs.Prelude.{if◌then◌else◌}
+use Rattle.spec.specs.Base.{part}
 use Rattle.spec.proofs.MadeLaws.{part_length}
 use Rattle.wire.specs.Answers.{stored}
 use Rattle.write.specs.Backward.{Room, Stored}

@@ -7,7 +7,7 @@ use native.Mathlib.Omega.{arith}
 use borrow.Author.Tests.{le-leb, lt-leb}
 use lib.Dec.{eqb}
 use Rattle.spec.specs.Names.{delimited_wire, fixed32_wire, fixed64_wire, own_kinds, sint32_kind, sint64_kind, varint_wire}
-use Rattle.spec.specs.Base.{if◌then◌else◌}
+use Rattle.std.specs.Prelude.{if◌then◌else◌}
 use Rattle.spec.specs.Varint.{size, zigzag}
 use Rattle.spec.specs.Kind.{int32, uint32, uint64, bool, sint32, sint64, fixed32, sfixed32, fixed64, Shape, one, other, shape, wire, is_scalar}
 use Rattle.spec.specs.Sizes.{scalar_size, prefixed_size, value_size}

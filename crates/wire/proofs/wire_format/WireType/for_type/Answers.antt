@@ -5,7 +5,7 @@ use native.Mathlib.Omega.{arith}
 use lib.Dec.{leb}
 use lib.ListN.{length, get_or, get_or-eq_default}
 use Rattle.spec.specs.Names.{fixed32_wire, no_wire, own_kinds}
-use Rattle.spec.specs.Base.{if◌then◌else◌}
+use Rattle.std.specs.Prelude.{if◌then◌else◌}
 use Rattle.spec.specs.Kind.{kind_wires}
 use Rattle.spec.proofs.Below.{equal_below}
 use Rattle.wire.proofs.wire_format.WireType.for_type.Goals as goal

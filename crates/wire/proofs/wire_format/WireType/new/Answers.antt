@@ -5,7 +5,7 @@ use native.Mathlib.Omega.{arith}
 use borrow.Author.Tests.{le-leb, lt-leb}
 use lib.Dec.{leb}
 use Rattle.spec.specs.Names.{delimited_wire, end_group_wire, fixed32_wire, fixed64_wire, no_wire, start_group_wire, varint_wire}
-use Rattle.spec.specs.Base.{if◌then◌else◌}
+use Rattle.std.specs.Prelude.{if◌then◌else◌}
 use Rattle.wire.proofs.wire_format.WireType.new.Goals as goal
 
 is : (n k : ℕ) → n ≡ k → k ≤ fixed32_wire → k ≡ (if leb n fixed32_wire then n else no_wire)
