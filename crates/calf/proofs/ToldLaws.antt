@@ -8,7 +8,8 @@ use lib.Dec.{leb}
 use borrow.Author.Tests.{ne_eqb}
 use mathlib.Core.Bool.{Bool, true, false}
 use Rattle.spec.specs.Names.{bool_kind, bytes_kind, double_kind, enum_kind, fixed32_kind, fixed64_kind, float_kind, group_kind, int32_kind, int64_kind, sfixed32_kind, sfixed64_kind, sint32_kind, sint64_kind, string_kind, uint32_kind, uint64_kind}
-use Rattle.spec.specs.Base.{if◌then◌else◌, Read, refusal}
+use Rattle.std.specs.Prelude.{if◌then◌else◌}
+use Rattle.spec.specs.Base.{Read, refusal}
 use Rattle.spec.specs.Varint.{varint}
 use Rattle.spec.specs.Pull.{raw_tag}
 use Rattle.wire.specs.Answers.{as_read, Stored}

@@ -1,8 +1,8 @@
 -- What the calls for C return in a lent array. Assumes nothing: these are definitions. Public promises cite it.
-use Rattle.std.specs.Prelude.{ℕ, ◌+◌, List, [], ◌∷◌, eqb}
+use Rattle.std.specs.Prelude.{ℕ, ◌+◌, List, [], ◌∷◌, eqb, if◌then◌else◌}
 use Rattle.std.proofs.Math.Option.{Option, none, some}
 use Rattle.spec.specs.Names.{bool_kind, bytes_kind, double_kind, enum_kind, fixed32_kind, fixed64_kind, float_kind, group_kind, int32_kind, int64_kind, invalid_schema, sfixed32_kind, sfixed64_kind, sint32_kind, sint64_kind, string_kind, uint32_kind, uint64_kind}
-use Rattle.spec.specs.Base.{if◌then◌else◌, Read, Took, No}
+use Rattle.spec.specs.Base.{Read, Took, No}
 use Rattle.spec.specs.Kind.{int32, uint32, uint64, bool, sint32, sint64, fixed32, sfixed32, fixed64}
 use Rattle.spec.specs.Pull.{Ask, raw_tag, value, bytes, string, skip, Said, Number, Content, End, Refused, Moved}
 use Rattle.spec.specs.Writing.{Verdict, Fine, Faulty}

@@ -1,6 +1,6 @@
 // Varints, texts and skips.
-ghost use Rattle.std.specs.Prelude.{◌≡◌, [], ◌∷◌, ◌+◌, length, drop, leb};
-ghost use Rattle.spec.specs.Base.{if◌then◌else◌, refusal, taken};
+ghost use Rattle.std.specs.Prelude.{◌≡◌, [], ◌∷◌, ◌+◌, length, drop, leb, if◌then◌else◌};
+ghost use Rattle.spec.specs.Base.{refusal, taken};
 ghost use Rattle.spec.specs.Varint.{varint32, varint64, encode};
 ghost use Rattle.spec.specs.Utf8.{valid_prefix};
 ghost use Rattle.spec.specs.Skip.{skip_field_for_tag, read_unknown_or_skip_group};

@@ -16,7 +16,7 @@ use schema::note_entries;
 use spec::refusals::INVALID_SCHEMA;
 
 // Without fault, or a refusal's number and the index of its record; of the bad entry where the schema is not valid.
-#[derive(Drop)]
+#[derive(Clone, Copy)]
 pub enum Verdict {
     Fine,
     Faulty { number: u32, index: usize },

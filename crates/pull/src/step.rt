@@ -38,7 +38,7 @@ pub enum Ask {
 
 // The answer of a step: a number (a raw tag, a value as a 64-bit pattern, the bytes skipped), the bounds of a content in the slice, that the
 // bytes are at their end, or a refusal's number and place.
-#[derive(Drop)]
+#[derive(Clone, Copy)]
 pub enum Said {
     Number(u64),
     Content { start: usize, end: usize },
@@ -47,7 +47,7 @@ pub enum Said {
 }
 
 // The answer, and the position then.
-#[derive(Drop)]
+#[derive(Clone, Copy)]
 pub struct Moved {
     pub said: Said,
     pub at: usize,

@@ -53,7 +53,7 @@ struct Five {
 }
 
 // Valid, or the place of the first bad entry: 0 where the type count or the entry count is wrong.
-#[derive(Drop)]
+#[derive(Clone, Copy)]
 pub enum Verdict {
     Valid,
     Bad(usize),

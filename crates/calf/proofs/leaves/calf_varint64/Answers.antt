@@ -1,0 +1,10 @@
+-- The varint's answer, in numbers.
+use Rattle.std.proofs.Common.{◌∙◌}
+use Rattle.calf.proofs.ToldLaws.{refused_told, pair_told}
+use Rattle.calf.proofs.leaves.calf_varint64.Goals as goal
+
+pub returns : goal.returns
+returns c =
+    let d = c.decode_varint64-f in
+    let a = c.args in
+    (c.refused.ensures ∙ refused_told a.at d.result d.ensures, c.pair.ensures ∙ pair_told 9 1 a.s.now a.at d.result d.ensures)
