@@ -1,8 +1,8 @@
 -- How the two tables of a schema are laid out: names for the numbers of specs/Tables. The code has the same names in capitals (src/layout).
 --     keys[e]                   entry e: `owner_unit` times its owner, plus 8 times its number, plus its wire type; unused ones are `no_key`
 --     info[guesses * t + n]     a guess at the entry of type t and number n below `guesses`; keys says whether it is right
---     info[kinds_at + e]         the kind of entry e
---     info[inners_at + e]        its child type, or `may_pack`
+--     info[kinds_at + e]        the kind of entry e
+--     info[inners_at + e]       its child type, or `may_pack`
 -- Each is an `abbrev`: to the checker a name and its number are one and the same.
 -- Assumes nothing: these are definitions. Public promises cite it.
 use Rattle.std.specs.Prelude.{ℕ, ◌*◌}

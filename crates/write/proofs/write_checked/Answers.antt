@@ -12,7 +12,7 @@ put_list-requires c =
     let out = c.args.out.now in
     let payload = c.args.payload.now in
     let rs = records_of c.args.list.now in
-    let h = sized_zero (length out) (written payload rs) out (by_written (length out) payload rs c.requires.held c.by_size-r.ensures c.list_size.ensures) c.if-r-eq0.true in
+    let h = sized_zero (length out) (written payload rs) out (by_written (length out) payload rs c.requires.held c.by_size-r.ensures c.list_size.ensures) (omega (arith, c.if-r-eq0.true)) in
     (c.record_wires-table.ensures, c.requires, h.0, omega (arith, h.0, h.1))
 
 pub returns-then-r-eq0 : goal.returns-then-r-eq0
@@ -21,7 +21,7 @@ returns-then-r-eq0 c =
     let payload = c.args.payload.now in
     let rs = records_of c.args.list.now in
     let is = by_written (length out) payload rs c.requires.held c.by_size-r.ensures c.list_size.ensures in
-    (is, c.put_list.ensures ∙ sym (sized_zero (length out) (written payload rs) out is c.if-r-eq0.true).2)
+    (is, c.put_list.ensures ∙ sym (sized_zero (length out) (written payload rs) out is (omega (arith, c.if-r-eq0.true))).2)
 
 pub returns-else-r-eq0 : goal.returns-else-r-eq0
 returns-else-r-eq0 c =
@@ -29,4 +29,4 @@ returns-else-r-eq0 c =
     let payload = c.args.payload.now in
     let rs = records_of c.args.list.now in
     let is = by_written (length out) payload rs c.requires.held c.by_size-r.ensures c.list_size.ensures in
-    (is, sym (sized_refused (length out) (written payload rs) out is c.if-r-eq0.false))
+    (is, sym (sized_refused (length out) (written payload rs) out is (λ z. c.if-r-eq0.false (omega (arith, z)))))

@@ -81,7 +81,7 @@ bounds-numbers-n-in-4 c = omega (arith, (here (goal.at.bounds-numbers-n-in-4 c).
 pub returns-then-opened-number : goal.returns-then-opened-number
 returns-then-opened-number c =
     let places = goal.at.returns-then-opened-number c in
-    other_stored (here places.In-Value) _ _ (tagged places.In-Value) (numbered places.Else-value-lt8) c.in-4.is c.if-n-eq0.false (λ same. c.if-opened-number.true (omega (arith, same)))
+    other_stored (here places.In-Value) _ _ (tagged places.In-Value) (numbered places.Else-value-lt8) c.in-4.is (λ z. c.if-n-eq0.false (omega (arith, z))) (λ same. c.if-opened-number.true (omega (arith, same)))
 
 pub loop-at-smaller-in-4 : goal.loop-at-smaller-in-4
 loop-at-smaller-in-4 c =
@@ -91,7 +91,7 @@ loop-at-smaller-in-4 c =
 pub loop-at-preserved-in-4 : goal.loop-at-preserved-in-4
 loop-at-preserved-in-4 c =
     let places = goal.at.loop-at-preserved-in-4 c in
-    takes_off (here places.In-Value) _ _ (tagged places.In-Value) (numbered places.Else-value-lt8) c.in-4.is c.if-n-eq0.false (omega (arith, c.if-opened-number.false))
+    takes_off (here places.In-Value) _ _ (tagged places.In-Value) (numbered places.Else-value-lt8) c.in-4.is (λ z. c.if-n-eq0.false (omega (arith, z))) (omega (arith, c.if-opened-number.false))
 
 pub past_plain-requires : goal.past_plain-requires
 past_plain-requires c =

@@ -7,7 +7,7 @@ use Rattle.skip.proofs.unknown_or_group.checked.Goals as goal
 
 pub returns-then-s-gt-MOST_BYTES : goal.returns-then-s-gt-MOST_BYTES
 unfolding refusal
-returns-then-s-gt-MOST_BYTES c = let a = c.args in sym (ap refusal (checked_long a.tag a.s.now (Took 0 0) c.if-s-gt-MOST_BYTES.true))
+returns-then-s-gt-MOST_BYTES c = let a = c.args in omega (arith, ap refusal (checked_long a.tag a.s.now (Took 0 0) c.if-s-gt-MOST_BYTES.true))
 
 pub returns-then-tag-gt-FIXED32 : goal.returns-then-tag-gt-FIXED32
 unfolding refusal
