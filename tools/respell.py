@@ -10,8 +10,8 @@ import os
 import re
 import sys
 
-# Names that would fall together with another one that is in use where they stand, with the spelling that they get; the second is of one file alone. A lemma that would get the name of
-# what it is about gets `_lem` after it, as in the library.
+# Names that would fall together with another one that is in use where they stand, with the spelling that they get. A lemma that would get the name of what it is about gets `_lem` after
+# it, as in the library.
 OTHER = {
     "isMessage": "special_message",
     "isString": "special_string",
@@ -21,8 +21,9 @@ OTHER = {
     "first_entry": "first_entry_lem",
     "room_after": "room_after_lem",
 }
-# Constructors that stand together in one line.
+# Constructors that stand together in one line, which `own_names` does not see.
 TOGETHER = {"startGroup": "start_group", "endGroup": "end_group"}
+# The same as OTHER, in one file alone.
 IN_FILE = {"crates/write/proofs/InnerLaws.antt": {"is-packed": "is_packed_lem"}}
 
 TOKEN = re.compile(r"[^\s\x01(){}\[\],;.:|\"`…]+(?:\.\.)?")

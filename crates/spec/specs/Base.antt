@@ -1,10 +1,9 @@
--- What every definition of this folder uses: a choice, what reading at the front of some bytes finds, a part of the bytes.
+-- What every definition of this folder uses: what reading at the front of some bytes finds, a part of the bytes.
 -- A byte is a number below 256, and a run of bytes is a List ℕ. Refusals have the numbers of specs/Names.
 -- Some definitions count down a first number k, as they recur on bytes that are no part of the pattern. Their callers give the length;
 -- that any k which is no less gives the same, and the equations with no k, are laws (proofs/).
 -- Assumes nothing: these are definitions. Public promises cite it.
-use Rattle.std.specs.Prelude.{ℕ, suc, ◌+◌, ◌-◌, ◌*◌, Bool, true, false, ◌&&◌, List, ◌++◌, length, take, drop, leb}
-pub use Rattle.std.specs.Prelude.{if◌then◌else◌}
+use Rattle.std.specs.Prelude.{ℕ, suc, ◌+◌, ◌-◌, ◌*◌, Bool, ◌&&◌, List, ◌++◌, length, take, drop, leb, if◌then◌else◌}
 use Rattle.spec.specs.Names.{too_large}
 
 -- lo ≤ x ≤ hi
