@@ -4,9 +4,9 @@
 ghost use Rattle.std.specs.Prelude.{◌≡◌};
 ghost use Rattle.bench_leaves.specs.Loops.{varints, puts, pulled};
 
-use pull::step::Said;
-use wire::found::Found;
-use wire::put::Put;
+use pull::step::{Said, tag_at, uint64_at};
+use wire::varint::decode::decode_varint64;
+use wire::varint::encode::put_varint64;
 
 // The exclusive or of all varints, up to the first that is refused.
 pub fn perf_varints(s: &[u8]) -> u64
@@ -15,16 +15,11 @@ pub fn perf_varints(s: &[u8]) -> u64
     let mut at: usize = 0;
     let mut acc: u64 = 0;
     while at < s.len() {
-        let f = wire::varint::decode::decode_varint64(s, at);
-        match f {
-            Found::Value { value, next } => {
-                acc = acc ^ value;
-                at = next;
-            }
-            Found::Refused(_) => {
-                return acc;
-            }
-        }
+        let Ok(found) = decode_varint64(s, at) else {
+            return acc;
+        };
+        acc ^= found.value;
+        at = found.next;
     }
     acc
 }
@@ -34,18 +29,11 @@ pub fn perf_put_varints(values: &[u64], out: &mut [u8]) -> usize
     ensures { (result ≡ (puts 0 values.now out.old).0) × (out.new ≡ (puts 0 values.now out.old).1) }
 {
     let mut at: usize = 0;
-    let mut i: usize = 0;
-    while i < values.len() {
-        let p = wire::varint::encode::put_varint64(values[i], out, at);
-        match p {
-            Put::Next(next) => {
-                at = next;
-            }
-            Put::NoRoom => {
-                return 0;
-            }
-        }
-        i += 1;
+    for value in values {
+        let Some(next) = put_varint64(*value, out, at) else {
+            return 0;
+        };
+        at = next;
     }
     at
 }
@@ -57,20 +45,22 @@ pub fn perf_pull(s: &[u8]) -> u64
     let mut at: usize = 0;
     let mut acc: u64 = 0;
     while at < s.len() {
-        let t = pull::step::tag_at(s, at);
-        let from = t.at;
-        let tag = t.said;
-        let Said::Number(_) = tag else {
+        let tag = tag_at(s, at);
+        let Ok(read) = tag.said else {
             return acc;
         };
-        let f = pull::step::uint64_at(s, from);
-        let next = f.at;
-        let value = f.said;
-        let Said::Number(v) = value else {
+        let Said::Number(_) = read else {
             return acc;
         };
-        acc = acc ^ v;
-        at = next;
+        let value = uint64_at(s, tag.at);
+        let Ok(said) = value.said else {
+            return acc;
+        };
+        let Said::Number(v) = said else {
+            return acc;
+        };
+        acc ^= v;
+        at = value.at;
     }
     acc
 }

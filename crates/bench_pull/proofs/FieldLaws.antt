@@ -17,41 +17,55 @@ use Rattle.spec.specs.Pull.{Ask, raw_tag, value, bytes, string, skip, moved, num
 use Rattle.spec.proofs.VarintLaws.{lower_or_not}
 use Rattle.spec.proofs.PullLaws.{enter_too_deep, raw_tag_lem, fewest, fewest_raw, goes_forward, takes_fewest, content_in, enter_content_in}
 use Rattle.wire.specs.declared.found.Found.{Found}
-use Rattle.wire.specs.declared.found.Found.TheVariants as found
 use Rattle.wire.proofs.FoundLaws.{varint_placed}
 use Rattle.pull.specs.Told.{as_moved, said_told}
 use Rattle.pull.specs.declared.step.Moved.{Moved}
+use Rattle.std.specs.Prelude.{Option, Some, None, Result, Ok, Err}
+use Rattle.wire.specs.Answers.{value_at}
+use Rattle.pull.specs.declared.step.Refused.{Refused}
 use Rattle.pull.specs.declared.step.Said.{Said}
 use Rattle.pull.specs.declared.step.Said.TheVariants as said
-use Rattle.bench_pull.specs.declared.message.Sum.{Sum}
-use Rattle.bench_pull.specs.declared.message.Sum.TheVariants.{All, Part}
-use Rattle.bench_pull.specs.Fields.{root_int32, root_string, root_message, root_float, root_bool, inner_uint32, inner_bytes, root_ask, inner_ask, amount, amount_of, Ordered, number_on, content_on, found_on, sum_on, elements, Way, field, turns, inner_way, inner, root_content}
+use Rattle.bench_pull.specs.declared.message.Part.{Part}
+use Rattle.bench_pull.specs.Fields.{Sum, before, found_at, root_int32, root_string, root_message, root_float, root_bool, inner_uint32, inner_bytes, root_ask, inner_ask, amount, amount_of, Ordered, number_on, content_on, found_on, sum_on, elements, Way, field, turns, inner_way, inner, root_content}
 
 -- ---- what a step says
 
 -- it is no number, or no content
-abbrev pub NoNumber : Said → Type 0
-NoNumber x = (v : ℕ) → x ≡ said.Number v → ⊥
+abbrev pub NoNumber : Result Said Refused → Type 0
+NoNumber x = (v : ℕ) → x ≡ Ok (said.Number v) → ⊥
 
-abbrev pub NoContent : Said → Type 0
-NoContent x = (a z : ℕ) → x ≡ said.Content a z → ⊥
+abbrev pub NoContent : Result Said Refused → Type 0
+NoContent x = (a z : ℕ) → x ≡ Ok (said.Content a z) → ⊥
 
-no_number : (x : Said) → NoNumber x → (acc : ℕ) (f : ℕ → Sum) → number_on acc (said_told x) f ≡ Part acc
+-- it was refused, or said something else
+pub refused_no_number : {x : Result Said Refused} {r : Refused} → x ≡ Err r → NoNumber x
+refused_no_number e v q = let z : ◌≡◌ {A = ℕ} 0 1 = cc in absurd (omega arith)
+
+pub said_no_number : {x : Result Said Refused} {y : Said} → x ≡ Ok y → ((v : ℕ) → y ≡ said.Number v → ⊥) → NoNumber x
+said_no_number e h v q = h v (cc)
+
+pub refused_no_content : {x : Result Said Refused} {r : Refused} → x ≡ Err r → NoContent x
+refused_no_content e a z q = let y : ◌≡◌ {A = ℕ} 0 1 = cc in absurd (omega arith)
+
+pub said_no_content : {x : Result Said Refused} {y : Said} → x ≡ Ok y → ((a z : ℕ) → y ≡ said.Content a z → ⊥) → NoContent x
+said_no_content e h a z q = h a z (cc)
+
+no_number : (x : Result Said Refused) → NoNumber x → (acc : ℕ) (f : ℕ → Sum) → number_on acc (said_told x) f ≡ before acc
 unfolding number_on
-no_number (said.Number v) h acc f = absurd (h v refl)
-no_number (said.Content a z) h acc f = refl
-no_number said.End h acc f = refl
-no_number (said.Refused k p) h acc f = refl
+no_number (Ok (said.Number v)) h acc f = absurd (h v refl)
+no_number (Ok (said.Content a z)) h acc f = refl
+no_number (Ok said.End) h acc f = refl
+no_number (Err r) h acc f = refl
 
-no_content : (x : Said) → NoContent x → (acc : ℕ) (f : ℕ → ℕ → Sum) → content_on acc (said_told x) f ≡ Part acc
+no_content : (x : Result Said Refused) → NoContent x → (acc : ℕ) (f : ℕ → ℕ → Sum) → content_on acc (said_told x) f ≡ before acc
 unfolding content_on
-no_content (said.Number v) h acc f = refl
-no_content (said.Content a z) h acc f = absurd (h a z refl)
-no_content said.End h acc f = refl
-no_content (said.Refused k p) h acc f = refl
+no_content (Ok (said.Number v)) h acc f = refl
+no_content (Ok (said.Content a z)) h acc f = absurd (h a z refl)
+no_content (Ok said.End) h acc f = refl
+no_content (Err r) h acc f = refl
 
 module _ (s : List ℕ) (at level : ℕ) (ask : Ask) (m : Moved) (e : as_moved m ≡ step_at s at level ask) where
-  says : {x : Said} → m.said ≡ x → (step_at s at level ask).said ≡ said_told x
+  says : {x : Result Said Refused} → m.said ≡ x → (step_at s at level ask).said ≡ said_told x
   says q = ap (λ (n : spec.Moved). n.said) (sym e) ∙ ap said_told q
 
   pub ordered : Ordered m
@@ -63,7 +77,7 @@ module _ (s : List ℕ) (at level : ℕ) (ask : Ask) (m : Moved) (e : as_moved m
       let there : m.at ≡ (step_at s at level ask).at = ap (λ (n : spec.Moved). n.at) e in
       omega (arith, goes_forward s at level ask h)
 
-  further : {v : ℕ} → m.said ≡ said.Number v → at + fewest s at ask ≤ m.at
+  further : {v : ℕ} → m.said ≡ Ok (said.Number v) → at + fewest s at ask ≤ m.at
   further q =
       let there : m.at ≡ (step_at s at level ask).at = ap (λ (n : spec.Moved). n.at) e in
       let here = says q in
@@ -119,12 +133,12 @@ pub record Rest (s : List ℕ) (from at acc : ℕ) : Type 0 where
 pub rest_start : (s : List ℕ) (from : ℕ) → Rest s from 0 from
 rest_start s from = record { left = length s; few = omega arith; inside = omega arith; same = refl }
 
-elements_end : (k acc at : ℕ) (s : List ℕ) → length s ≤ at → elements k acc at s ≡ All acc
+elements_end : (k acc at : ℕ) (s : List ℕ) → length s ≤ at → elements k acc at s ≡ Ok acc
 unfolding elements
 elements_end zero acc at s h = refl
 elements_end (suc k) acc at s h = rw (le-leb (length s) at h) refl
 
-pub rest_end : {s : List ℕ} {from at acc : ℕ} → Rest s from at acc → length s ≤ at → All acc ≡ elements (length s) from 0 s
+pub rest_end : {s : List ℕ} {from at acc : ℕ} → Rest s from at acc → length s ≤ at → Ok acc ≡ elements (length s) from 0 s
 rest_end {s} {at = at} {acc} x h = sym (x.same ∙ elements_end x.left acc at s h)
 
 module _ {s : List ℕ} {from at acc : ℕ} (m : Moved) (x : Rest s from at acc) (l : at < length s) (e : as_moved m ≡ step_at s at 0 (value sint32)) where
@@ -132,18 +146,18 @@ module _ {s : List ℕ} {from at acc : ℕ} (m : Moved) (x : Rest s from at acc)
   unfolding elements
   turned k = rw (lt-leb (length s) at l, ← e) refl
 
-  pub rest_refused : NoNumber m.said → Part acc ≡ elements (length s) from 0 s
+  pub rest_refused : NoNumber m.said → before acc ≡ elements (length s) from 0 s
   rest_refused h = sym (x.same ∙ go x.left x.few)
     where
-      go : (k : ℕ) → length s ≤ at + k → elements k acc at s ≡ Part acc
+      go : (k : ℕ) → length s ≤ at + k → elements k acc at s ≡ before acc
       go zero f = absurd (omega arith)
       go (suc k) f = turned k ∙ no_number m.said h acc _
 
-  pub rest_placed : {v : ℕ} → m.said ≡ said.Number v → (at < m.at) × (m.at ≤ length s)
+  pub rest_placed : {v : ℕ} → m.said ≡ Ok (said.Number v) → (at < m.at) × (m.at ≤ length s)
   unfolding fewest
   rest_placed q = omega (arith, forward s at 0 (value sint32) m e x.inside, further s at 0 (value sint32) m e q)
 
-  pub rest_turn : {v : ℕ} → m.said ≡ said.Number v → Rest s from m.at (bit_xor acc v)
+  pub rest_turn : {v : ℕ} → m.said ≡ Ok (said.Number v) → Rest s from m.at (bit_xor acc v)
   unfolding number_on
   rest_turn {v} q = go x.left x.few x.same
     where
@@ -166,12 +180,12 @@ pub record Here (w : Way) (whole : Sum) (s : List ℕ) (at acc : ℕ) : Type 0 w
 pub here_start : (w : Way) (whole : Sum) (s : List ℕ) (from : ℕ) → whole ≡ turns w (length s) from 0 s → Here w whole s 0 from
 here_start w whole s from e = record { left = length s; few = omega arith; inside = omega arith; same = e }
 
-turns_end : (w : Way) (k acc at : ℕ) (s : List ℕ) → length s ≤ at → turns w k acc at s ≡ All acc
+turns_end : (w : Way) (k acc at : ℕ) (s : List ℕ) → length s ≤ at → turns w k acc at s ≡ Ok acc
 unfolding turns
 turns_end w zero acc at s h = refl
 turns_end w (suc k) acc at s h = rw (le-leb (length s) at h) refl
 
-pub here_end : {w : Way} {whole : Sum} {s : List ℕ} {at acc : ℕ} → Here w whole s at acc → length s ≤ at → All acc ≡ whole
+pub here_end : {w : Way} {whole : Sum} {s : List ℕ} {at acc : ℕ} → Here w whole s at acc → length s ≤ at → Ok acc ≡ whole
 here_end {w} {s = s} {at} {acc} x h = sym (x.same ∙ turns_end w x.left acc at s h)
 
 -- a tag is a varint32
@@ -182,15 +196,19 @@ tag_below s at g e l = go (varint32 (drop at s)) refl (ap (λ (m : spec.Moved). 
     go : (r : Read) → r ≡ varint32 (drop at s) → (numbered at r).said ≡ spec.Number g → g < 2 ^ 32
     go (Took v n) q p =
         let z : v ≡ g = cc in
-        let k = varint_placed 4 15 s at {f = found.Value v (at + n)} (ap (Took v) (omega arith) ∙ q) refl in
+        let k = varint_placed 4 15 s at {f = value_at v (at + n)} (ap (Took v) (omega arith) ∙ q) refl in
         omega (arith, k.small)
     go (No k) q p = let z : ◌≡◌ {A = ℕ} 0 1 = cc in absurd (omega arith)
 
 -- what a value that was found adds, and the position after it
-amount_at : (x : spec.Said) (n : ℕ) {v next : ℕ} → found.Value v next ≡ amount x n → next ≡ n
-unfolding amount
-amount_at (spec.Number v) n e = cc
-amount_at (spec.Content a z) n e = cc
+next_of : Option Found → ℕ
+next_of (Some f) = f.next
+next_of None = 0
+
+amount_at : (x : spec.Said) (n : ℕ) {v next : ℕ} → found_at v next ≡ amount x n → next ≡ n
+unfolding amount next_of
+amount_at (spec.Number v) n e = ap next_of e
+amount_at (spec.Content a z) n e = ap next_of e
 amount_at spec.End n e = let z : ◌≡◌ {A = ℕ} 0 1 = cc in absurd (omega arith)
 amount_at (spec.Refused k p) n e = let z : ◌≡◌ {A = ℕ} 0 1 = cc in absurd (omega arith)
 
@@ -209,13 +227,13 @@ module _ {w : Way} {whole : Sum} {s : List ℕ} {at acc : ℕ} (t : Moved) (x : 
       go zero f q = absurd (omega arith)
       go (suc k) f q = record { left = k; few = f; same = q ∙ rw (lt-leb (length s) at l, ← e) refl }
 
-  pub tag_refused : NoNumber t.said → Part acc ≡ whole
+  pub tag_refused : NoNumber t.said → before acc ≡ whole
   tag_refused h = sym (turn.same ∙ no_number t.said h acc _)
 
-  module _ {g : ℕ} (n : t.said ≡ said.Number g) where
+  module _ {g : ℕ} (n : t.said ≡ Ok (said.Number g)) where
     tagged : whole ≡ field w acc t.at g s (λ y to. turns w turn.left y to s)
     unfolding number_on
-    tagged = turn.same ∙ ap (λ (y : Said). number_on acc (said_told y) (λ tag. field w acc t.at tag s (λ y to. turns w turn.left y to s))) n
+    tagged = turn.same ∙ ap (λ (y : Result Said Refused). number_on acc (said_told y) (λ tag. field w acc t.at tag s (λ y to. turns w turn.left y to s))) n
 
     behind : (at < t.at) × (t.at ≤ length s)
     behind = omega (arith, forward s at 0 raw_tag t e x.inside, further s at 0 raw_tag t e n, fewest_raw s at l)
@@ -233,10 +251,10 @@ module _ {w : Way} {whole : Sum} {s : List ℕ} {at acc : ℕ} (t : Moved) (x : 
       unfolding field
       entered = tagged ∙ rw (h, ← f) refl
 
-      pub enter_refused : NoContent m.said → Part acc ≡ whole
+      pub enter_refused : NoContent m.said → before acc ≡ whole
       enter_refused r = sym (entered ∙ no_content m.said r acc _)
 
-      module _ {a z : ℕ} (q : m.said ≡ said.Content a z) where
+      module _ {a z : ℕ} (q : m.said ≡ Ok (said.Content a z)) where
         pub content_placed : (a ≤ z) × (z ≤ length s) × (at < m.at) × (m.at ≤ length s) × (t.at ≤ m.at)
         content_placed =
             let there : m.at ≡ (enter_at s t.at w.level).at = ap (λ (n : spec.Moved). n.at) f in
@@ -248,25 +266,25 @@ module _ {w : Way} {whole : Sum} {s : List ℕ} {at acc : ℕ} (t : Moved) (x : 
           unfolding content_on
           summed = entered ∙ rw (q, r) refl
 
-          pub content_refused : {y : ℕ} → c ≡ Part y → c ≡ whole
+          pub content_refused : {y : Part} → c ≡ Err y → c ≡ whole
           unfolding sum_on
           content_refused i = i ∙ sym (summed ∙ rw i refl)
 
-          pub content_turn : {y : ℕ} → c ≡ All y → Here w whole s m.at y
+          pub content_turn : {y : ℕ} → c ≡ Ok y → Here w whole s m.at y
           unfolding sum_on
           content_turn {y} i = let p = content_placed in onward m.at y p.4 p.3 (summed ∙ rw i refl)
 
     -- a value
-    module _ (v : Found) (f : v ≡ amount_of (step_at s t.at w.level (w.ask g))) (h : w.holds g ≡ false) where
+    module _ (v : Option Found) (f : v ≡ amount_of (step_at s t.at w.level (w.ask g))) (h : w.holds g ≡ false) where
       added : whole ≡ found_on acc v (λ y to. turns w turn.left (bit_xor acc y) to s)
       unfolding field
       added = tagged ∙ rw (h, f) refl
 
-      pub value_refused : {k : ℕ} → v ≡ found.Refused k → Part acc ≡ whole
+      pub value_refused : v ≡ None → before acc ≡ whole
       unfolding found_on
       value_refused i = sym (added ∙ rw i refl)
 
-      module _ {y to : ℕ} (i : v ≡ found.Value y to) where
+      module _ {y to : ℕ} (i : v ≡ found_at y to) where
         pub value_placed : (at < to) × (to ≤ length s) × (t.at ≤ to)
         value_placed =
             let b = behind in
@@ -280,7 +298,7 @@ module _ {w : Way} {whole : Sum} {s : List ℕ} {at acc : ℕ} (t : Moved) (x : 
 -- ---- levels
 
 -- a content is entered only below the last level
-pub entered_below : (s : List ℕ) (at level : ℕ) (m : Moved) → as_moved m ≡ enter_at s at level → {a z : ℕ} → m.said ≡ said.Content a z → level < most_levels
+pub entered_below : (s : List ℕ) (at level : ℕ) (m : Moved) → as_moved m ≡ enter_at s at level → {a z : ℕ} → m.said ≡ Ok (said.Content a z) → level < most_levels
 entered_below s at level m e {a} {z} q =
     lower_or_not level most_levels (λ h. h)
     (λ h. let x : spec.Refused too_deep at ≡ spec.Content a z = ap (λ (n : spec.Moved). n.said) (sym (enter_too_deep s at level h) ∙ sym e) ∙ ap said_told q in

@@ -1,17 +1,26 @@
 -- What the pull loop over a message of bench/bench.proto returns: the exclusive or of all values and of the lengths of contents. Assumes nothing: these are definitions.
 -- Public promises cite it.
-use Rattle.std.specs.Prelude.{ℕ, zero, suc, ◌+◌, ◌-◌, ◌*◌, ◌≤◌, ◌≡◌, Bool, true, List, eqb, leb, length, if◌then◌else◌}
+use Rattle.std.specs.Prelude.{ℕ, zero, suc, ◌+◌, ◌-◌, ◌*◌, ◌≤◌, ◌≡◌, Bool, true, List, eqb, leb, length, if◌then◌else◌, Option, Some, None, Result, Ok, Err}
 use Rattle.std.specs.Int.Bits.{bit_xor}
 use Rattle.spec.specs.Names.{delimited_wire, fixed32_wire, most_levels, varint_wire}
 use Rattle.spec.specs.Base.{part}
 use Rattle.spec.specs.Kind.{int32, uint32, sint32, fixed32, bool}
 use Rattle.spec.specs.Pull.{Ask, raw_tag, value, bytes, string, skip, Said, Number, Content, End, Refused, Moved, step_at, enter_at}
 use Rattle.wire.specs.declared.found.Found.{Found}
-use Rattle.wire.specs.declared.found.Found.TheVariants as found
 use Rattle.pull.specs.declared.step.Moved as pull
 use Rattle.pull.specs.declared.step.Said.TheVariants as said
-use Rattle.bench_pull.specs.declared.message.Sum.{Sum}
-use Rattle.bench_pull.specs.declared.message.Sum.TheVariants.{All, Part}
+use Rattle.bench_pull.specs.declared.message.Part.{Part}
+
+-- the exclusive or of all, or of what stands before a refusal
+abbrev pub Sum : Type 0
+Sum = Result ℕ Part
+
+abbrev pub before : ℕ → Sum
+before acc = Err (record { sum = acc })
+
+-- the answer of a value, and the position after it
+abbrev pub found_at : (value next : ℕ) → Option Found
+found_at v n = Some (record { value = v; next = n })
 
 -- ---- the tags of the fields of bench.proto: the field's number, eight times, and its wire type
 
@@ -60,49 +69,49 @@ inner_ask tag =
     if eqb tag inner_bytes then bytes else skip tag
 
 -- a number as it is, and of a content its length; no step but that for a tag says that the bytes are at their end
-unfoldable pub amount : Said → ℕ → Found
-amount (Number v) next = found.Value v next
-amount (Content a z) next = found.Value (z - a) next
-amount End next = found.Refused 0
-amount (Refused k p) next = found.Refused k
+unfoldable pub amount : Said → ℕ → Option Found
+amount (Number v) next = found_at v next
+amount (Content a z) next = found_at (z - a) next
+amount End next = None
+amount (Refused k p) next = None
 
-abbrev pub amount_of : Moved → Found
+abbrev pub amount_of : Moved → Option Found
 amount_of m = amount m.said m.at
 
 -- a content that an answer has does not end before its start
 abbrev pub Ordered : pull.Moved → Type 0
-Ordered m = (a z : ℕ) → m.said ≡ said.Content a z → a ≤ z
+Ordered m = (a z : ℕ) → m.said ≡ Ok (said.Content a z) → a ≤ z
 
 -- ---- how it goes on, or that `acc` is all there is after a refusal
 
 unfoldable pub number_on : ℕ → Said → (ℕ → Sum) → Sum
 number_on acc (Number v) next = next v
-number_on acc (Content a z) next = Part acc
-number_on acc End next = Part acc
-number_on acc (Refused k p) next = Part acc
+number_on acc (Content a z) next = before acc
+number_on acc End next = before acc
+number_on acc (Refused k p) next = before acc
 
 unfoldable pub content_on : ℕ → Said → (ℕ → ℕ → Sum) → Sum
-content_on acc (Number v) next = Part acc
+content_on acc (Number v) next = before acc
 content_on acc (Content a z) next = next a z
-content_on acc End next = Part acc
-content_on acc (Refused k p) next = Part acc
+content_on acc End next = before acc
+content_on acc (Refused k p) next = before acc
 
-unfoldable pub found_on : ℕ → Found → (ℕ → ℕ → Sum) → Sum
-found_on acc (found.Value v next) f = f v next
-found_on acc (found.Refused k) f = Part acc
+unfoldable pub found_on : ℕ → Option Found → (ℕ → ℕ → Sum) → Sum
+found_on acc (Some v) f = f v.value v.next
+found_on acc None f = before acc
 
 unfoldable pub sum_on : Sum → (ℕ → Sum) → Sum
-sum_on (All acc) next = next acc
-sum_on (Part acc) next = Part acc
+sum_on (Ok acc) next = next acc
+sum_on (Err p) next = Err p
 
 -- ---- the elements of a packed field from a position on; k is no less than the number of bytes left
 
 unfoldable pub elements : (k acc at : ℕ) → List ℕ → Sum
-elements zero acc at s = All acc
+elements zero acc at s = Ok acc
 elements (suc k) acc at s =
     let m = step_at s at 0 (value sint32) in
     let on = number_on acc m.said (λ v. elements k (bit_xor acc v) m.at s) in
-    if leb (length s) at then All acc else on
+    if leb (length s) at then Ok acc else on
 
 -- ---- the fields of a message
 
@@ -123,18 +132,18 @@ field w acc at tag s next =
 
 -- the fields from a position on; k as for elements
 unfoldable pub turns : Way → (k acc at : ℕ) → List ℕ → Sum
-turns w zero acc at s = All acc
+turns w zero acc at s = Ok acc
 turns w (suc k) acc at s =
     let t = step_at s at 0 raw_tag in
     let on = number_on acc t.said (λ tag. field w acc t.at tag s (λ x to. turns w k x to s)) in
-    if leb (length s) at then All acc else on
+    if leb (length s) at then Ok acc else on
 
 -- an inner message, with n levels from its own to the last, at which no content is entered
 abbrev pub inner_way : ℕ → (ℕ → List ℕ → Sum) → Way
 inner_way level deeper = record { level = level; ask = inner_ask; holds = λ tag. eqb tag inner_message; content = λ tag x c. deeper x c }
 
 unfoldable pub inner : (n acc : ℕ) → List ℕ → Sum
-inner zero acc s = Part acc
+inner zero acc s = before acc
 inner (suc n) acc s = turns (inner_way (most_levels - n) (inner n)) (length s) acc 0 s
 
 -- the root: messages of level 1, and packed elements
@@ -152,8 +161,8 @@ root s = turns root_way (length s) 0 0 s
 
 -- the exclusive or, whether all was read or not
 unfoldable pub total : Sum → ℕ
-total (All acc) = acc
-total (Part acc) = acc
+total (Ok acc) = acc
+total (Err p) = p.sum
 
 unfoldable pub fields : List ℕ → ℕ
 fields s = total (root s)

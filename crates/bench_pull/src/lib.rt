@@ -8,14 +8,14 @@ pub mod value;
 ghost use Rattle.std.specs.Prelude.{◌≡◌};
 ghost use Rattle.bench_pull.specs.Fields.{fields};
 
-use crate::message::{Sum, root};
+use crate::message::root;
 
 // The exclusive or of all values and of the lengths of contents, up to the end or the first refusal.
 pub fn perf_fields(s: &[u8]) -> u64
     ensures { result ≡ fields s.now }
 {
     match root(s) {
-        Sum::All(acc) => acc,
-        Sum::Part(acc) => acc,
+        Ok(sum) => sum,
+        Err(part) => part.sum,
     }
 }

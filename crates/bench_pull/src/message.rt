@@ -6,76 +6,72 @@ ghost use Rattle.spec.specs.Names.{most_levels};
 use crate::tags;
 use crate::value::{inner_value, root_value};
 use pull::step::{Said, enter_at, sint32_at, tag_at};
-use wire::found::Found;
 
-// The exclusive or so far: all of the bytes were read, or those before a refusal.
-#[derive(Drop)]
-pub enum Sum {
-    All(u64),
-    Part(u64),
+// The exclusive or of what stands before a refusal.
+#[derive(Clone, Copy, Debug, PartialEq, Eq)]
+pub struct Part {
+    pub sum: u64,
 }
 
 // The elements of a packed field.
-fn elements(s: &[u8], from: u64) -> Sum
+fn elements(s: &[u8], from: u64) -> Result<u64, Part>
     ensures { result ≡ spec.elements (length s.now) from 0 s.now }
 {
     let mut at: usize = 0;
     let mut acc: u64 = from;
     while at < s.len() {
-        let m = sint32_at(s, at);
-        let next = m.at;
-        let said = m.said;
-        let Said::Number(v) = said else {
-            return Sum::Part(acc);
+        let element = sint32_at(s, at);
+        let Ok(said) = element.said else {
+            return Err(Part { sum: acc });
         };
-        acc = acc ^ v;
-        at = next;
+        let Said::Number(v) = said else {
+            return Err(Part { sum: acc });
+        };
+        acc ^= v;
+        at = element.at;
     }
-    Sum::All(acc)
+    Ok(acc)
 }
 
 // The fields of an inner message, whose level is counted: no content is entered at level `most_levels`.
-fn inner(s: &[u8], level: u32, from: u64) -> Sum
+fn inner(s: &[u8], level: u32, from: u64) -> Result<u64, Part>
     requires { level ≤ most_levels }
     ensures { result ≡ spec.inner (most_levels + 1 - level) from s.now }
 {
     let mut at: usize = 0;
     let mut acc: u64 = from;
     while at < s.len() {
-        let t = tag_at(s, at);
-        let behind = t.at;
-        let said = t.said;
-        let Said::Number(tag) = said else {
-            return Sum::Part(acc);
+        let first = tag_at(s, at);
+        let Ok(read) = first.said else {
+            return Err(Part { sum: acc });
+        };
+        let Said::Number(tag) = read else {
+            return Err(Part { sum: acc });
         };
         if tag == tags::INNER_MESSAGE {
-            let e = enter_at(s, behind, level);
-            let next = e.at;
-            let held = e.said;
+            let entered = enter_at(s, first.at, level);
+            let Ok(held) = entered.said else {
+                return Err(Part { sum: acc });
+            };
             let Said::Content { start, end } = held else {
-                return Sum::Part(acc);
+                return Err(Part { sum: acc });
             };
             let size = end - start;
-            let c = inner(&s[start..end], level + 1, acc ^ size as u64);
-            let Sum::All(a) = c else {
-                return c;
-            };
-            acc = a;
-            at = next;
+            acc = inner(&s[start..end], level + 1, acc ^ size as u64)?;
+            at = entered.at;
         } else {
-            let f = inner_value(s, behind, level, tag);
-            let Found::Value { value, next } = f else {
-                return Sum::Part(acc);
+            let Some(found) = inner_value(s, first.at, level, tag) else {
+                return Err(Part { sum: acc });
             };
-            acc = acc ^ value;
-            at = next;
+            acc ^= found.value;
+            at = found.next;
         }
     }
-    Sum::All(acc)
+    Ok(acc)
 }
 
 // A content of the root.
-fn content(s: &[u8], tag: u64, from: u64) -> Sum
+fn content(s: &[u8], tag: u64, from: u64) -> Result<u64, Part>
     ensures { result ≡ spec.root_content tag from s.now }
 {
     if tag == tags::ROOT_MESSAGE {
@@ -95,40 +91,37 @@ fn holds(tag: u64) -> bool
 }
 
 // The fields of the root.
-pub(crate) fn root(s: &[u8]) -> Sum
+pub(crate) fn root(s: &[u8]) -> Result<u64, Part>
     ensures { result ≡ spec.root s.now }
 {
     let mut at: usize = 0;
     let mut acc: u64 = 0;
     while at < s.len() {
-        let t = tag_at(s, at);
-        let behind = t.at;
-        let said = t.said;
-        let Said::Number(tag) = said else {
-            return Sum::Part(acc);
+        let first = tag_at(s, at);
+        let Ok(read) = first.said else {
+            return Err(Part { sum: acc });
+        };
+        let Said::Number(tag) = read else {
+            return Err(Part { sum: acc });
         };
         if holds(tag) {
-            let e = enter_at(s, behind, 0);
-            let next = e.at;
-            let held = e.said;
+            let entered = enter_at(s, first.at, 0);
+            let Ok(held) = entered.said else {
+                return Err(Part { sum: acc });
+            };
             let Said::Content { start, end } = held else {
-                return Sum::Part(acc);
+                return Err(Part { sum: acc });
             };
             let size = end - start;
-            let c = content(&s[start..end], tag, acc ^ size as u64);
-            let Sum::All(a) = c else {
-                return c;
-            };
-            acc = a;
-            at = next;
+            acc = content(&s[start..end], tag, acc ^ size as u64)?;
+            at = entered.at;
         } else {
-            let f = root_value(s, behind, tag);
-            let Found::Value { value, next } = f else {
-                return Sum::Part(acc);
+            let Some(found) = root_value(s, first.at, tag) else {
+                return Err(Part { sum: acc });
             };
-            acc = acc ^ value;
-            at = next;
+            acc ^= found.value;
+            at = found.next;
         }
     }
-    Sum::All(acc)
+    Ok(acc)
 }

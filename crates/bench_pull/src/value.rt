@@ -10,28 +10,27 @@ use pull::step::{
 };
 use wire::found::Found;
 
-// A number as it is, and of a content its length.
-fn amount(m: Moved) -> Found
+// A number as it is, and of a content its length; none where it was refused.
+fn amount(m: Moved) -> Option<Found>
     requires { Ordered m }
     ensures { result ≡ amount_of (as_moved m) }
 {
     let next = m.at;
-    let said = m.said;
+    let said = m.said.ok()?;
     match said {
-        Said::Number(value) => Found::Value { value, next },
+        Said::Number(value) => Some(Found { value, next }),
         Said::Content { start, end } => {
             let size = end - start;
-            Found::Value {
+            Some(Found {
                 value: size as u64,
                 next,
-            }
+            })
         }
-        Said::End => Found::Refused(0),
-        Said::Refused { number, place } => Found::Refused(number),
+        Said::End => None,
     }
 }
 
-pub(crate) fn root_value(s: &[u8], at: usize, tag: u64) -> Found
+pub(crate) fn root_value(s: &[u8], at: usize, tag: u64) -> Option<Found>
     requires { tag < 2 ^ 32 }
     ensures { result ≡ amount_of (step_at s.now at 0 (root_ask tag)) }
 {
@@ -44,7 +43,7 @@ pub(crate) fn root_value(s: &[u8], at: usize, tag: u64) -> Found
     }
 }
 
-pub(crate) fn inner_value(s: &[u8], at: usize, level: u32, tag: u64) -> Found
+pub(crate) fn inner_value(s: &[u8], at: usize, level: u32, tag: u64) -> Option<Found>
     requires { tag < 2 ^ 32 }
     ensures { result ≡ amount_of (step_at s.now at level (inner_ask tag)) }
 {

@@ -1,15 +1,14 @@
 -- What the calls for C return in a lent array. Assumes nothing: these are definitions. Public promises cite it.
-use Rattle.std.specs.Prelude.{ℕ, ◌+◌, List, [], ◌∷◌, eqb, if◌then◌else◌}
+use Rattle.std.specs.Prelude.{ℕ, ◌+◌, List, [], ◌∷◌, eqb, if◌then◌else◌, Result, Ok, Err}
 use Rattle.std.proofs.Math.Option.{Option, none, some}
 use Rattle.spec.specs.Names.{bool_kind, bytes_kind, double_kind, enum_kind, fixed32_kind, fixed64_kind, float_kind, group_kind, int32_kind, int64_kind, invalid_schema, sfixed32_kind, sfixed64_kind, sint32_kind, sint64_kind, string_kind, uint32_kind, uint64_kind}
 use Rattle.spec.specs.Base.{Read, Took, No}
 use Rattle.spec.specs.Kind.{int32, uint32, uint64, bool, sint32, sint64, fixed32, sfixed32, fixed64}
 use Rattle.spec.specs.Pull.{Ask, raw_tag, value, bytes, string, skip, Said, Number, Content, End, Refused, Moved}
 use Rattle.spec.specs.Writing.{Verdict, Fine, Faulty}
+use Rattle.spec.specs.Told.{number_of as refusal_number}
+use Rattle.spec.specs.declared.refusals.Refusal.{Refusal}
 use Rattle.wire.specs.declared.found.Found.{Found}
-use Rattle.wire.specs.declared.found.Found.TheVariants as found
-use Rattle.wire.specs.declared.put.Put.{Put}
-use Rattle.wire.specs.declared.put.Put.TheVariants.{Next, NoRoom}
 
 -- what is read at a place: the value and the place after it, or two zeros
 unfoldable pub behind : ℕ → Read → List ℕ
@@ -17,18 +16,13 @@ behind at (Took v n) = v ∷ (at + n) ∷ []
 behind at (No k) = 0 ∷ 0 ∷ []
 
 -- the same of a function's answer: the refusal's number, and the two numbers
-abbrev pub refused : Found → ℕ
-refused (found.Value v next) = 0
-refused (found.Refused k) = k
+abbrev pub refused : Result Found Refusal → ℕ
+refused (Ok f) = 0
+refused (Err refusal) = refusal_number refusal
 
-abbrev pub pair : Found → List ℕ
-pair (found.Value v next) = v ∷ next ∷ []
-pair (found.Refused k) = 0 ∷ 0 ∷ []
-
--- the place after what was stored, or 0
-abbrev pub place_of : Put → ℕ
-place_of (Next next) = next
-place_of NoRoom = 0
+abbrev pub pair : Result Found Refusal → List ℕ
+pair (Ok f) = f.value ∷ f.next ∷ []
+pair (Err refusal) = 0 ∷ 0 ∷ []
 
 -- the number and the place of what a schema's check finds
 abbrev pub number_of : Option ℕ → ℕ

@@ -6,38 +6,16 @@ ghost use Rattle.spec.specs.Utf8.{valid_prefix};
 ghost use Rattle.spec.specs.Skip.{skip_field_for_tag, read_unknown_or_skip_group};
 ghost use Rattle.spec.specs.Document.{is_document};
 ghost use Rattle.wire.specs.Answers.{stored};
-ghost use Rattle.calf.specs.Told.{behind, refused, pair, place_of};
+ghost use Rattle.calf.specs.Told.{behind};
 
-use wire::found::Found;
-use wire::put::Put;
-
-// What is read at a place: its value and the place after it, or two zeros.
-fn pair(f: Found) -> [u64; 2]
-    ensures { result ≡ pair f }
-{
-    match f {
-        Found::Value { value, next } => [value, next as u64],
-        Found::Refused(_) => [0, 0],
-    }
-}
-
-fn refused(f: Found) -> u32
-    ensures { result ≡ refused f }
-{
-    match f {
-        Found::Value { .. } => 0,
-        Found::Refused(k) => k,
-    }
-}
+use crate::told;
 
 // The varint at a place: its value and the place after it.
 pub fn calf_varint64(s: &[u8], at: usize, answer: &mut [u64; 2]) -> u32
     ensures { (result ≡ refusal (varint64 (drop at s.now)))
         × (answer.new ≡ behind at (varint64 (drop at s.now))) }
 {
-    let f = wire::varint::decode::decode_varint64(s, at);
-    *answer = pair(f);
-    refused(f)
+    told::found(wire::varint::decode::decode_varint64(s, at), answer)
 }
 
 // The same of 32 bits.
@@ -45,19 +23,7 @@ pub fn calf_varint32(s: &[u8], at: usize, answer: &mut [u64; 2]) -> u32
     ensures { (result ≡ refusal (varint32 (drop at s.now)))
         × (answer.new ≡ behind at (varint32 (drop at s.now))) }
 {
-    let f = wire::varint::decode::decode_varint32(s, at);
-    *answer = pair(f);
-    refused(f)
-}
-
-// The place after what was stored; 0, which is no such place, where there was no room.
-fn place_of(p: Put) -> usize
-    ensures { result ≡ place_of p }
-{
-    match p {
-        Put::Next(next) => next,
-        Put::NoRoom => 0,
-    }
+    told::found(wire::varint::decode::decode_varint32(s, at), answer)
 }
 
 // Stores a varint at a place: the place after it; or 0 where it has no room, and nothing is stored.
@@ -65,7 +31,7 @@ pub fn calf_put_varint(value: u64, out: &mut [u8], at: usize) -> usize
     ensures { (result ≡ (if leb (at + length (encode value)) (length out.old) then at + length (encode value) else 0))
         × (out.new ≡ (if leb (at + length (encode value)) (length out.old) then stored at (encode value) out.old else out.old)) }
 {
-    place_of(wire::varint::encode::put_varint64(value, out, at))
+    wire::varint::encode::put_varint64(value, out, at).unwrap_or(0)
 }
 
 // How many bytes at the front are valid UTF-8.
@@ -82,9 +48,10 @@ pub fn calf_skip_field_for_tag(tag: u32, s: &[u8], level: u32, answer: &mut [u64
     ensures { (result ≡ refusal (skip_field_for_tag tag level s.now))
         × (answer.new ≡ taken (skip_field_for_tag tag level s.now) ∷ []) }
 {
-    let p = skip::unknown_or_group::skip_field_for_tag(tag, s, level);
-    *answer = [p.used as u64];
-    p.number
+    told::skipped(
+        skip::unknown_or_group::skip_field_for_tag(tag, s, level),
+        answer,
+    )
 }
 
 // The same as the message loop does it: the outermost group is not counted, and must end.
@@ -92,9 +59,10 @@ pub fn calf_read_unknown_or_skip_group(tag: u32, s: &[u8], level: u32, answer: &
     ensures { (result ≡ refusal (read_unknown_or_skip_group tag level s.now))
         × (answer.new ≡ taken (read_unknown_or_skip_group tag level s.now) ∷ []) }
 {
-    let p = skip::unknown_or_group::read_unknown_or_skip_group(tag, s, level);
-    *answer = [p.used as u64];
-    p.number
+    told::skipped(
+        skip::unknown_or_group::read_unknown_or_skip_group(tag, s, level),
+        answer,
+    )
 }
 
 // Whether the bytes are a document.

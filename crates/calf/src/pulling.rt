@@ -5,12 +5,13 @@ ghost use Rattle.pull.specs.Told as pulling;
 ghost use Rattle.calf.specs.Told.{asked_by, step_number, step_answer};
 
 use pull::step::{Ask, Moved, Said};
-use spec::{kinds32, limits, refusals};
+use spec::kinds32;
+use spec::refusals::Refusal;
 
 // No schema has a group: its number asks for a skip.
 const SKIP: u32 = kinds32::GROUP;
 
-// What a step says, by number: the end, a number, the bounds of a content, the place of a refusal.
+// What a step says, by number, as the C interface has it: the end, a number, the bounds of a content, the place of a refusal.
 const END: u64 = 0;
 
 const NUMBER: u64 = 1;
@@ -23,13 +24,12 @@ const REFUSED: u64 = 3;
 pub fn calf_pull_open(s: &[u8]) -> u32
     ensures { result ≡ (opened s.now).number }
 {
-    if limits::MOST_BYTES < s.len() {
-        return refusals::TOO_LARGE;
-    }
-    0
+    pull::reader::open(s).refused.map_or(0, Refusal::number)
 }
 
 // What a kind asks for: its value. `SKIP` asks that the field after `tag` is skipped; 0, and all that is no kind with a value, for the tag as it stands.
+// No `TryFrom`: every number asks for something, and a skip takes the tag too.
+#[tactic(auto, unfolding(crate::specs::Told::asked_by))]
 fn asked(kind: u32, tag: u32) -> Ask
     ensures { pulling.asked result ≡ asked_by kind tag }
 {
@@ -55,30 +55,24 @@ fn asked(kind: u32, tag: u32) -> Ask
     }
 }
 
-fn step_number(m: Moved) -> u32
-    ensures { result ≡ step_number (pulling.as_moved m) }
-{
-    let said = m.said;
-    match said {
-        Said::End => 0,
-        Said::Number(_) => 0,
-        Said::Content { start: _, end: _ } => 0,
-        Said::Refused { number, place: _ } => number,
-    }
-}
-
 // What a step says, in numbers: which of the four, the one or two numbers that go with it, and the position then.
-fn step_answer(m: Moved) -> [u64; 4]
-    ensures { result ≡ step_answer (pulling.as_moved m) }
+fn stepped(m: Moved, answer: &mut [u64; 4]) -> u32
+    ensures { (result ≡ step_number (pulling.as_moved m)) × (answer.new ≡ step_answer (pulling.as_moved m)) }
 {
-    let said = m.said;
     let at = m.at as u64;
-    match said {
+    let said = match m.said {
+        Ok(said) => said,
+        Err(refused) => {
+            *answer = [REFUSED, refused.place as u64, 0, at];
+            return refused.refusal.number();
+        }
+    };
+    *answer = match said {
         Said::End => [END, 0, 0, at],
         Said::Number(v) => [NUMBER, v, 0, at],
         Said::Content { start, end } => [CONTENT, start as u64, end as u64, at],
-        Said::Refused { number: _, place } => [REFUSED, place as u64, 0, at],
-    }
+    };
+    0
 }
 
 // A step at a position and a level.
@@ -93,17 +87,12 @@ pub fn calf_pull_step(
     ensures { (result ≡ step_number (step_at s.now at level (asked_by kind tag)))
         × (answer.new ≡ step_answer (step_at s.now at level (asked_by kind tag))) }
 {
-    let ask = asked(kind, tag);
-    let m = pull::step::step_at(s, at, level, ask);
-    *answer = step_answer(m);
-    step_number(m)
+    stepped(pull::step::step_at(s, at, level, asked(kind, tag)), answer)
 }
 
 // The content of a message at a position: a caller goes on in it one level up, or after it.
 pub fn calf_pull_enter(s: &[u8], at: usize, level: u32, answer: &mut [u64; 4]) -> u32
     ensures { (result ≡ step_number (enter_at s.now at level)) × (answer.new ≡ step_answer (enter_at s.now at level)) }
 {
-    let m = pull::step::enter_at(s, at, level);
-    *answer = step_answer(m);
-    step_number(m)
+    stepped(pull::step::enter_at(s, at, level), answer)
 }

@@ -5,13 +5,12 @@ ghost use Rattle.spec.specs.Record.{stride};
 ghost use Rattle.spec.specs.Schema.{bad_schema, schema_of};
 ghost use Rattle.spec.specs.Reading.{plainly, asking, reading, reading_as, reading_by, number, place, listed, room_after};
 ghost use Rattle.schema.specs.Tables.{keys_of, info_of};
-ghost use Rattle.schema.specs.Told.{bad_place};
 ghost use Rattle.read.specs.Prepared.{prepared};
 ghost use Rattle.calf.specs.Told.{number_of, entry_of};
 
-use schema::Verdict;
+use crate::told;
 use schema::layout::{INFO, KEYS};
-use spec::{Mode, columns, refusals};
+use spec::{Mode, columns};
 
 // How many numbers a record has in lent room and in a list.
 pub fn calf_record_numbers() -> usize
@@ -20,32 +19,12 @@ pub fn calf_record_numbers() -> usize
     columns::STRIDE
 }
 
-fn number_of(v: Verdict) -> u32
-    ensures { result ≡ number_of (bad_place v) }
-{
-    match v {
-        Verdict::Valid => 0,
-        Verdict::Bad(_) => refusals::INVALID_SCHEMA,
-    }
-}
-
-fn entry_of(v: Verdict) -> usize
-    ensures { result ≡ entry_of (bad_place v) }
-{
-    match v {
-        Verdict::Valid => 0,
-        Verdict::Bad(i) => i,
-    }
-}
-
 // Whether a schema of five numbers an entry is valid: the first bad entry.
 pub fn calf_check_schema(types: u32, numbers: &[u32], answer: &mut [u64; 1]) -> u32
     ensures { (result ≡ number_of (bad_schema (schema_of types numbers.now)))
         × (answer.new ≡ entry_of (bad_schema (schema_of types numbers.now)) ∷ []) }
 {
-    let v = schema::check(types, numbers);
-    *answer = [entry_of(v) as u64];
-    number_of(v)
+    told::valid(schema::check(types, numbers), answer)
 }
 
 // The tables of a schema, for `calf_read_prepared` and `calf_read_prepared_dropped`: of the entries before the first bad one where it is not valid.
@@ -61,9 +40,7 @@ pub fn calf_prepare(
         × (keys.new ≡ keys_of (schema_of types numbers.now))
         × (info.new ≡ info_of (schema_of types numbers.now)) }
 {
-    let v = schema::tables(types, numbers, keys, info);
-    *answer = [entry_of(v) as u64];
-    number_of(v)
+    told::valid(schema::tables(types, numbers, keys, info), answer)
 }
 
 // ---- reading
@@ -81,9 +58,7 @@ pub fn calf_read(
         ∷ place (reading (schema_of types numbers.now) (length room.old / stride) s.now) ∷ [])
         × (room.new ≡ room_after (reading (schema_of types numbers.now) (length room.old / stride) s.now) room.old) }
 {
-    let a = read::read(types, numbers, s, room);
-    *answer = [a.count as u64, a.place as u64];
-    a.number
+    told::read(read::read(types, numbers, s, room), answer)
 }
 
 // The same under the tables of a schema, which a caller with many messages makes once by `calf_prepare`.
@@ -99,9 +74,7 @@ pub fn calf_read_prepared(
         ∷ place (reading_by none (prepared plainly keys.now info.now) (length room.old / stride) s.now) ∷ [])
         × (room.new ≡ room_after (reading_by none (prepared plainly keys.now info.now) (length room.old / stride) s.now) room.old) }
 {
-    let a = read::read_prepared(keys, info, s, room);
-    *answer = [a.count as u64, a.place as u64];
-    a.number
+    told::read(read::read_prepared(keys, info, s, room), answer)
 }
 
 // ---- reading with dropped spans: what is dropped, a skipped group or an empty packed field, gives a record of kind 25 with its whole span
@@ -119,9 +92,10 @@ pub fn calf_read_dropped(
         ∷ place (reading_as (asking true plainly) (schema_of types numbers.now) (length room.old / stride) s.now) ∷ [])
         × (room.new ≡ room_after (reading_as (asking true plainly) (schema_of types numbers.now) (length room.old / stride) s.now) room.old) }
 {
-    let a = read::read_as(Mode { dropped: true }, types, numbers, s, room);
-    *answer = [a.count as u64, a.place as u64];
-    a.number
+    told::read(
+        read::read_as(Mode { dropped: true }, types, numbers, s, room),
+        answer,
+    )
 }
 
 // As `calf_read_prepared`.
@@ -137,7 +111,8 @@ pub fn calf_read_prepared_dropped(
         ∷ place (reading_by none (prepared (asking true plainly) keys.now info.now) (length room.old / stride) s.now) ∷ [])
         × (room.new ≡ room_after (reading_by none (prepared (asking true plainly) keys.now info.now) (length room.old / stride) s.now) room.old) }
 {
-    let a = read::read_prepared_as(Mode { dropped: true }, keys, info, s, room);
-    *answer = [a.count as u64, a.place as u64];
-    a.number
+    told::read(
+        read::read_prepared_as(Mode { dropped: true }, keys, info, s, room),
+        answer,
+    )
 }

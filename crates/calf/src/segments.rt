@@ -3,6 +3,8 @@ ghost use Rattle.std.specs.Prelude.{◌≡◌, [], ◌∷◌, ◌/◌, length};
 ghost use Rattle.spec.specs.Writing as writer;
 ghost use Rattle.segment.specs.Segment.{range_stride, ranges_of, reading, number, place, listed, room_after, writing, sizing};
 
+use crate::told;
+
 // The messages of the segment s: how many ranges stand in the room, two numbers each, and the place of the refusal.
 pub fn calf_segment_read(s: &[u8], room: &mut [u64], answer: &mut [u64; 2]) -> u32
     ensures { (result ≡ number (reading (length room.old / range_stride) s.now))
@@ -10,9 +12,7 @@ pub fn calf_segment_read(s: &[u8], room: &mut [u64], answer: &mut [u64; 2]) -> u
         ∷ place (reading (length room.old / range_stride) s.now) ∷ [])
         × (room.new ≡ room_after (reading (length room.old / range_stride) s.now) room.old) }
 {
-    let a = segment::read(s, room);
-    *answer = [a.count as u64, a.place as u64];
-    a.number
+    told::read(segment::read(s, room), answer)
 }
 
 // How many bytes the segment of some ranges of the payload takes, and the index of the first range that does not lie in it.
@@ -21,9 +21,7 @@ pub fn calf_segment_size(ranges: &[u64], payload: &[u8], answer: &mut [u64; 2]) 
         × (answer.new ≡ writer.size (sizing payload.now (ranges_of ranges.now))
         ∷ writer.index (sizing payload.now (ranges_of ranges.now)) ∷ []) }
 {
-    let a = segment::size(ranges, payload);
-    *answer = [a.size as u64, a.index as u64];
-    a.number
+    told::written(segment::size(ranges, payload), answer)
 }
 
 // Writes the segment of some ranges of the payload to the front of `out`: how many bytes it takes, and the index of the first range that does not lie in it.
@@ -38,7 +36,5 @@ pub fn calf_segment_write(
         ∷ writer.index (writing (length out.old) payload.now (ranges_of ranges.now)) ∷ [])
         × (out.new ≡ writer.output (writing (length out.old) payload.now (ranges_of ranges.now)) out.old) }
 {
-    let a = segment::write(ranges, payload, out);
-    *answer = [a.size as u64, a.index as u64];
-    a.number
+    told::written(segment::write(ranges, payload, out), answer)
 }

@@ -3,28 +3,9 @@ ghost use Rattle.std.specs.Prelude.{◌≡◌, [], ◌∷◌, length};
 ghost use Rattle.spec.specs.Record.{records_of};
 ghost use Rattle.spec.specs.Schema.{schema_of};
 ghost use Rattle.spec.specs.Writing.{list_check, sizing, writing, number, size, index, output};
-ghost use Rattle.list.specs.Told.{as_verdict};
 ghost use Rattle.calf.specs.Told.{fault_of, index_of};
 
-use list::Verdict;
-
-fn fault_of(v: Verdict) -> u32
-    ensures { result ≡ fault_of (as_verdict v) }
-{
-    match v {
-        Verdict::Fine => 0,
-        Verdict::Faulty { number, index: _ } => number,
-    }
-}
-
-fn index_of(v: Verdict) -> usize
-    ensures { result ≡ index_of (as_verdict v) }
-{
-    match v {
-        Verdict::Fine => 0,
-        Verdict::Faulty { number: _, index } => index,
-    }
-}
+use crate::told;
 
 // Whether a list is what reading under the schema would give: the index of its fault, or the first bad entry of the schema.
 pub fn calf_check_list(
@@ -37,9 +18,7 @@ pub fn calf_check_list(
     ensures { (result ≡ fault_of (list_check (schema_of types numbers.now) payload.now (records_of list.now)))
         × (answer.new ≡ index_of (list_check (schema_of types numbers.now) payload.now (records_of list.now)) ∷ []) }
 {
-    let v = list::check(types, numbers, list, payload);
-    *answer = [index_of(v) as u64];
-    fault_of(v)
+    told::checked(list::check(types, numbers, list, payload), answer)
 }
 
 // How many bytes a list takes when it is written, and the index of its fault.
@@ -54,9 +33,7 @@ pub fn calf_size(
         × (answer.new ≡ size (sizing (schema_of types numbers.now) payload.now (records_of list.now))
         ∷ index (sizing (schema_of types numbers.now) payload.now (records_of list.now)) ∷ []) }
 {
-    let a = write::size(types, numbers, list, payload);
-    *answer = [a.size as u64, a.index as u64];
-    a.number
+    told::written(write::size(types, numbers, list, payload), answer)
 }
 
 // Writes a list to the front of `out`: how many bytes it takes, and the index of its fault.
@@ -73,7 +50,5 @@ pub fn calf_write(
         ∷ index (writing (schema_of types numbers.now) (length out.old) payload.now (records_of list.now)) ∷ [])
         × (out.new ≡ output (writing (schema_of types numbers.now) (length out.old) payload.now (records_of list.now)) out.old) }
 {
-    let a = write::write(types, numbers, list, payload, out);
-    *answer = [a.size as u64, a.index as u64];
-    a.number
+    told::written(write::write(types, numbers, list, payload, out), answer)
 }

@@ -15,7 +15,6 @@ mod finds;
 mod letters;
 mod lists;
 mod packed;
-mod parts;
 mod rooms;
 mod schemas;
 mod segments;
@@ -23,32 +22,31 @@ mod spans;
 mod tags;
 mod unknowns;
 
-use std::io;
+use printing::Page;
 use std::io::Write;
+use std::{fmt, io};
 
-// The text of all lines.
+// The room for the text of all lines.
 const TEXT: usize = 16384;
 
-// The first characters of the output are written.
-fn write_front<W: Write>(output: &mut W, out: &[u8], size: usize) -> io::Result<()> {
-    if size <= out.len() {
-        return output.write_all(&out[0..size]);
-    }
-    Ok(())
+// All lines.
+fn put_lines(page: &mut Page) -> fmt::Result {
+    lists::lists(page)?;
+    rooms::rooms(page)?;
+    schemas::schemas(page)?;
+    finds::finds(page)?;
+    tags::tags(page)?;
+    packed::packed(page)?;
+    unknowns::unknowns(page)?;
+    copies::copies(page)?;
+    segments::segments(page)?;
+    letters::letters(page)?;
+    spans::spans(page)
 }
 
 fn main(rt: HostRuntime) -> io::Result<()> {
     let mut out = [0u8; TEXT];
-    let listed = lists::lists(0, &mut out);
-    let roomed = rooms::rooms(listed, &mut out);
-    let judged = schemas::schemas(roomed, &mut out);
-    let found = finds::finds(judged, &mut out);
-    let tagged = tags::tags(found, &mut out);
-    let packed = packed::packed(tagged, &mut out);
-    let sized = unknowns::unknowns(packed, &mut out);
-    let copied = copies::copies(sized, &mut out);
-    let cut = segments::segments(copied, &mut out);
-    let spelled = letters::letters(cut, &mut out);
-    let size = spans::spans(spelled, &mut out);
-    write_front(&mut rt.stdout(), &out, size)
+    let mut page = Page::new(&mut out);
+    put_lines(&mut page)?;
+    rt.stdout().write_all(page.written())
 }

@@ -1,16 +1,13 @@
 // Sizes of packed fields by kind: of no values, and of some values under tags of one, two and five bytes.
-use crate::parts::{put_sized, put_two};
-use printing::put_byte;
+use printing::Page;
 use spec::kinds32;
 use spec::limits::LARGEST_NUMBER;
-use wire::wire_format::Sized;
+use spec::refusals::Refusal;
+use std::fmt;
+use std::fmt::Write;
 
 // The last field number with a tag of one byte, the first with a tag of two, and the largest, whose tag has five.
-const ONE_BYTE: u32 = 15;
-
-const TWO_BYTES: u32 = 16;
-
-const FIVE_BYTES: u32 = LARGEST_NUMBER;
+const NUMBERS: [u32; 3] = [15, 16, LARGEST_NUMBER];
 
 // The values of each type, which all kinds of that type take: those around the last value of one byte, also where they are zigzag numbers, and the longest.
 const I32S: [i32; 6] = [-1, -64, 64, 127, 128, 0x7fff_ffff];
@@ -29,7 +26,7 @@ const DOUBLES: [f64; 16] = [0.5; 16];
 const BOOLS: [bool; 127] = [true; 127];
 
 // The calls by kind, for each type that several kinds take.
-fn of_i32s(kind: u32, number: u32, values: &[i32]) -> Sized {
+fn of_i32s(kind: u32, number: u32, values: &[i32]) -> Result<u64, Refusal> {
     match kind {
         kinds32::INT32 => sizes::vec_packed_int32_size(number, values),
         kinds32::ENUM => sizes::vec_packed_enum_or_unknown_size(number, values),
@@ -38,7 +35,7 @@ fn of_i32s(kind: u32, number: u32, values: &[i32]) -> Sized {
     }
 }
 
-fn of_i64s(kind: u32, number: u32, values: &[i64]) -> Sized {
+fn of_i64s(kind: u32, number: u32, values: &[i64]) -> Result<u64, Refusal> {
     match kind {
         kinds32::INT64 => sizes::vec_packed_int64_size(number, values),
         kinds32::SFIXED64 => sizes::vec_packed_sfixed64_size(number, values),
@@ -46,14 +43,14 @@ fn of_i64s(kind: u32, number: u32, values: &[i64]) -> Sized {
     }
 }
 
-fn of_u32s(kind: u32, number: u32, values: &[u32]) -> Sized {
+fn of_u32s(kind: u32, number: u32, values: &[u32]) -> Result<u64, Refusal> {
     match kind {
         kinds32::FIXED32 => sizes::vec_packed_fixed32_size(number, values),
         _ => sizes::vec_packed_uint32_size(number, values),
     }
 }
 
-fn of_u64s(kind: u32, number: u32, values: &[u64]) -> Sized {
+fn of_u64s(kind: u32, number: u32, values: &[u64]) -> Result<u64, Refusal> {
     match kind {
         kinds32::FIXED64 => sizes::vec_packed_fixed64_size(number, values),
         _ => sizes::vec_packed_uint64_size(number, values),
@@ -61,7 +58,7 @@ fn of_u64s(kind: u32, number: u32, values: &[u64]) -> Sized {
 }
 
 // The call of this kind on no values.
-fn of_none(kind: u32, number: u32) -> Sized {
+fn of_none(kind: u32, number: u32) -> Result<u64, Refusal> {
     match kind {
         kinds32::DOUBLE => sizes::vec_packed_double_size(number, &[]),
         kinds32::FLOAT => sizes::vec_packed_float_size(number, &[]),
@@ -74,7 +71,7 @@ fn of_none(kind: u32, number: u32) -> Sized {
 }
 
 // The call of this kind on the values of its type.
-fn of_values(kind: u32, number: u32) -> Sized {
+fn of_values(kind: u32, number: u32) -> Result<u64, Refusal> {
     match kind {
         kinds32::DOUBLE => sizes::vec_packed_double_size(number, &DOUBLES),
         kinds32::FLOAT => sizes::vec_packed_float_size(number, &FLOATS),
@@ -87,34 +84,23 @@ fn of_values(kind: u32, number: u32) -> Sized {
 }
 
 // A line: a kind and a field number, and the sizes of no values and of some.
-fn kind_line(kind: u32, number: u32, at: usize, out: &mut [u8]) -> usize {
-    let named = put_two(b"packedsize ", kind as u64, number as u64, at, out);
-    let colon = put_byte(b':', named, out);
-    let none = put_sized(of_none(kind, number), colon, out);
-    let some = put_sized(of_values(kind, number), none, out);
-    put_byte(b'\n', some, out)
+fn kind_line(kind: u32, number: u32, page: &mut Page) -> fmt::Result {
+    write!(page, "packedsize {kind} {number}: ")?;
+    page.put_sized(of_none(kind, number));
+    page.put_byte(b' ');
+    page.put_sized(of_values(kind, number));
+    writeln!(page)
 }
 
-// A line for each kind from `first` to `last`.
-fn kind_lines(first: u32, last: u32, number: u32, at: usize, out: &mut [u8]) -> usize {
-    let mut to = at;
-    let mut kind = first;
-    while kind < last {
-        to = kind_line(kind, number, to, out);
-        kind += 1;
+// All kinds that may be packed, under each number: all but string, group, message and bytes.
+pub fn packed(page: &mut Page) -> fmt::Result {
+    for number in NUMBERS {
+        for kind in kinds32::DOUBLE..=kinds32::BOOL {
+            kind_line(kind, number, page)?;
+        }
+        for kind in kinds32::UINT32..=kinds32::SINT64 {
+            kind_line(kind, number, page)?;
+        }
     }
-    kind_line(last, number, to, out)
-}
-
-// A line for each kind that may be packed: all but string, group, message and bytes.
-fn number_lines(number: u32, at: usize, out: &mut [u8]) -> usize {
-    let to = kind_lines(kinds32::DOUBLE, kinds32::BOOL, number, at, out);
-    kind_lines(kinds32::UINT32, kinds32::SINT64, number, to, out)
-}
-
-// All kinds under each number.
-pub fn packed(at: usize, out: &mut [u8]) -> usize {
-    let one = number_lines(ONE_BYTE, at, out);
-    let two = number_lines(TWO_BYTES, one, out);
-    number_lines(FIVE_BYTES, two, out)
+    Ok(())
 }

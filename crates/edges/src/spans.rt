@@ -1,12 +1,12 @@
 // Readings with dropped spans, by calls that case lines do not make: under entries that are numbers, under tables, and into rooms that end within a record.
-use crate::parts::put_name;
-use crate::rooms::{PATTERN, put_reading};
+use crate::rooms::{PATTERN, RECORDS};
 use crate::schemas::{ENTRIES, SCHEMA_A, TYPES};
-use printing::put_byte;
-use read::Answer;
+use printing::Page;
 use schema::layout::{INFO, KEYS};
 use spec::Mode;
 use spec::columns::STRIDE;
+use std::fmt;
+use std::fmt::Write;
 
 // The int32 150; a group, in which there are a group that ends under another number and a field; an empty packed field, whose length has two bytes; a
 // message that has a group and the uint32 5.
@@ -28,82 +28,51 @@ const ALL: usize = 6 * STRIDE;
 
 const WITHIN_LAST: usize = ALL - 1;
 
-// Reads under numbers, into the first `n` numbers of a room.
-fn read_into(mode: Mode, n: usize, room: &mut [u64]) -> Answer {
-    if n <= room.len() {
-        return read::read_as(mode, TYPES, &ENTRIES[0..SCHEMA_A], &BYTES, &mut room[0..n]);
-    }
-    Answer {
-        number: 0,
-        count: 0,
-        place: 0,
-    }
-}
-
-// Reads under tables, into the first `n` numbers of a room.
-fn read_under(
-    mode: Mode,
-    keys: &[u64; KEYS],
-    info: &[u8; INFO],
-    n: usize,
-    room: &mut [u64],
-) -> Answer {
-    if n <= room.len() {
-        return read::read_prepared_as(mode, keys, info, &BYTES, &mut room[0..n]);
-    }
-    Answer {
-        number: 0,
-        count: 0,
-        place: 0,
-    }
-}
-
-// The reading under numbers, into a room that is made of the pattern; all of it is watched.
-fn put_read(mode: Mode, n: usize, at: usize, out: &mut [u8]) -> usize {
+// The reading under numbers, into the first `n` numbers of a room that is made of the pattern; all of it is watched.
+fn put_read(mode: Mode, n: usize, page: &mut Page) -> fmt::Result {
     let mut room = [PATTERN; ROOM];
-    let r = read_into(mode, n, &mut room);
-    put_reading(b"read ", r, &room, at, out)
+    if let Some(part) = room.get_mut(..n) {
+        let entries = &ENTRIES.as_flattened()[..SCHEMA_A];
+        let read = read::read_as(mode, TYPES, entries, &BYTES, part);
+        page.put_reading(read, &room, STRIDE, RECORDS, PATTERN);
+    }
+    Ok(())
 }
 
 // The same under the tables of the schema.
-fn put_prepared(mode: Mode, n: usize, at: usize, out: &mut [u8]) -> usize {
+fn put_prepared(mode: Mode, n: usize, page: &mut Page) -> fmt::Result {
     let mut keys = [0u64; KEYS];
     let mut info = [0u8; INFO];
     let mut room = [PATTERN; ROOM];
-    schema::tables(TYPES, &ENTRIES[0..SCHEMA_A], &mut keys, &mut info);
-    let r = read_under(mode, &keys, &info, n, &mut room);
-    put_reading(b" | prepared ", r, &room, at, out)
+    let _ = schema::tables(
+        TYPES,
+        &ENTRIES.as_flattened()[..SCHEMA_A],
+        &mut keys,
+        &mut info,
+    );
+    if let Some(part) = room.get_mut(..n) {
+        let read = read::read_prepared_as(mode, &keys, &info, &BYTES, part);
+        page.put_reading(read, &room, STRIDE, RECORDS, PATTERN);
+    }
+    Ok(())
 }
 
 // A line: what both calls say of a room.
-fn span_line(name: &[u8], mode: Mode, n: usize, at: usize, out: &mut [u8]) -> usize {
-    let named = put_name(name, n, at, out);
-    let told = put_read(mode, n, named, out);
-    let prepared = put_prepared(mode, n, told, out);
-    put_byte(b'\n', prepared, out)
-}
-
-// A line of a reading with dropped spans.
-fn asked_line(n: usize, at: usize, out: &mut [u8]) -> usize {
-    span_line(b"spans", Mode { dropped: true }, n, at, out)
-}
-
-// A line for each room in turn.
-fn asked_lines(at: usize, out: &mut [u8]) -> usize {
-    let mut to = at;
-    let mut n: usize = FIRST;
-    while n < LAST {
-        to = asked_line(n, to, out);
-        n += 1;
-    }
-    to
+fn span_line(name: &str, mode: Mode, n: usize, page: &mut Page) -> fmt::Result {
+    write!(page, "{name} {n}: read ")?;
+    put_read(mode, n, page)?;
+    write!(page, " | prepared ")?;
+    put_prepared(mode, n, page)?;
+    writeln!(page)
 }
 
 // The rooms in turn, one for three records, one that ends within the last, and one for all; and the same bytes where no spans are asked for.
-pub fn spans(at: usize, out: &mut [u8]) -> usize {
-    let full = asked_lines(at, out);
-    let three = asked_line(LAST, full, out);
-    let within = asked_line(WITHIN_LAST, three, out);
-    let all = asked_line(ALL, within, out);
-    span_line(b"unasked", Mode { dropped: false }, ALL, all, out)
+pub fn spans(page: &mut Page) -> fmt::Result {
+    let asked = Mode { dropped: true };
+    for n in FIRST..=LAST {
+        span_line("spans", asked, n, page)?;
+    }
+    span_line("spans", asked, WITHIN_LAST, page)?;
+    span_line("spans", asked, ALL, page)?;
+    span_line("unasked", Mode { dropped: false }, ALL, page)
 }

@@ -4,16 +4,23 @@ use Prim.Native.Nat.{ℕ, ◌+◌, ◌*◌, ◌≤◌, ◌<◌}
 use native.Mathlib.Nat.{zero-add, add-zero, suc-add}
 use native.Mathlib.Omega.{arith}
 use mathlib.Core.Path.{◌≡◌, refl, sym, ap, ◌∙◌}
+use mathlib.Core.Bool.{Bool, true, false}
+use mir.Val.{bool_byte}
 use mathlib.Core.List.{List, [], ◌∷◌, ◌++◌, append_assoc}
-use lib.ListN.{length, set, drop, length-append, length-drop, drop_of_length-le}
-use lib.Seq.{drop-nil, drop-drop}
+use lib.ListN.{length, set, drop, length-append, length-drop}
+use lib.Seq.{drop-drop}
 use borrow.Author.Tests.{lt-ltb, le-ltb}
 use Rattle.spec.specs.Names.{child_column, entry_kind_column, entry_number_column, most_entries, repeated_column}
 use Rattle.spec.specs.Base.{filled}
 use Rattle.spec.specs.Schema.{bit, copied, entry_stride}
 use Rattle.spec.specs.declared.Entry.{Entry}
 use Rattle.spec.proofs.VarintLaws.{lower_or_not}
-use Rattle.entries.specs.Copied.{most_numbers, few_of, few, stored_at, stored_from, copied_to}
+use Rattle.entries.specs.Copied.{most_numbers, few, stored_at, stored_from, copied_to}
+
+-- what `u32::from` makes of a bool
+pub byte_bit : (b : Bool) → bool_byte b ≡ bit b
+byte_bit true = refl
+byte_bit false = refl
 
 -- ---- a store after p is a store in what follows p
 
@@ -61,15 +68,10 @@ pub few_all : (es : List Entry) → length es ≤ most_entries → few es ≡ es
 unfolding few
 few_all es h = rw (le-ltb most_entries (length es) h)
 
-pub in_few : (n i : ℕ) → i < few_of n → (i < n) × (n ≤ most_entries)
-unfolding few_of
-in_few n i h = lower_or_not most_entries n (λ c. let none : i < 0 = rw (lt-ltb most_entries n c) at h in absurd (omega arith)) (λ c. let all : i < n = rw (le-ltb most_entries n c) at h in (all, c))
-
-pub past_few : (es : List Entry) (i : ℕ) → few_of (length es) ≤ i → drop i (few es) ≡ []
-unfolding few_of
-past_few es i h =
-    lower_or_not most_entries (length es) (λ c. ap (λ (l : List Entry). drop i l) (few_none es c) ∙ drop-nil i)
-    (λ c. let all : length es ≤ i = rw (le-ltb most_entries (length es) c) at h in ap (λ (l : List Entry). drop i l) (few_all es c) ∙ drop_of_length-le es all)
+-- of more entries none is stored
+pub copied_none : (es : List Entry) (a : List ℕ) → most_entries < length es → copied_to es a ≡ a
+unfolding copied_to stored_from
+copied_none es a h = ap (stored_from a 0) (few_none es h)
 
 -- ---- where the array has room for so many
 

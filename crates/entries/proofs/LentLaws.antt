@@ -1,6 +1,6 @@
 -- What is lent on of a copy is the schema's numbers; of more entries than a schema may have it is one number, which is bad at 0 as they are. So every call that judges its
 -- schema first answers the same. Assumes nothing.
-use Prim.Native.Nat.{ℕ, ◌*◌, ◌≤◌, ◌<◌, min}
+use Prim.Native.Nat.{ℕ, ◌*◌, ◌≤◌, ◌<◌}
 use native.Mathlib.Omega.{arith}
 use mathlib.Core.Path.{◌≡◌, refl, sym, ap, ap₂, ◌∙◌}
 use mathlib.Core.Bool.{Bool, true, false, ◌&&◌, false≢true}
@@ -21,8 +21,8 @@ use Rattle.spec.specs.declared.Entry.{Entry}
 use Rattle.spec.specs.declared.Mode.{Mode}
 use Rattle.spec.proofs.SchemaLaws.{length_copied, schema_back, rest_bad}
 use Rattle.spec.proofs.VarintLaws.{lower_or_not}
-use Rattle.entries.specs.Copied.{most_numbers, copied_to, lent_of}
-use Rattle.entries.proofs.CopyLaws.{few_all, copied_to_lem}
+use Rattle.entries.specs.Copied.{most_numbers, copied_to, lent}
+use Rattle.entries.proofs.CopyLaws.{few_all, copied_none, copied_to_lem}
 
 -- two schemas under which every call answers the same: they are one, or both are bad at 0
 pub data Alike (a b : Schema) : Type 0 where
@@ -38,27 +38,33 @@ many_bad types es h = go (between 1 most_types types) (leb (length es) most_entr
     go true false e = refl
     go false b e = refl
 
-lent_few : (n : ℕ) → n ≤ most_entries → lent_of n ≡ n * entry_stride
-unfolding lent_of
-lent_few n h = rw (le-ltb most_entries n h)
+lent_few : (es : List Entry) (a : List ℕ) → length es ≤ most_entries → lent es a ≡ copied es
+unfolding lent
+lent_few es a h = rw (le-ltb most_entries (length es) h)
 
-lent_many : (n : ℕ) → most_entries < n → lent_of n ≡ 1
-unfolding lent_of
-lent_many n h = rw (lt-ltb most_entries n h)
+lent_many : (es : List Entry) (a : List ℕ) → most_entries < length es → lent es a ≡ take 1 a
+unfolding lent
+lent_many es a h = rw (lt-ltb most_entries (length es) h)
 
-pub lent_fits : (n : ℕ) → lent_of n ≤ most_numbers
-lent_fits n = lower_or_not most_entries n (λ c. rw (lent_many n c) (omega arith)) (λ c. rw (lent_few n c) (omega arith))
+-- the numbers at the front of a copy
+pub front_few : (es : List Entry) (a z : List ℕ) (n : ℕ) → n ≡ length es → n ≤ most_entries → length a ≡ most_numbers → z ≡ copied_to es a → take (n * entry_stride) z ≡ lent es a
+front_few es a z n is h la e =
+    let few : length es ≤ most_entries = omega (arith, is, h) in
+    let long : n * entry_stride ≡ length (copied es) = omega (arith, is, length_copied es) in
+    let whole : z ≡ filled (copied es) a = e ∙ copied_to_lem es a la ∙ ap (λ (l : List Entry). filled (copied l) a) (few_all es few) in
+    ap₂ take long whole ∙ take-append_seam (copied es) (drop (length (copied es)) a) ∙ sym (lent_few es a few)
 
-pub lent_alike : (types : ℕ) (es : List Entry) (a z : List ℕ) → length a ≡ most_numbers → length z ≡ most_numbers → z ≡ copied_to es a
-    → Alike (schema_of types (take (lent_of (length es)) z)) (record { types = types; entries = es })
-lent_alike types es a z la lz e = lower_or_not most_entries (length es)
+pub front_many : (es : List Entry) (a z : List ℕ) (n : ℕ) → n ≡ length es → most_entries < n → z ≡ copied_to es a → take 1 z ≡ lent es a
+front_many es a z n is h e =
+    let many : most_entries < length es = omega (arith, is, h) in
+    ap (take 1) (e ∙ copied_none es a many) ∙ sym (lent_many es a many)
+
+pub lent_alike : (types : ℕ) (es : List Entry) (a : List ℕ) → 0 < length a → Alike (schema_of types (lent es a)) (record { types = types; entries = es })
+lent_alike types es a la = lower_or_not most_entries (length es)
     (λ c.
-    let short : length (take (lent_of (length es)) z) ≡ 1 = ap (λ (k : ℕ). length (take k z)) (lent_many (length es) c) ∙ length-take 1 z ∙ ap (min 1) lz in
-    bad (rest_bad types (take (lent_of (length es)) z) (λ h. omega (arith, h, short))) (many_bad types es c))
-    (λ c.
-    let lent : lent_of (length es) ≡ length (copied es) = omega (arith, lent_few (length es) c, length_copied es) in
-    let whole : z ≡ filled (copied es) a = e ∙ copied_to_lem es a la ∙ ap (λ (l : List Entry). filled (copied l) a) (few_all es c) in
-    one (ap (schema_of types) (ap₂ take lent whole ∙ take-append_seam (copied es) (drop (length (copied es)) a)) ∙ schema_back types es))
+    let short : length (lent es a) ≡ 1 = ap length (lent_many es a c) ∙ length-take 1 a ∙ omega (arith, la) in
+    bad (rest_bad types (lent es a) (λ h. omega (arith, h, short))) (many_bad types es c))
+    (λ c. one (ap (schema_of types) (lent_few es a c) ∙ schema_back types es))
 
 pub alike_reading : {a b : Schema} → Alike a b → (mode : Mode) (n : ℕ) (s : List ℕ) → reading_as mode a n s ≡ reading_as mode b n s
 unfolding reading_as reading_by called refused_or

@@ -1,10 +1,8 @@
 -- What the functions of this crate compute on the list of entries. Assumes nothing: these are definitions. Public promises cite it.
-use Rattle.std.specs.Prelude.{ℕ, ◌+◌, ◌*◌, ◌/◌, ◌%◌, ◌&&◌, List, [], ◌∷◌, length, take, get_or, set, ltb, eqb, if◌then◌else◌}
+use Rattle.std.specs.Prelude.{ℕ, ◌+◌, ◌*◌, ◌%◌, List, [], ◌∷◌, length, take, get_or, set, ltb, eqb, if◌then◌else◌}
 use Rattle.spec.specs.Names.{child_column, entry_kind_column, entry_number_column, most_entries, repeated_column}
-use Rattle.spec.specs.Schema.{bit, entry_of, schema_of, entry_stride}
+use Rattle.spec.specs.Schema.{bit, copied, entry_of, schema_of, entry_stride}
 use Rattle.spec.specs.declared.Entry.{Entry}
-use Rattle.schema.specs.declared.Place.{Place}
-use Rattle.schema.specs.declared.Place.TheVariants.{At, Nothing}
 -- the numbers of as many entries as a schema may have
 pub use Rattle.schema.specs.Layout.{most_numbers}
 
@@ -12,15 +10,7 @@ pub use Rattle.schema.specs.Layout.{most_numbers}
 abbrev pub one_more : ℕ
 one_more = most_entries + 1
 
--- the place that is found so far, after one more entry, which is the one at i
-unfoldable pub next_place : Place → ℕ → Entry → ℕ → ℕ → Place
-next_place (At j) i e owner number = At j
-next_place Nothing i e owner number = if eqb e.owner owner && eqb e.number number then At i else Nothing
-
--- how many of so many entries are copied: all of as many as a schema may have, else none
-unfoldable pub few_of : ℕ → ℕ
-few_of n = if ltb most_entries n then 0 else n
-
+-- the entries that are copied: all of as many as a schema may have, else none
 unfoldable pub few : List Entry → List Entry
 few es = if ltb most_entries (length es) then [] else es
 
@@ -38,9 +28,9 @@ stored_from a i (e ∷ es) = stored_from (stored_at a i e) (i + 1) es
 unfoldable pub copied_to : List Entry → List ℕ → List ℕ
 copied_to es a = stored_from a 0 (few es)
 
--- How many numbers of the copy are a schema of so many entries. Of more than a schema may have it is one number, which is no whole entry: a wrong count of entries.
-unfoldable pub lent_of : ℕ → ℕ
-lent_of n = if ltb most_entries n then 1 else n * entry_stride
+-- What is lent on of a copy to an array: the numbers of the entries. Of more entries than a schema may have it is one number, which is no whole entry: a wrong count of entries.
+unfoldable pub lent : List Entry → List ℕ → List ℕ
+lent es a = if ltb most_entries (length es) then take 1 a else copied es
 
 -- ---- entries of numbers
 
@@ -48,10 +38,7 @@ lent_of n = if ltb most_entries n then 1 else n * entry_stride
 abbrev pub entry_at : List ℕ → ℕ → Entry
 entry_at ns i = entry_of (get_or ns i 0) (get_or ns (i + entry_number_column) 0) (get_or ns (i + entry_kind_column) 0) (get_or ns (i + repeated_column) 0) (get_or ns (i + child_column) 0)
 
--- how many entries are made of so many numbers, and the type count that stands for them: of numbers with a remainder it is a schema of no types
-unfoldable pub count_of : ℕ → ℕ
-count_of n = if eqb (n % entry_stride) 0 then (if ltb one_more (n / entry_stride) then one_more else n / entry_stride) else 0
-
+-- the type count that stands for so many numbers: of numbers with a remainder it is a schema of no types
 unfoldable pub types_of : ℕ → ℕ → ℕ
 types_of types n = if eqb (n % entry_stride) 0 then types else 0
 

@@ -1,7 +1,7 @@
 -- Laws of the call: the tables that it makes, what it answers of a schema that is not valid, and that it has one answer. Assumes nothing.
 use Prim.Native.Nat.{ℕ, ◌+◌, ◌*◌, ◌/◌, ◌%◌, ◌^◌, ◌≤◌, ◌<◌}
 use native.Mathlib.Omega.{arith}
-use mathlib.Core.Path.{◌≡◌, refl, sym, ◌∙◌}
+use mathlib.Core.Path.{◌≡◌, refl, sym, ap₂, ◌∙◌}
 use mathlib.Core.Option.{none, some}
 use mathlib.Core.List.{List, [], ◌∷◌}
 use lib.ListN.{length, get_or}
@@ -19,8 +19,11 @@ use Rattle.schema.proofs.TableLaws.{key_at_lem, key_else, table_says_lem}
 use Rattle.list.specs.Told.{as_verdict}
 use Rattle.list.specs.Checking.{Made}
 use Rattle.list.proofs.FitLaws.{type_known}
-use Rattle.list.specs.declared.Verdict.{Verdict}
-use Rattle.list.specs.declared.Verdict.TheVariants.{Fine, Faulty}
+use Rattle.std.specs.Prelude.{Result, Ok, Err}
+use Rattle.spec.specs.Told.{number_of}
+use Rattle.spec.specs.declared.answers.Fault.{Fault}
+use Rattle.spec.specs.declared.refusals.Refusal.{Refusal}
+use Rattle.spec.proofs.ToldLaws.{same_refusal}
 
 -- ---- the tables
 
@@ -56,9 +59,13 @@ module _ (sch : Schema) (payload : List ℕ) (rs : List Record) where
   check_valid e = sym (rw e refl)
 
 -- any two answers to a call are equal
-pub one_answer : (v : spec.Verdict) (a b : Verdict) → as_verdict a ≡ v → as_verdict b ≡ v → a ≡ b
+pub one_answer : (v : spec.Verdict) (a b : Result (Unit {0}) Fault) → as_verdict a ≡ v → as_verdict b ≡ v → a ≡ b
 unfolding as_verdict
-one_answer v Fine Fine p q = refl
-one_answer v Fine (Faulty k i) p q = let z : ◌≡◌ {A = ℕ} 0 1 = cc in absurd (omega arith)
-one_answer v (Faulty k i) Fine p q = let z : ◌≡◌ {A = ℕ} 0 1 = cc in absurd (omega arith)
-one_answer v (Faulty k i) (Faulty m j) p q = let e : ◌≡◌ {A = spec.Verdict} (spec.Faulty k i) (spec.Faulty m j) = p ∙ sym q in cc
+one_answer v (Ok t) (Ok u) p q = refl
+one_answer v (Ok u) (Err g) p q = let z : ◌≡◌ {A = ℕ} 0 1 = cc in absurd (omega arith)
+one_answer v (Err f) (Ok u) p q = let z : ◌≡◌ {A = ℕ} 0 1 = cc in absurd (omega arith)
+one_answer v (Err f) (Err g) p q =
+    let e : ◌≡◌ {A = spec.Verdict} (spec.Faulty (number_of f.refusal) f.index) (spec.Faulty (number_of g.refusal) g.index) = p ∙ sym q in
+    let numbers : number_of f.refusal ≡ number_of g.refusal = cc in
+    let indexes : f.index ≡ g.index = cc in
+    ap₂ (λ (r : Refusal) (i : ℕ). Err (record { refusal = r; index = i })) (same_refusal numbers) indexes

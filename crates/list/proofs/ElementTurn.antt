@@ -20,7 +20,7 @@ use Rattle.spec.proofs.FlatLaws.{records_broken}
 use Rattle.spec.proofs.ListLaws.{around_here}
 use Rattle.spec.proofs.RunLaws.{records_at, records_end}
 use Rattle.list.specs.Checking.{Elapsed, passed, faulty}
-use Rattle.list.specs.declared.run.Behind.TheVariants.{To, Bad}
+use Rattle.std.specs.Prelude.{Ok, Err}
 use Rattle.list.proofs.RecordLaws.{fault_unexpected, fault_expected, other_number}
 use Rattle.list.proofs.OpenLaws.{first_good, first_bad, popped, none_left}
 
@@ -42,7 +42,7 @@ ahead list from depth number kind h w = record { on = omega arith; inside = h; w
 
 module _ {list : List ℕ} {from depth number kind at : ℕ} (h : Ahead list from depth number kind at) where
   -- they end, at the end of the list or in a remainder that is no record
-  pub elements_end : length list - at < stride → Elapsed list from depth number kind (To at)
+  pub elements_end : length list - at < stride → Elapsed list from depth number kind (Ok at)
   elements_end l =
       passed h.on h.inside h.whole
       (λ sch payload out c d pos s. h.same sch payload out c d s
@@ -59,7 +59,7 @@ module _ {list : List ℕ} {from depth number kind at : ℕ} (h : Ahead list fro
     split = records_at list at (omega (arith, h.inside))
 
     -- or at a record that is none
-    pub elements_left : get_or list at 0 ≢ depth → Elapsed list from depth number kind (To at)
+    pub elements_left : get_or list at 0 ≢ depth → Elapsed list from depth number kind (Ok at)
     elements_left n =
         passed h.on h.inside h.whole
         (λ sch payload out c d pos s. h.same sch payload out c d s
@@ -74,7 +74,7 @@ module _ {list : List ℕ} {from depth number kind at : ℕ} (h : Ahead list fro
 
       bad : ((sch : Schema) (payload : List ℕ) (out : List Place) (c : Scalar) → shape kind ≡ one c
           → record_fault sch payload (Elements number kind ∷ out) (record_at list at) (records_from list (at + stride)) ≡ invalid_list)
-          → Elapsed list from depth number kind (Bad at)
+          → Elapsed list from depth number kind (Err at)
       bad f =
           faulty (λ sch payload out c d pos s. h.same sch payload out c d s
           ∙ ap (list_fault sch payload (at / stride) (Elements number kind ∷ out)) split
@@ -90,7 +90,7 @@ module _ {list : List ℕ} {from depth number kind at : ℕ} (h : Ahead list fro
           (λ p. p)
 
       -- of another number or kind, it has a fault
-      pub elements_other : (get_or list (at + number_column) 0 ≡ number → get_or list (at + kind_column) 0 ≡ kind → ⊥) → Elapsed list from depth number kind (Bad at)
+      pub elements_other : (get_or list (at + number_column) 0 ≡ number → get_or list (at + kind_column) 0 ≡ kind → ⊥) → Elapsed list from depth number kind (Err at)
       elements_other n =
           bad (λ sch payload out c s. fault_unexpected sch payload (Elements number kind) out (record_at list at) (records_from list (at + stride)) (unexpected sch n))
 
@@ -105,7 +105,7 @@ module _ {list : List ℕ} {from depth number kind at : ℕ} (h : Ahead list fro
             ∙ other_number payload (record_at list at) (records_from list (at + stride)) c (ap shape kin ∙ s)
             ∙ sym (ap (λ (x : Bool). if x then 0 else invalid_list) (value c s))
 
-        pub elements_value : b ≡ false → Elapsed list from depth number kind (Bad at)
+        pub elements_value : b ≡ false → Elapsed list from depth number kind (Err at)
         elements_value e = bad (λ sch payload out c s. fault_is sch payload out c s ∙ ap (λ (x : Bool). if x then 0 else invalid_list) e)
 
         -- and else it is passed

@@ -9,10 +9,9 @@ use mathlib.Core.List.{List, [], ◌∷◌}
 use lib.ListN.{length, drop, get_or, length-drop, drop_of_length-le}
 use lib.Dec.{leb, eqb}
 use borrow.Author.Tests.{le-leb, lt-leb, eq-eqb, ne_eqb, leb-true, leb-false, eqb-true}
-use Rattle.spec.specs.Names.{fixed32_wire, invalid_list, largest_number, message_kind, most_levels, not_utf8, packed_head, string_kind, too_deep, delimited_wire, kind_column, most_types, no_wire, record_kinds, start_column, stop_column, unknown_fixed32, value_column}
+use Rattle.spec.specs.Names.{fixed32_wire, invalid_list, largest_number, message_kind, most_levels, packed_head, string_kind, too_deep, delimited_wire, kind_column, most_types, no_wire, record_kinds, start_column, stop_column, unknown_fixed32, value_column}
 use Rattle.std.specs.Prelude.{if◌then◌else◌}
-use Rattle.spec.specs.Base.{between, part}
-use Rattle.spec.specs.Utf8.{utf8}
+use Rattle.spec.specs.Base.{between}
 use Rattle.spec.specs.Kind.{Scalar, Shape, one, other, nothing, shapes, shape, is_scalar, wire, fits}
 use Rattle.spec.specs.Schema.{Schema, lookup, kind_of, Says, inside_of, says_of, says}
 use Rattle.spec.specs.Record.{Record, records_of, stride, record_at}
@@ -266,31 +265,6 @@ module _ (payload : List ℕ) (r : Record) (rs : List Record) where
         go a_content e = alike e (rw value_is refl)
         go a_message e = absurd (m (is_message_kind r.kind e))
         go a_packed e = absurd (p (is_packed_head r.kind e))
-
--- ---- the fault of a content
-
-module _ (payload : List ℕ) (kind start stop : ℕ) where
-  pub range_reversed : stop < start → invalid_list ≡ range_fault payload kind start stop
-  unfolding range_fault
-  range_reversed l = sym (rw (lt-leb start stop l) refl)
-
-  module _ (a : start ≤ stop) where
-    pub range_behind : length payload < stop → invalid_list ≡ range_fault payload kind start stop
-    unfolding range_fault
-    range_behind l = sym (rw (le-leb start stop a, lt-leb stop (length payload) l) refl)
-
-    module _ (b : stop ≤ length payload) where
-      pub range_other : kind ≢ string_kind → 0 ≡ range_fault payload kind start stop
-      unfolding range_fault
-      range_other n = sym (rw (le-leb start stop a, le-leb stop (length payload) b, ne_eqb kind string_kind n) refl)
-
-      pub range_text : kind ≡ string_kind → (if utf8 (part start stop payload) then 0 else not_utf8) ≡ range_fault payload kind start stop
-      unfolding range_fault
-      range_text e = sym (rw (le-leb start stop a, le-leb stop (length payload) b, e) (go (utf8 (part start stop payload))))
-        where
-          go : (b : Bool) → ◌≡◌ {A = ℕ} (if not b then not_utf8 else 0) (if b then 0 else not_utf8)
-          go true = refl
-          go false = refl
 
 -- ---- the record after a packed head
 

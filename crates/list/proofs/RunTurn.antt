@@ -8,7 +8,7 @@ use mathlib.Core.List.{List, [], ◌∷◌}
 use lib.ListN.{length, get_or, set, length-set}
 use lib.Seq.{get_or-set_same, get_or-set_other}
 use borrow.Author.Tests.{eq-eqb, ne_eqb}
-use Rattle.spec.specs.Names.{invalid_list, most_levels, delimited_wire, kind_column, message_kind, most_types, number_column, packed_head, value_column}
+use Rattle.spec.specs.Names.{invalid_list, most_levels, delimited_wire, kind_column, message_kind, most_types, number_column, packed_head, record_kinds, value_column}
 use Rattle.std.specs.Prelude.{if◌then◌else◌}
 use Rattle.spec.specs.Kind.{Scalar, one, shape, kind_wires, own_wires, wires, wire, fits}
 use Rattle.spec.specs.Schema.{Schema}
@@ -17,8 +17,10 @@ use Rattle.spec.specs.Writing.{Place, Fields, Elements, around, inside, expected
 use Rattle.spec.proofs.VarintLaws.{lower_or_not}
 use Rattle.spec.proofs.RunLaws.{records_at, records_end}
 use Rattle.list.specs.Checking.{Made, named, Suits, Answers, suits, differs, Elapsed, passed, faulty, fields_to}
-use Rattle.list.specs.declared.record.Asked.TheVariants.{Expected, Other}
-use Rattle.list.specs.declared.run.Behind.TheVariants.{To, Bad}
+use Rattle.std.specs.Prelude.{Some, None, Ok, Err}
+use Rattle.spec.specs.Told.{number_of}
+use Rattle.spec.specs.declared.refusals.Refusal.{Refusal}
+use Rattle.spec.specs.declared.refusals.Refusal.TheVariants.{EndsEarly, BadVarint, BadTag, NoGroupOpen, OutOfRange, NotUtf8, TooDeep, NoRoom, InvalidSchema, InvalidList, TooLarge, OutputShort, BadMark, OtherVersion}
 use Rattle.list.proofs.FitLaws.{one_number}
 use Rattle.list.proofs.RecordLaws.{expects, fault_unexpected, fault_expected, other_number, other_low}
 use Rattle.list.proofs.OpenLaws.{outer, fields_cons, length_fields, fields_more, around_fields, first_good, first_bad, first_deep, first_out, none_left}
@@ -30,11 +32,11 @@ pub record Here (sch : Schema) (payload list open-types : List ℕ) (at depth ty
   pub is : type ≡ get_or open-types depth 0
   pub few : (d : ℕ) → d ≤ depth → get_or open-types d 0 < most_types
 
-pub here : (sch : Schema) (payload list open-types : List ℕ) → get_or open-types 0 0 ≡ 0 → Here sch payload list open-types 0 0 0
+pub here : (sch : Schema) (payload list open-types : List ℕ) {type : ℕ} → get_or open-types 0 0 ≡ 0 → type ≡ 0 → Here sch payload list open-types 0 0 type
 unfolding fields_to
-here sch payload list open-types e = record {
+here sch payload list open-types e z = record {
   same = ap (λ (t : ℕ). list_fault sch payload 0 (Fields t ∷ []) (records_of list)) (sym e);
-  is = sym e;
+  is = z ∙ sym e;
   few = λ d l. let z : d ≡ 0 = omega arith in rw (z, e) (omega arith);
 }
 
@@ -165,14 +167,14 @@ module _ {sch : Schema} {payload list open-types : List ℕ} {at depth type : �
                   ≡ list_fault sch payload ((at + stride) / stride) (Elements (get_or list (at + number_column) 0) inner ∷ fields_to open-types depth) (records_from list (at + stride))
               starts = went (other_is ∙ sym is ∙ none) ∙ ap (λ (o : List Place). list_fault sch payload ((at + stride) / stride) o (records_from list (at + stride))) opens
 
-              pub run_elements : {to : ℕ} → Elapsed list (at + stride) (depth + 1) (get_or list (at + number_column) 0) inner (To to) → Here sch payload list open-types to depth type
+              pub run_elements : {to : ℕ} → Elapsed list (at + stride) (depth + 1) (get_or list (at + number_column) 0) inner (Ok to) → Here sch payload list open-types to depth type
               run_elements (passed a b d f) = record {
                 same = starts ∙ f sch payload (fields_to open-types depth) (s.elements e).1.0 (length_fields open-types depth) (omega arith) (s.elements e).1.1;
                 is = h.is;
                 few = h.few;
               }
 
-              pub run_bad_element : {to : ℕ} → Elapsed list (at + stride) (depth + 1) (get_or list (at + number_column) 0) inner (Bad to)
+              pub run_bad_element : {to : ℕ} → Elapsed list (at + stride) (depth + 1) (get_or list (at + number_column) 0) inner (Err to)
                   → Faulty invalid_list (to / stride) ≡ list_fault sch payload 0 (Fields 0 ∷ []) (records_of list)
               run_bad_element (faulty f) =
                   sym (starts ∙ f sch payload (fields_to open-types depth) (s.elements e).1.0 (length_fields open-types depth) (omega arith) (s.elements e).1.1)
@@ -191,6 +193,23 @@ pub record Standing (keys info list payload open-types : List ℕ) (type depth a
   pub going : Going keys info list payload open-types type depth at
   pub more : stride ≤ length list - at
   pub own : get_or list at 0 ≡ depth
+
+-- a refusal has a number
+pub number_above : (r : Refusal) → number_of r ≡ 0 → ⊥
+number_above EndsEarly e = omega arith
+number_above BadVarint e = omega arith
+number_above BadTag e = omega arith
+number_above NoGroupOpen e = omega arith
+number_above OutOfRange e = omega arith
+number_above NotUtf8 e = omega arith
+number_above TooDeep e = omega arith
+number_above NoRoom e = omega arith
+number_above InvalidSchema e = omega arith
+number_above InvalidList e = omega arith
+number_above TooLarge e = omega arith
+number_above OutputShort e = omega arith
+number_above BadMark e = omega arith
+number_above OtherVersion e = omega arith
 
 -- the verdict on the list, by every schema that has these tables
 abbrev pub Verdicts : (keys info list payload : List ℕ) → Verdict → Type 0
@@ -226,21 +245,21 @@ module _ {keys info list payload open-types : List ℕ} {type depth at : ℕ} (s
   few : (sch : Schema) → Made sch keys info → type < most_types
   few sch m = let h = s.going.lies sch m in subst (λ (x : ℕ). x < most_types) (sym h.is) (h.few depth (omega arith))
 
-  pub stand_other : Answers keys info type (get_or list (at + number_column) 0) (get_or list (at + kind_column) 0) Other → Verdicts keys info list payload (Faulty invalid_list (at / stride))
+  pub stand_other : Answers keys info type (get_or list (at + number_column) 0) (get_or list (at + kind_column) 0) None → Verdicts keys info list payload (Faulty invalid_list (at / stride))
   stand_other (differs f) sch m = run_other (s.going.lies sch m) s.going.inside s.more s.own (f sch m (few sch m))
 
-  module _ {w inner : ℕ} (a : Answers keys info type (get_or list (at + number_column) 0) (get_or list (at + kind_column) 0) (Expected w inner)) where
-    pub wire_is : w ≡ wire (get_or list (at + kind_column) 0)
-    wire_is = go a
+  module _ {inner : ℕ} (a : Answers keys info type (get_or list (at + number_column) 0) (get_or list (at + kind_column) 0) (Some inner)) where
+    pub kind_small : get_or list (at + kind_column) 0 < record_kinds
+    kind_small = go a
       where
-        go : Answers keys info type (get_or list (at + number_column) 0) (get_or list (at + kind_column) 0) (Expected w inner) → w ≡ wire (get_or list (at + kind_column) 0)
-        go (suits e f) = e
+        go : Answers keys info type (get_or list (at + number_column) 0) (get_or list (at + kind_column) 0) (Some inner) → get_or list (at + kind_column) 0 < record_kinds
+        go (suits l f) = l
 
     so : (sch : Schema) → Made sch keys info → Suits sch type (get_or list (at + number_column) 0) (get_or list (at + kind_column) 0) inner
     so sch m = go a
       where
-        go : Answers keys info type (get_or list (at + number_column) 0) (get_or list (at + kind_column) 0) (Expected w inner) → Suits sch type (get_or list (at + number_column) 0) (get_or list (at + kind_column) 0) inner
-        go (suits e f) = f sch m (few sch m)
+        go : Answers keys info type (get_or list (at + number_column) 0) (get_or list (at + kind_column) 0) (Some inner) → Suits sch type (get_or list (at + number_column) 0) (get_or list (at + kind_column) 0) inner
+        go (suits l f) = f sch m (few sch m)
 
     -- the next place, where what is open stays so
     onward : ((sch : Schema) → Made sch keys info → Here sch payload list open-types (at + stride) depth type) → Going keys info list payload open-types type depth (at + stride)
@@ -252,14 +271,14 @@ module _ {keys info list payload open-types : List ℕ} {type depth at : ℕ} (s
       lies = f;
     }
 
-    module _ (n : w ≢ delimited_wire) {b : Bool} (value : (c : Scalar) → shape (get_or list (at + kind_column) 0) ≡ one c → b ≡ fits c (get_or list (at + value_column) 0)) where
+    module _ (n : wire (get_or list (at + kind_column) 0) ≢ delimited_wire) {b : Bool} (value : (c : Scalar) → shape (get_or list (at + kind_column) 0) ≡ one c → b ≡ fits c (get_or list (at + value_column) 0)) where
       pub stand_value_bad : b ≡ false → Verdicts keys info list payload (Faulty invalid_list (at / stride))
       stand_value_bad e sch m =
-          run_value_bad (s.going.lies sch m) s.going.inside s.more s.own (so sch m) (λ z. n (wire_is ∙ z)) value e
+          run_value_bad (s.going.lies sch m) s.going.inside s.more s.own (so sch m) n value e
 
       pub stand_value : b ≡ true → Going keys info list payload open-types type depth (at + stride)
       stand_value e =
-          onward (λ sch m. run_value (s.going.lies sch m) s.going.inside s.more s.own (so sch m) (λ z. n (wire_is ∙ z)) value e)
+          onward (λ sch m. run_value (s.going.lies sch m) s.going.inside s.more s.own (so sch m) n value e)
 
     module _ {k : ℕ} (is : k ≡ other_fault payload (record_at list at) (records_from list (at + stride))) where
       pub stand_fault : k ≢ 0 → Verdicts keys info list payload (Faulty k (at / stride))
@@ -282,7 +301,7 @@ module _ {keys info list payload open-types : List ℕ} {type depth at : ℕ} (s
         }
 
         module _ (e : get_or list (at + kind_column) 0 ≡ packed_head) where
-          pub stand_elements : {to : ℕ} → Elapsed list (at + stride) (depth + 1) (get_or list (at + number_column) 0) inner (To to) → Going keys info list payload open-types type depth to
+          pub stand_elements : {to : ℕ} → Elapsed list (at + stride) (depth + 1) (get_or list (at + number_column) 0) inner (Ok to) → Going keys info list payload open-types type depth to
           stand_elements (passed on within whole f) = record {
             inside = within;
             whole = whole;
@@ -291,8 +310,8 @@ module _ {keys info list payload open-types : List ℕ} {type depth at : ℕ} (s
             lies = λ sch m. run_elements (s.going.lies sch m) s.going.inside s.more s.own (so sch m) is none e (passed on within whole f);
           }
 
-          pub elements_on : {to : ℕ} → Elapsed list (at + stride) (depth + 1) (get_or list (at + number_column) 0) inner (To to) → at < to
+          pub elements_on : {to : ℕ} → Elapsed list (at + stride) (depth + 1) (get_or list (at + number_column) 0) inner (Ok to) → at < to
           elements_on (passed on within whole f) = omega arith
 
-          pub stand_bad_element : {to : ℕ} → Elapsed list (at + stride) (depth + 1) (get_or list (at + number_column) 0) inner (Bad to) → Verdicts keys info list payload (Faulty invalid_list (to / stride))
+          pub stand_bad_element : {to : ℕ} → Elapsed list (at + stride) (depth + 1) (get_or list (at + number_column) 0) inner (Err to) → Verdicts keys info list payload (Faulty invalid_list (to / stride))
           stand_bad_element x sch m = run_bad_element (s.going.lies sch m) s.going.inside s.more s.own (so sch m) is none e x

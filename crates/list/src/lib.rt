@@ -13,26 +13,15 @@ mod run;
 use crate::run::list_fault;
 use schema::layout::{INFO, KEYS, NO_KEY};
 use schema::note_entries;
-use spec::refusals::INVALID_SCHEMA;
+use spec::answers::Fault;
 
-// Without fault, or a refusal's number and the index of its record; of the bad entry where the schema is not valid.
-#[derive(Clone, Copy)]
-pub enum Verdict {
-    Fine,
-    Faulty { number: u32, index: usize },
-}
-
-// Checks a list of records (STRIDE numbers each), whose contents lie in `payload`, under a schema of entries (ENTRY_STRIDE numbers each).
-pub fn check(types: u32, numbers: &[u32], list: &[u64], payload: &[u8]) -> Verdict
+// Checks a list of records (STRIDE numbers each), whose contents lie in `payload`, under a schema of entries (ENTRY_STRIDE numbers each). A fault has the
+// index of its record, or of the bad entry where the schema is not valid.
+pub fn check(types: u32, numbers: &[u32], list: &[u64], payload: &[u8]) -> Result<(), Fault>
     ensures { as_verdict result ≡ list_check (schema_of types numbers.now) payload.now (records_of list.now) }
 {
     let mut keys: [u64; KEYS] = [NO_KEY; KEYS];
     let mut info: [u8; INFO] = [0; INFO];
-    match note_entries(types, numbers, &mut keys, &mut info) {
-        schema::Verdict::Bad(i) => Verdict::Faulty {
-            number: INVALID_SCHEMA,
-            index: i,
-        },
-        schema::Verdict::Valid => list_fault(&keys, &info, list, payload),
-    }
+    note_entries(types, numbers, &mut keys, &mut info)?;
+    list_fault(&keys, &info, list, payload)
 }

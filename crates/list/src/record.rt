@@ -5,13 +5,13 @@ ghost use Rattle.spec.specs.Names.{delimited_wire, kind_column, most_levels, mos
 ghost use Rattle.spec.specs.Kind.{Scalar, one, shape, fits, wires, wire};
 ghost use Rattle.spec.specs.Record.{records_of, stride, record_at};
 ghost use Rattle.schema.specs.Layout.{guesses, owner_unit};
-ghost use Rattle.list.specs.Checking.{range_fault, signed32_kind, unsigned32_kind, Typed, Answers};
+ghost use Rattle.list.specs.Checking.{range_fault, signed32_kind, unsigned32_kind, Answers, fault_number};
 
 use schema::layout::{GUESSES, INFO, INNERS_AT, KEYS, KINDS_AT, OWNER_UNIT};
 use schema::says;
 use spec::columns::{END, START, STRIDE, VALUE};
 use spec::kinds::RECORD_KINDS;
-use spec::refusals::{INVALID_LIST, NOT_UTF8, TOO_DEEP};
+use spec::refusals::Refusal;
 use spec::{kinds, limits, wire_types};
 use utf8::is_utf8;
 
@@ -31,128 +31,94 @@ const TYPES: u8 = limits::MOST_TYPES as u8;
 // How many numbers two records have.
 const TWO_RECORDS: usize = 2 * STRIDE;
 
-// Whether a record's number and kind are what reading would give, and then its kind's wire type, and the type of a message's fields or the kind
-// of a packed field's elements.
-#[derive(Drop)]
-pub(crate) enum Asked {
-    Expected { w: u8, inner: u8 },
-    Other,
+// A message type, the number at which the keys of its entries start, and the place of its first guess: the last two are kept, as they stay the
+// same from record to record. There are no more types than TYPES.
+#[derive(Clone, Copy)]
+pub(crate) struct Owner {
+    ty: u8,
+    base: u64,
+    first: usize,
+    ghost keys_from: { base ≡ ty * owner_unit },
+    ghost guesses_from: { first ≡ ty % most_types * guesses },
 }
 
-// A byte as a place among 256, and as a number of a list.
-fn index(byte: u8) -> usize
-    ensures { (result ≡ byte) × (result < 256) }
-{
-    byte as usize
+impl Owner {
+    pub(crate) fn of(ty: u8) -> Owner
+        ensures { result.ty ≡ ty }
+    {
+        Owner {
+            ty,
+            base: u64::from(ty) * OWNER_UNIT,
+            first: usize::from(ty % TYPES) * GUESSES,
+        }
+    }
 }
 
-pub(crate) fn wide(byte: u8) -> u64
-    ensures { (result ≡ byte) × (result < 256) }
-{
-    byte as u64
-}
-
-// The keys of a type's entries start at this number, and its guesses at this place. There are no more types than TYPES.
-pub(crate) fn owner_of(ty: u8) -> u64
-    ensures { result ≡ ty * owner_unit }
-{
-    ty as u64 * OWNER_UNIT
-}
-
-pub(crate) fn guesses_of(ty: u8) -> usize
-    ensures { result ≡ ty % most_types * guesses }
-{
-    (ty % TYPES) as usize * GUESSES
-}
-
-// Of any number: by a search, where there is such a tag.
-fn search(keys: &[u64; KEYS], info: &[u8; INFO], ty: u8, number: u64, kind: u64, w: u8) -> Asked
+// What a record of this number and kind opens, by the search of any number, where there is such a tag.
+fn search(
+    keys: &[u64; KEYS],
+    info: &[u8; INFO],
+    ty: u8,
+    number: u64,
+    kind: u64,
+    w: u8,
+) -> Option<u8>
     requires { (w ≡ wire kind) × (kind < record_kinds) }
     ensures { Answers keys.now info.now ty number kind result }
 {
-    if number == 0 {
-        return Asked::Other;
+    if number == 0 || LARGEST_NUMBER < number || wire_types::FIXED32 < w {
+        return None;
     }
-    if LARGEST_NUMBER < number {
-        return Asked::Other;
+    let said = says(keys, info, u32::from(ty), number as u32 * 8 + u32::from(w));
+    if u64::from(said.kind) != kind {
+        return None;
     }
-    if wire_types::FIXED32 < w {
-        return Asked::Other;
-    }
-    let said = says(keys, info, ty as u32, number as u32 * 8 + w as u32);
-    if wide(said.kind) != kind {
-        return Asked::Other;
-    }
-    Asked::Expected {
-        w,
-        inner: said.inner,
-    }
+    Some(said.inner)
 }
 
-// Of a record in a message of this type: by a guess at its entry, which the keys confirm or not. The keys of its type, and the place of
-// its first guess, are parameters, as they stay the same from record to record.
+// Of a record in a message of this type whose number and kind are what reading would give: the type of a message's fields, or the kind of a packed field's
+// elements. It is found by a guess at its entry, which the keys confirm or not.
 pub(crate) fn ask(
     table: &[u8; RECORD_KINDS],
     keys: &[u64; KEYS],
     info: &[u8; INFO],
-    ty: u8,
-    owner: u64,
-    first: usize,
+    owner: Owner,
     number: u64,
     kind: u64,
-) -> Asked
-    requires { (table.now ≡ take record_kinds wires) × Typed ty owner first }
-    ensures { Answers keys.now info.now ty number kind result }
+) -> Option<u8>
+    requires { table.now ≡ take record_kinds wires }
+    ensures { Answers keys.now info.now owner.ty number kind result }
 {
     if LAST_KIND < kind {
-        return Asked::Other;
+        return None;
     }
-    let k = kind as usize;
-    let w = table[k];
+    let w = table[kind as usize];
     if number < GUESSED_NUMBERS {
-        let i = index(info[first + number as usize]);
-        if keys[i] == owner + number * 8 + wide(w) {
-            if wide(info[KINDS_AT + i]) != kind {
-                return Asked::Other;
+        let i = usize::from(info[owner.first + number as usize]);
+        if keys[i] == owner.base + number * 8 + u64::from(w) {
+            if u64::from(info[KINDS_AT + i]) != kind {
+                return None;
             }
-            return Asked::Expected {
-                w,
-                inner: info[INNERS_AT + i],
-            };
+            return Some(info[INNERS_AT + i]);
         }
     }
-    search(keys, info, ty, number, kind, w)
+    search(keys, info, owner.ty, number, kind, w)
 }
 
 // The kinds whose values have 32 signed bits, and those whose values have 32 bits.
 fn is_signed32(kind: u64) -> bool
     ensures { result ≡ signed32_kind kind }
 {
-    if kind == kinds::INT32 {
-        return true;
-    }
-    if kind == kinds::ENUM {
-        return true;
-    }
-    if kind == kinds::SFIXED32 {
-        return true;
-    }
-    kind == kinds::SINT32
+    kind == kinds::INT32 || kind == kinds::ENUM || kind == kinds::SFIXED32 || kind == kinds::SINT32
 }
 
 fn is_unsigned32(kind: u64) -> bool
     ensures { result ≡ unsigned32_kind kind }
 {
-    if kind == kinds::FLOAT {
-        return true;
-    }
-    if kind == kinds::FIXED32 {
-        return true;
-    }
-    if kind == kinds::UINT32 {
-        return true;
-    }
-    kind == kinds::UNKNOWN_FIXED32
+    kind == kinds::FLOAT
+        || kind == kinds::FIXED32
+        || kind == kinds::UINT32
+        || kind == kinds::UNKNOWN_FIXED32
 }
 
 // Whether a value fits its kind, which is one number. The first test is for the most frequent values.
@@ -160,65 +126,59 @@ pub(crate) fn value_fits(kind: u64, v: u64) -> bool
     ensures { (c : Scalar) → shape kind ≡ one c → result ≡ fits c v }
 {
     if v < 2 {
-        return true;
+        true
+    } else if kind == kinds::BOOL {
+        false
+    } else if v < limits::BEYOND_INT32 {
+        true
+    } else if is_signed32(kind) {
+        limits::LEAST_INT32 <= v
+    } else if is_unsigned32(kind) {
+        v < limits::BEYOND_UINT32
+    } else {
+        true
     }
-    if kind == kinds::BOOL {
-        return false;
-    }
-    if v < limits::BEYOND_INT32 {
-        return true;
-    }
-    if is_signed32(kind) {
-        return limits::LEAST_INT32 <= v;
-    }
-    if is_unsigned32(kind) {
-        return v < limits::BEYOND_UINT32;
-    }
-    true
 }
 
-// The fault of a content: its range, or that a string is not UTF-8; 0 for none.
-fn range_fault(payload: &[u8], kind: u64, start: u64, end: u64) -> u32
-    ensures { result ≡ range_fault payload.now kind start end }
+// Whether a content's range lies in the payload, and a string is UTF-8.
+#[tactic(auto, unfolding(crate::specs::Checking::range_fault))]
+fn range_fault(payload: &[u8], kind: u64, start: u64, end: u64) -> Result<(), Refusal>
+    ensures { fault_number result ≡ range_fault payload.now kind start end }
 {
-    if end < start {
-        return INVALID_LIST;
+    if end < start || (payload.len() as u64) < end {
+        return Err(Refusal::InvalidList);
     }
-    if (payload.len() as u64) < end {
-        return INVALID_LIST;
+    if kind == kinds::STRING && !is_utf8(&payload[start as usize..end as usize]) {
+        return Err(Refusal::NotUtf8);
     }
-    if kind == kinds::STRING {
-        let a = start as usize;
-        let e = end as usize;
-        if !is_utf8(&payload[a..e]) {
-            return NOT_UTF8;
-        }
-    }
-    0
+    Ok(())
 }
 
-// The fault of the record at a place, of wire type 2, whose number and kind are as expected; 0 for none.
-pub(crate) fn delimited_fault(list: &[u64], payload: &[u8], at: usize, kind: u64, depth: u64) -> u32
+// The same of the record at a place, of wire type 2, whose number and kind are as expected.
+pub(crate) fn delimited_fault(
+    list: &[u64],
+    payload: &[u8],
+    at: usize,
+    kind: u64,
+    depth: u64,
+) -> Result<(), Refusal>
     requires { (at + stride ≤ length list.now) × (kind ≡ get_or list.now (at + kind_column) 0) × (depth ≡ get_or list.now at 0) × (depth ≤ most_levels) × (wire kind ≡ delimited_wire) }
-    ensures { result ≡ other_fault payload.now (record_at list.now at) (records_of (drop (at + stride) list.now)) }
+    ensures { fault_number result ≡ other_fault payload.now (record_at list.now at) (records_of (drop (at + stride) list.now)) }
 {
     if list[at + VALUE] != 0 {
-        return INVALID_LIST;
+        return Err(Refusal::InvalidList);
     }
     if kind == kinds::MESSAGE {
         if DEEPEST_HEAD < depth {
-            return TOO_DEEP;
+            return Err(Refusal::TooDeep);
         }
-        return 0;
+        return Ok(());
     }
     if kind == kinds::PACKED_HEAD {
-        if list.len() - at < TWO_RECORDS {
-            return INVALID_LIST;
+        if list.len() - at < TWO_RECORDS || list[at + STRIDE] != depth + 1 {
+            return Err(Refusal::InvalidList);
         }
-        if list[at + STRIDE] != depth + 1 {
-            return INVALID_LIST;
-        }
-        return 0;
+        return Ok(());
     }
     range_fault(payload, kind, list[at + START], list[at + END])
 }

@@ -8,9 +8,12 @@ use lib.ListN.{length, take, drop}
 use lib.Seq.{take-append-le}
 use lib.Dec.{ltb}
 use Rattle.spec.specs.Names.{ends_early}
-use Rattle.std.specs.Prelude.{if◌then◌else◌}
+use Rattle.std.specs.Prelude.{if◌then◌else◌, Result}
 use Rattle.spec.specs.Base.{filled}
 use Rattle.spec.specs.Reading as message
+use Rattle.spec.specs.Told.{read_number, read_place, read_count, written_number, written_size, written_index}
+use Rattle.spec.specs.declared.answers.Stopped.{Stopped}
+use Rattle.spec.specs.declared.answers.Unwritten.{Unwritten}
 use Rattle.spec.specs.Writing.{Writing, Wrote, output, sent, size}
 use Rattle.spec.specs.Writing as writer
 use Rattle.segment.specs.Segment.{front_size, range_stride, Range, Ranges, Done, Refused, ranges_of, stored, content_of, contents_of, segment, after, reading, number, place, listed, room_after}
@@ -19,8 +22,6 @@ use Rattle.segment.proofs.SegmentLaws.{writing_leaves, writing_well, after_numbe
 use Rattle.segment.proofs.CutLaws.{cut_theorem}
 use Rattle.segment.proofs.OneAnswer.{one_reading, one_size}
 use Rattle.segment.specs.Emit.{Told}
-use Rattle.segment.specs.declared.reading.Answer.{Answer}
-use Rattle.segment.specs.declared.writing.Written.{Written}
 use Rattle.messages.specs.declared.Steps.{Steps}
 use Rattle.messages.specs.Torn.{messages_of, writes, reads, CutShort, Given, Left, MessagesRead}
 
@@ -28,11 +29,11 @@ use Rattle.messages.specs.Torn.{messages_of, writes, reads, CutShort, Given, Lef
 
 -- what the promises of the two steps say, where x is what was read
 pub cut_short : (ranges payload : List ℕ) (cut : ℕ) (out room : List ℕ) (t : Steps) {out' room' x : List ℕ}
-    → (t.wrote.number ≡ writer.number (writes ranges payload out)) × (t.wrote.size ≡ size (writes ranges payload out))
-    × (t.wrote.index ≡ writer.index (writes ranges payload out)) × (out' ≡ output (writes ranges payload out) out)
+    → (written_number t.wrote ≡ writer.number (writes ranges payload out)) × (written_size t.wrote ≡ size (writes ranges payload out))
+    × (written_index t.wrote ≡ writer.index (writes ranges payload out)) × (out' ≡ output (writes ranges payload out) out)
     → x ≡ take cut (sent (writes ranges payload out))
-    → (t.read.number ≡ number (reading (length room / range_stride) x)) × (t.read.place ≡ place (reading (length room / range_stride) x))
-    × (t.read.count ≡ length (listed (reading (length room / range_stride) x))) × (room' ≡ room_after (reading (length room / range_stride) x) room)
+    → (read_number t.read ≡ number (reading (length room / range_stride) x)) × (read_place t.read ≡ place (reading (length room / range_stride) x))
+    × (read_count t.read ≡ length (listed (reading (length room / range_stride) x))) × (room' ≡ room_after (reading (length room / range_stride) x) room)
     → CutShort ranges payload cut out room t out' room'
 cut_short ranges payload cut out room t w same r =
     let q : reading (length room / range_stride) _ ≡ reads ranges payload cut out room = ap (reading (length room / range_stride)) same in
@@ -50,15 +51,15 @@ cut_short ranges payload cut out room t w same r =
 -- any two answers, and any two of what the buffers hold, are equal
 module _ (ranges payload : List ℕ) (cut : ℕ) (out room : List ℕ) where
   told : {t : Steps} {x a : List ℕ} → CutShort ranges payload cut out room t x a
-      → Told (reads ranges payload cut out room) room t.read.number t.read.count t.read.place a
+      → Told (reads ranges payload cut out room) room t.read a
   told h = record { refusal = h.read_number; at = h.read_place; count = h.read_count; leaves = h.room_holds }
 
   pub one_answer : (t u : Steps) {x y a b : List ℕ} → CutShort ranges payload cut out room t x a → CutShort ranges payload cut out room u y b
       → (t ≡ u) × (x ≡ y) × (a ≡ b)
   one_answer t u {a = a} {b = b} h g =
       let r = one_reading (reads ranges payload cut out room) t.read u.read room a b (told h) (told g) in (
-        ap₂ (λ (w : Written) (v : Answer). record { wrote = w; read = v })
-            (one_size (writes ranges payload out) (h.wrote_number, h.wrote_size, h.wrote_index) (g.wrote_number, g.wrote_size, g.wrote_index)) r.0,
+        ap₂ (λ (w : Result ℕ Unwritten) (v : Result ℕ Stopped). record { wrote = w; read = v })
+            (one_size (writes ranges payload out) t.wrote u.wrote (record { number = h.wrote_number; size = h.wrote_size; index = h.wrote_index }) (record { number = g.wrote_number; size = g.wrote_size; index = g.wrote_index })) r.0,
         h.out_holds ∙ sym g.out_holds,
         r.1,
       )
@@ -100,7 +101,7 @@ module _ (ranges payload : List ℕ) (cut : ℕ) (out room : List ℕ) (g : Give
   pub left : (t : Steps) (out' room' : List ℕ) → CutShort ranges payload cut out room t out' room' → Left ranges payload cut room t out' room'
   unfolding output
   left t out' room' c =
-      let count : t.read.count ≡ length rs = c.read_count ∙ ap length listed_are in
+      let count : read_count t.read ≡ length rs = c.read_count ∙ ap length listed_are in
       let bytes : take cut out' ≡ take cut (segment ms) =
       ap (take cut) (c.out_holds ∙ ap (λ (w : Writing). output w out) wrote) ∙ take-append-le cut (segment ms) (drop (length (segment ms)) out) inside in
       record {

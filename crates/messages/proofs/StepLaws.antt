@@ -13,15 +13,15 @@ use Rattle.spec.proofs.VarintLaws.{lower_or_not}
 -- ---- an output
 
 -- the first bytes of what was sent, where they are cut at a length
-pub sent_cut : (w : Writing) (out : List ℕ) (cut n : ℕ) → Leaves w out → n ≡ min cut (length (sent w)) → part 0 n (output w out) ≡ take cut (sent w)
+pub sent_cut : (w : Writing) (out : List ℕ) (cut n : ℕ) → Leaves w out → n ≡ min cut (length (sent w)) → take n (output w out) ≡ take cut (sent w)
 sent_cut w out cut n l e =
     let x : List ℕ = sent w in
     lower_or_not cut (length x)
     (λ less.
-    let is : n - 0 ≡ cut = omega arith in
+    let is : n ≡ cut = omega arith in
     ap (λ (k : ℕ). take k (output w out)) is ∙ sym (take-take cut (length x) (output w out) (omega arith)) ∙ ap (take cut) l.front)
     (λ more.
-    let is : n - 0 ≡ length x = omega arith in
+    let is : n ≡ length x = omega arith in
     ap (λ (k : ℕ). take k (output w out)) is ∙ l.front ∙ sym (take_all cut x (omega arith)))
 
 -- ---- a range

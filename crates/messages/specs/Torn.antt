@@ -3,6 +3,7 @@
 use Rattle.std.specs.Prelude.{ℕ, ◌/◌, ◌≤◌, ◌≡◌, List, map, length, take}
 use Rattle.spec.specs.Base.{filled}
 use Rattle.spec.specs.Schema.{Schema}
+use Rattle.spec.specs.Told as told
 use Rattle.spec.specs.Reading as message
 use Rattle.spec.specs.Writing.{Writing, Wrote, output, sent}
 use Rattle.spec.specs.Writing as writer
@@ -26,13 +27,13 @@ reads ranges payload cut out room = reading (length room / range_stride) (take c
 
 -- What both answer, and what the two lent buffers then hold.
 pub record CutShort (ranges payload : List ℕ) (cut : ℕ) (out room : List ℕ) (t : Steps) (out' room' : List ℕ) : Type 0 where
-  pub wrote_number : t.wrote.number ≡ writer.number (writes ranges payload out)
-  pub wrote_size : t.wrote.size ≡ writer.size (writes ranges payload out)
-  pub wrote_index : t.wrote.index ≡ writer.index (writes ranges payload out)
+  pub wrote_number : told.written_number t.wrote ≡ writer.number (writes ranges payload out)
+  pub wrote_size : told.written_size t.wrote ≡ writer.size (writes ranges payload out)
+  pub wrote_index : told.written_index t.wrote ≡ writer.index (writes ranges payload out)
   pub out_holds : out' ≡ output (writes ranges payload out) out
-  pub read_number : t.read.number ≡ number (reads ranges payload cut out room)
-  pub read_place : t.read.place ≡ place (reads ranges payload cut out room)
-  pub read_count : t.read.count ≡ length (listed (reads ranges payload cut out room))
+  pub read_number : told.read_number t.read ≡ number (reads ranges payload cut out room)
+  pub read_place : told.read_place t.read ≡ place (reads ranges payload cut out room)
+  pub read_count : told.read_count t.read ≡ length (listed (reads ranges payload cut out room))
   pub room_holds : room' ≡ room_after (reads ranges payload cut out room) room
 
 -- ---- what the user asks for
@@ -48,10 +49,10 @@ pub record Given (ranges payload : List ℕ) (cut : ℕ) (out room : List ℕ) :
 -- bytes remain, else success.
 pub record Left (ranges payload : List ℕ) (cut : ℕ) (room : List ℕ) (t : Steps) (out' room' : List ℕ) : Type 0 where
   pub ranges_are : room' ≡ filled (stored (whole cut (messages_of ranges payload))) room
-  pub count_is : t.read.count ≡ length (whole cut (messages_of ranges payload))
-  pub bytes_are : contents_of (take cut out') (whole cut (messages_of ranges payload)) ≡ take t.read.count (messages_of ranges payload)
-  pub number_is : t.read.number ≡ number (remains (end_of front_size (whole cut (messages_of ranges payload))) cut)
-  pub place_is : t.read.place ≡ place (remains (end_of front_size (whole cut (messages_of ranges payload))) cut)
+  pub count_is : told.read_count t.read ≡ length (whole cut (messages_of ranges payload))
+  pub bytes_are : contents_of (take cut out') (whole cut (messages_of ranges payload)) ≡ take (told.read_count t.read) (messages_of ranges payload)
+  pub number_is : told.read_number t.read ≡ number (remains (end_of front_size (whole cut (messages_of ranges payload))) cut)
+  pub place_is : told.read_place t.read ≡ place (remains (end_of front_size (whole cut (messages_of ranges payload))) cut)
 
 -- ---- each message by itself
 

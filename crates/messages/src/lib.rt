@@ -1,38 +1,21 @@
 // The messages of a segment: those that are left when it is cut short, and the records of one, which is handed on as a part of the same slice.
 #![tactic(auto)]
 
-ghost use Rattle.std.specs.Prelude.{◌≡◌, ◌/◌, min, length};
+ghost use Rattle.std.specs.Prelude.{◌≡◌, ◌/◌, length};
 ghost use Rattle.spec.specs.Base.{part};
 ghost use Rattle.spec.specs.Record.{stride};
 ghost use Rattle.spec.specs.Schema.{schema_of};
 ghost use Rattle.spec.specs.Reading.{reading, number, place, listed, room_after};
-ghost use Rattle.spec.specs.Writing.{sent_size};
+ghost use Rattle.spec.specs.Told.{read_number, read_place, read_count};
 ghost use Rattle.messages.specs.Torn.{CutShort, Given, Left};
 
+use spec::answers::{Stopped, Unwritten};
+
 // What the two steps answered.
-#[derive(Drop)]
+#[derive(Clone, Copy, Debug, PartialEq, Eq)]
 pub struct Steps {
-    pub wrote: segment::Written,
-    pub read: segment::Answer,
-}
-
-fn lesser(a: usize, b: usize) -> usize
-    ensures { result ≡ min a b }
-{
-    if a < b {
-        return a;
-    }
-    b
-}
-
-// How many bytes of a segment stand in the output: none where the writing was refused.
-fn sent_size(wrote: segment::Written) -> usize
-    ensures { result ≡ sent_size wrote.number wrote.size }
-{
-    if wrote.number == 0 {
-        return wrote.size;
-    }
-    0
+    pub wrote: Result<usize, Unwritten>,
+    pub read: Result<usize, Stopped>,
 }
 
 // Writes the segment of some ranges of the payload, and reads what is left of it when it is cut at a length. Where the writing is refused there is nothing to read.
@@ -48,9 +31,9 @@ pub fn write_cut_read(
         → Left ranges.now payload.now cut room.old result out.new room.new) }
 {
     let wrote = segment::write(ranges, payload, out);
-    let size = lesser(cut, sent_size(wrote));
-    let got = segment::read(&out[0..size], room);
-    Steps { wrote, read: got }
+    let size = cut.min(wrote.unwrap_or(0));
+    let read = segment::read(&out[..size], room);
+    Steps { wrote, read }
 }
 
 // The records of the message that stands in `s` from `start` up to `end`: `read` of that part of the same slice. Places are counted from `start`. Of a range that does not
@@ -62,13 +45,13 @@ pub fn read_message(
     start: usize,
     end: usize,
     room: &mut [u64],
-) -> read::Answer
-    ensures { (result.number ≡ number (reading (schema_of types numbers.now) (length room.old / stride) (part start end s.now)))
-        × (result.place ≡ place (reading (schema_of types numbers.now) (length room.old / stride) (part start end s.now)))
-        × (result.count ≡ length (listed (reading (schema_of types numbers.now) (length room.old / stride) (part start end s.now))))
+) -> Result<usize, Stopped>
+    ensures { (read_number result ≡ number (reading (schema_of types numbers.now) (length room.old / stride) (part start end s.now)))
+        × (read_place result ≡ place (reading (schema_of types numbers.now) (length room.old / stride) (part start end s.now)))
+        × (read_count result ≡ length (listed (reading (schema_of types numbers.now) (length room.old / stride) (part start end s.now))))
         × (room.new ≡ room_after (reading (schema_of types numbers.now) (length room.old / stride) (part start end s.now)) room.old) }
 {
-    let e = lesser(end, s.len());
-    let a = lesser(start, e);
-    read::read(types, numbers, &s[a..e], room)
+    let end = end.min(s.len());
+    let start = start.min(end);
+    read::read(types, numbers, &s[start..end], room)
 }

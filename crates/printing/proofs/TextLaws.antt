@@ -7,8 +7,10 @@ use mathlib.Core.Path.{◌≡◌, refl, sym, ap, ◌∙◌}
 use mathlib.Core.List.{List, [], ◌∷◌, ◌++◌}
 use lib.ListN.{length, get_or, drop, set, drop_of_length-le}
 use lib.Seq.{drop-cons}
-use borrow.Author.Tests.{lt-ltb, le-ltb, eq-eqb, ne_eqb}
+use borrow.Author.Tests.{lt-ltb, le-ltb, ne_eqb, eq-eqb}
 use Rattle.printing.specs.Text.{zero_glyph, letters, blank, ok_text, refused_text, at_text, put, puts, Shown, digits_of, decimal, glyph, hexadecimal, rows, verdict, lines, header, listing}
+use Rattle.printing.specs.Page.{Adds}
+use Rattle.printing.specs.declared.Page.{Page}
 use Rattle.spec.specs.Names.{tag_column}
 
 puts_append : (at : ℕ) (a b out : List ℕ) → puts at (a ++ b) out ≡ puts (puts at a out).0 b (puts at a out).1
@@ -37,22 +39,30 @@ shown_full {out} {at} {b} h = record { says = simp (le-ltb at (length out) h) re
 pub one_answer : {out text : List ℕ} {at : ℕ} {a b : List ℕ} {m n : ℕ} → Shown out at text a m → Shown out at text b n → (m ≡ n) × (a ≡ b)
 one_answer x y = (ap (λ (p : ℕ × List ℕ). p.0) (sym x.says ∙ y.says), ap (λ (p : ℕ × List ℕ). p.1) (sym x.says ∙ y.says))
 
+-- ---- texts on a page
+
+pub adds_none : {p : Page} → Adds p [] p
+adds_none = record { shown = shown_none; same_slice = refl }
+
+pub adds_join : {p q r : Page} {a b : List ℕ} → Adds p a q → Adds q b r → Adds p (a ++ b) r
+adds_join x y = record { shown = shown_join x.shown y.shown; same_slice = y.same_slice ∙ x.same_slice }
+
 -- ---- loops: what is to be stored in all is what the rest stores from here
 
-pub record Left (whole : List ℕ) (at : ℕ) (out₀ : List ℕ) (rest : List ℕ) (to : ℕ) (out : List ℕ) : Type 0 where
-  pub same : puts at whole out₀ ≡ puts to rest out
+pub record Left (whole : List ℕ) (first : Page) (rest : List ℕ) (page : Page) : Type 0 where
+  pub same : puts first.at whole first.out.now ≡ puts page.at rest page.out.now
+  pub same_slice : page.out.ghost_name ≡ first.out.ghost_name
 
-pub left_start : {whole : List ℕ} {at : ℕ} {out : List ℕ} → Left whole at out whole at out
-left_start = record { same = refl }
-
-pub left_done : {whole : List ℕ} {at : ℕ} {out₀ : List ℕ} {rest : List ℕ} {to : ℕ} {out : List ℕ} → Left whole at out₀ rest to out → rest ≡ [] → Shown out₀ at whole out to
+pub left_done : {whole rest : List ℕ} {p q : Page} → Left whole p rest q → rest ≡ [] → Adds p whole q
 unfolding puts
-left_done {to = to} {out = out} l e = record { says = l.same ∙ ap (λ (r : List ℕ). puts to r out) e }
+left_done {q = q} l e = record { shown = record { says = l.same ∙ ap (λ (r : List ℕ). puts q.at r q.out.now) e }; same_slice = l.same_slice }
 
-pub left_turn : {whole : List ℕ} {at : ℕ} {out₀ : List ℕ} {rest a more : List ℕ} {to m : ℕ} {out mid : List ℕ}
-    → Left whole at out₀ rest to out → rest ≡ a ++ more → Shown out to a mid m → Left whole at out₀ more m mid
-left_turn {a = a} {more = more} {to = to} {out = out} l e s =
-    record { same = l.same ∙ ap (λ (r : List ℕ). puts to r out) e ∙ puts_append to a more out ∙ ap (λ (p : ℕ × List ℕ). puts p.0 more p.1) s.says }
+pub left_turn : {whole rest a more : List ℕ} {p q r : Page} → Left whole p rest q → rest ≡ a ++ more → Adds q a r → Left whole p more r
+left_turn {a = a} {more = more} {q = q} l e s =
+    record {
+      same = l.same ∙ ap (λ (x : List ℕ). puts q.at x q.out.now) e ∙ puts_append q.at a more q.out.now ∙ ap (λ (x : ℕ × List ℕ). puts x.0 more x.1) s.shown.says;
+      same_slice = s.same_slice ∙ l.same_slice;
+    }
 
 -- a list from place i on, where there is an element
 from : (s : List ℕ) (i : ℕ) → i < length s → drop i s ≡ get_or s i 0 ∷ drop (i + 1) s
@@ -60,31 +70,25 @@ from s i h = rw (add-one, drop-cons s i 0)
 
 -- ---- a text
 
-pub record Texting (text : List ℕ) (at : ℕ) (out₀ : List ℕ) (i to : ℕ) (out : List ℕ) : Type 0 where
-  pub left : Left text at out₀ (drop i text) to out
+pub text_step : (text : List ℕ) (i : ℕ) {p q r : Page}
+    → Left text p (drop i text) q → i < length text → Adds q (get_or text i 0 ∷ []) r → Left text p (drop (i + 1) text) r
+text_step text i l h s = left_turn l (from text i h) s
 
-pub text_step : {text : List ℕ} {at : ℕ} {out₀ : List ℕ} {i to m : ℕ} {out mid : List ℕ}
-    → Texting text at out₀ i to out → i < length text → Shown out to (get_or text i 0 ∷ []) mid m → Texting text at out₀ (i + 1) m mid
-text_step {text} {i = i} l h s = record { left = left_turn l.left (from text i h) s }
-
-pub text_done : {text : List ℕ} {at : ℕ} {out₀ : List ℕ} {i to : ℕ} {out : List ℕ} → Texting text at out₀ i to out → length text ≤ i → Shown out₀ at text out to
-text_done {text} l h = left_done l.left (drop_of_length-le text h)
+pub text_done : (text : List ℕ) (i : ℕ) {p q : Page} → Left text p (drop i text) q → length text ≤ i → Adds p text q
+text_done text i l h = left_done l (drop_of_length-le text h)
 
 -- ---- bytes in hexadecimal
 
-pub record Hexing (bytes : List ℕ) (at : ℕ) (out₀ : List ℕ) (i to : ℕ) (out : List ℕ) : Type 0 where
-  pub left : Left (hexadecimal bytes) at out₀ (hexadecimal (drop i bytes)) to out
-
-pub hex_step : {bytes : List ℕ} {at : ℕ} {out₀ : List ℕ} {i to m n g k : ℕ} {out mid after : List ℕ}
-    → Hexing bytes at out₀ i to out → i < length bytes → g ≡ glyph (get_or bytes i 0 / 16) → k ≡ glyph (get_or bytes i 0 % 16)
-    → Shown out to (g ∷ []) mid m → Shown mid m (k ∷ []) after n → Hexing bytes at out₀ (i + 1) n after
+pub hex_step : (bytes : List ℕ) (i : ℕ) {g k : ℕ} {p q r s : Page}
+    → Left (hexadecimal bytes) p (hexadecimal (drop i bytes)) q → i < length bytes
+    → g ≡ glyph (get_or bytes i 0 / 16) → k ≡ glyph (get_or bytes i 0 % 16) → Adds q (g ∷ []) r → Adds r (k ∷ []) s
+    → Left (hexadecimal bytes) p (hexadecimal (drop (i + 1) bytes)) s
 unfolding hexadecimal
-hex_step {bytes} {i = i} {g = g} {k = k} l h p q s t =
-    record { left = left_turn (left_turn l.left (ap hexadecimal (from bytes i h) ∙ rw (← p, ← q)) s) refl t }
+hex_step bytes i l h e f a b = left_turn (left_turn l (ap hexadecimal (from bytes i h) ∙ rw (← e, ← f)) a) refl b
 
-pub hex_done : {bytes : List ℕ} {at : ℕ} {out₀ : List ℕ} {i to : ℕ} {out : List ℕ} → Hexing bytes at out₀ i to out → length bytes ≤ i → Shown out₀ at (hexadecimal bytes) out to
+pub hex_done : (bytes : List ℕ) (i : ℕ) {p q : Page} → Left (hexadecimal bytes) p (hexadecimal (drop i bytes)) q → length bytes ≤ i → Adds p (hexadecimal bytes) q
 unfolding hexadecimal
-hex_done {bytes} l h = left_done l.left (ap hexadecimal (drop_of_length-le bytes h))
+hex_done bytes i l h = left_done l (ap hexadecimal (drop_of_length-le bytes h))
 
 -- ---- rows
 
@@ -98,22 +102,23 @@ row_anew : (last before between within column n : ℕ) (ns : List ℕ) → last 
 unfolding rows
 row_anew last before between within column n ns h = simp (le-ltb column last h) refl
 
-pub record Rowing (list : List ℕ) (last first between within at : ℕ) (out₀ : List ℕ) (before column i to : ℕ) (out : List ℕ) : Type 0 where
-  pub left : Left (rows last first between within 0 list) at out₀ (rows last before between within column (drop i list)) to out
+-- what is left of the rows at number i, where a row goes on at a column
+pub record Rowing (last first between within : ℕ) (list : List ℕ) (p : Page) (before column i : ℕ) (q : Page) : Type 0 where
+  pub left : Left (rows last first between within 0 list) p (rows last before between within column (drop i list)) q
 
-module _ {list : List ℕ} {last first between within at : ℕ} {out₀ : List ℕ} {before column i to m n : ℕ} {out mid after : List ℕ}
-    (l : Rowing list last first between within at out₀ before column i to out) (h : i < length list)
-    (s : Shown out to (before ∷ []) mid m) (t : Shown mid m (decimal (get_or list i 0)) after n) where
-  pub rows_on : column < last → Rowing list last first between within at out₀ within (column + 1) (i + 1) n after
-  rows_on c = record { left = left_turn (left_turn l.left (ap (rows last before between within column) (from list i h) ∙ row_on last before between within column _ _ c) s) refl t }
+module _ {last first between within : ℕ} {list : List ℕ} {p q r s : Page} {before column i : ℕ}
+    (l : Rowing last first between within list p before column i q) (h : i < length list)
+    (x : Adds q (before ∷ []) r) (y : Adds r (decimal (get_or list i 0)) s) where
+  pub rows_on : column < last → Rowing last first between within list p within (column + 1) (i + 1) s
+  rows_on c = record { left = left_turn (left_turn l.left (ap (rows last before between within column) (from list i h) ∙ row_on last before between within column _ _ c) x) refl y }
 
-  pub rows_anew : last ≤ column → Rowing list last first between within at out₀ between 0 (i + 1) n after
-  rows_anew c = record { left = left_turn (left_turn l.left (ap (rows last before between within column) (from list i h) ∙ row_anew last before between within column _ _ c) s) refl t }
+  pub rows_anew : last ≤ column → Rowing last first between within list p between 0 (i + 1) s
+  rows_anew c = record { left = left_turn (left_turn l.left (ap (rows last before between within column) (from list i h) ∙ row_anew last before between within column _ _ c) x) refl y }
 
-pub rows_done : {list : List ℕ} {last first between within at : ℕ} {out₀ : List ℕ} {before column i to : ℕ} {out : List ℕ}
-    → Rowing list last first between within at out₀ before column i to out → length list ≤ i → Shown out₀ at (rows last first between within 0 list) out to
+pub rows_done : {last first between within : ℕ} {list : List ℕ} {p q : Page} {before column i : ℕ}
+    → Rowing last first between within list p before column i q → length list ≤ i → Adds p (rows last first between within 0 list) q
 unfolding rows
-rows_done {list} {last} {between = between} {within = within} {before = before} {column = column} l h =
+rows_done {last} {between = between} {within = within} {list} {before = before} {column = column} l h =
     left_done l.left (ap (rows last before between within column) (drop_of_length-le list h))
 
 -- ---- numbers
@@ -131,17 +136,19 @@ digits_more (suc k) n l h =
     rw e (simp (le-ltb n 10 h) refl)
 
 -- how the digits of a number are stored
-module _ {out : List ℕ} {at : ℕ} where
-  pub digits_none : (n : ℕ) {left : ℕ} → left ≡ 0 → Shown out at (digits_of left n) out at
+module _ {p : Page} where
+  pub digits_none : (n : ℕ) {left : ℕ} → left ≡ 0 → Adds p (digits_of left n) p
   unfolding digits_of
-  digits_none n e = rw e shown_none
+  digits_none n e = rw e adds_none
 
-  pub digits_one : {after : List ℕ} {next left n : ℕ} → 0 < left → n < 10 → Shown out at ((zero_glyph + n) ∷ []) after next → Shown out at (digits_of left n) after next
-  digits_one {left = left} {n = n} l h s = rw (digits_last left n l h) s
+  pub digits_one : (left n : ℕ) {q : Page} → 0 < left → n < 10 → Adds p ((zero_glyph + n % 10) ∷ []) q → Adds p (digits_of left n) q
+  digits_one left n l h s =
+      let e : n % 10 ≡ n = omega arith in
+      rw (digits_last left n l h) (rw e at s)
 
-  pub digits_many : {mid after : List ℕ} {m next left n : ℕ} → 0 < left → 10 ≤ n
-      → Shown out at (digits_of (left - 1) (n / 10)) mid m → Shown mid m ((zero_glyph + n % 10) ∷ []) after next → Shown out at (digits_of left n) after next
-  digits_many {left = left} {n = n} l h s t = rw (digits_more left n l h) (shown_join s t)
+  pub digits_many : (left n : ℕ) {q r : Page} → 0 < left → 10 ≤ n
+      → Adds p (digits_of (left - 1) (n / 10)) q → Adds q ((zero_glyph + n % 10) ∷ []) r → Adds p (digits_of left n) r
+  digits_many left n l h s t = rw (digits_more left n l h) (adds_join s t)
 
 pub glyph_low : {d : ℕ} → d < 10 → zero_glyph + d ≡ glyph d
 unfolding glyph
@@ -153,25 +160,22 @@ glyph_high {d} h = simp (le-ltb d 10 h) refl
 
 -- ---- how a reading ended
 
-module _ {out mid after : List ℕ} {at m next : ℕ} (number count place : ℕ) where
-  pub verdict_ok : number ≡ 0 → Shown out at ok_text mid m → Shown mid m (decimal count) after next → Shown out at (verdict number count place) after next
+module _ {p q r : Page} (number count place : ℕ) where
+  pub verdict_ok : number ≡ 0 → Adds p ok_text q → Adds q (decimal count) r → Adds p (verdict number count place) r
   unfolding verdict
-  verdict_ok e s t = rw (eq-eqb number 0 e) (shown_join s t)
+  verdict_ok e s t = rw (eq-eqb number 0 e) (adds_join s t)
 
-  pub verdict_no : {far near : List ℕ} {f n : ℕ} → (number ≡ 0 → ⊥) → Shown out at refused_text mid m
-      → Shown mid m (decimal number) far f → Shown far f at_text near n → Shown near n (decimal place) after next
-      → Shown out at (verdict number count place) after next
+  pub verdict_no : {far near : Page} → (number ≡ 0 → ⊥) → Adds p refused_text q → Adds q (decimal number) far → Adds far at_text near
+      → Adds near (decimal place) r → Adds p (verdict number count place) r
   unfolding verdict
-  verdict_no e s t u v = rw (ne_eqb number 0 e) (shown_join s (shown_join t (shown_join u v)))
+  verdict_no e s t u v = rw (ne_eqb number 0 e) (adds_join s (adds_join t (adds_join u v)))
 
-pub lined : {out a b after : List ℕ} {at i j next end : ℕ} (number count place : ℕ) (list : List ℕ) (last : ℕ)
-    → Shown out at (rows last end end blank 0 list) a i → Shown a i (end ∷ []) b j → Shown b j (verdict number count place) after next
-    → Shown out at (lines number count place list last end) after next
+pub lined : {p q r s : Page} {end : ℕ} (number count place : ℕ) (list : List ℕ) (last : ℕ)
+    → Adds p (rows last end end blank 0 list) q → Adds q (end ∷ []) r → Adds r (verdict number count place) s → Adds p (lines number count place list last end) s
 unfolding lines
-lined number count place list last s t u = shown_join s (shown_join t u)
+lined number count place list last s t u = adds_join s (adds_join t u)
 
-pub listed : {out a after : List ℕ} {at i next : ℕ} (number count place : ℕ) (list : List ℕ) (end : ℕ)
-    → Shown out at header a i → Shown a i (lines number count place list tag_column end) after next
-    → Shown out at (listing number count place list end) after next
+pub listed : {p q r : Page} (number count place : ℕ) (list : List ℕ) (end : ℕ)
+    → Adds p header q → Adds q (lines number count place list tag_column end) r → Adds p (listing number count place list end) r
 unfolding listing
-listed number count place list end s t = shown_join s t
+listed number count place list end s t = adds_join s t

@@ -1,59 +1,212 @@
 // Text of answers, as far as a lent slice has room: bytes, words, numbers in decimal and hexadecimal, and the listings of records and of ranges.
-// Each function stores from `at` on and returns the position after what it stored; what finds no room is left out.
+// A page is the slice and the position at which the next text is stored. What finds no room is left out, and no method can fail: so they print numbers
+// and listings themselves, since `write!` may fail as far as its contract says. Text whose form no contract states goes onto a page by `write!`.
 #![tactic(auto)]
 
-ghost use Rattle.std.specs.Prelude.{◌≡◌, [], ◌∷◌, ◌<◌};
-ghost use Rattle.printing.specs.Text.{Shown, digits_of, decimal, glyph, hexadecimal, rows, verdict, lines, listing};
+ghost use Rattle.std.specs.Prelude.{◌≡◌, [], ◌∷◌, ◌*◌, ◌<◌, take};
+ghost use Rattle.spec.specs.Told.{read_count};
+ghost use Rattle.printing.specs.Text.{digits_of, decimal, glyph, hexadecimal, rows, verdict, lines, listing};
+ghost use Rattle.printing.specs.Page.{Adds, ending_of};
 
+mod watched;
+
+use spec::answers::Stopped;
 use spec::columns;
+use std::fmt;
 
 // What is added to a digit of hexadecimal above nine.
 const LETTERS: u8 = b'a' - 10;
 
-// One byte.
-pub fn put_byte(b: u8, at: usize, out: &mut [u8]) -> usize
-    ensures { Shown out.old at (b ∷ []) out.new result }
-{
-    if at < out.len() {
-        out[at] = b;
-        return at + 1;
-    }
-    at
+// A slice that is lent for text, and the position at which the next text is stored.
+#[derive(Drop)]
+pub struct Page<'a> {
+    pub out: &'a mut [u8],
+    pub at: usize,
 }
 
-// A text.
-pub fn put_text(text: &[u8], at: usize, out: &mut [u8]) -> usize
-    ensures { Shown out.old at text.now out.new result }
-{
-    let mut to = at;
-    let mut i: usize = 0;
-    while i < text.len() {
-        to = put_byte(text[i], to, out);
-        i += 1;
-    }
-    to
+// How rows of numbers are laid out: their columns end with `last`; `first` stands before the first row, `between` before each other, `within` before the other
+// numbers of a row.
+#[derive(Clone, Copy, Debug, PartialEq, Eq)]
+pub struct Layout {
+    pub last: usize,
+    pub first: u8,
+    pub between: u8,
+    pub within: u8,
 }
 
-// The last digits of a number in decimal, `left` at the most, and none in front of the first that is not 0.
-fn put_digits(n: u64, left: u32, at: usize, out: &mut [u8]) -> usize
-    ensures { Shown out.old at (digits_of left n) out.new result }
-{
-    if left == 0 {
-        return at;
-    }
-    if n < 10 {
-        return put_byte(b'0' + n as u8, at, out);
-    }
-    let to = put_digits(n / 10, left - 1, at, out);
-    let digit = n % 10;
-    put_byte(b'0' + digit as u8, to, out)
+// How a reading ended, as it is printed: the refusal's number, 0 for none; how many rows there are; the place of the refusal. It has numbers, as a listing may be
+// asked for with any.
+#[derive(Clone, Copy, Debug, PartialEq, Eq)]
+pub struct Ending {
+    pub number: u32,
+    pub count: usize,
+    pub place: usize,
 }
 
-// A number in decimal: no number of 64 bits has more than twenty digits.
-pub fn put_decimal(n: u64, at: usize, out: &mut [u8]) -> usize
-    ensures { Shown out.old at (decimal n) out.new result }
+impl From<Result<usize, Stopped>> for Ending {
+    ghost from_gives = { λ read ending. ending ≡ ending_of read };
+
+    fn from(read: Result<usize, Stopped>) -> Ending {
+        match read {
+            Ok(count) => Ending {
+                number: 0,
+                count,
+                place: 0,
+            },
+            Err(stopped) => Ending {
+                number: stopped.refusal.number(),
+                count: stopped.count,
+                place: stopped.place,
+            },
+        }
+    }
+}
+
+impl<'a> Page<'a> {
+    // An empty page.
+    pub fn new(out: &'a mut [u8]) -> Page<'a>
+        ensures same_reference { result.out.ghost_name ≡ out.entry.ghost_name }
+        ensures front { result.at ≡ 0 }
+        ensures same { result.out.now ≡ out.old }
+    {
+        Page { out, at: 0 }
+    }
+
+    // The text: what stands in front of the position.
+    pub fn written(&self) -> &[u8]
+        ensures { result.now ≡ take self.now.at self.now.out.now }
+    {
+        if self.at < self.out.len() {
+            &self.out[..self.at]
+        } else {
+            self.out
+        }
+    }
+
+    // One byte.
+    pub fn put_byte(&mut self, b: u8)
+        ensures { Adds self.old (b ∷ []) self.new }
+    {
+        if self.at < self.out.len() {
+            self.out[self.at] = b;
+            self.at += 1;
+        }
+    }
+
+    // A text.
+    pub fn put_text(&mut self, text: &[u8])
+        ensures { Adds self.old text.now self.new }
+    {
+        for b in text {
+            self.put_byte(*b);
+        }
+    }
+
+    // The last digits of a number in decimal, `left` at the most, and none in front of the first that is not 0.
+    fn put_digits(&mut self, n: u64, left: u32)
+        ensures { Adds self.old (digits_of left n) self.new }
+    {
+        if left == 0 {
+            return;
+        }
+        if 10 <= n {
+            self.put_digits(n / 10, left - 1);
+        }
+        self.put_byte(b'0' + (n % 10) as u8);
+    }
+
+    // A number in decimal: no number of 64 bits has more than twenty digits.
+    pub fn put_decimal(&mut self, n: u64)
+        ensures { Adds self.old (decimal n) self.new }
+    {
+        self.put_digits(n, 20);
+    }
+
+    // Bytes in hexadecimal, two digits each.
+    pub fn put_hex(&mut self, bytes: &[u8])
+        ensures { Adds self.old (hexadecimal bytes.now) self.new }
+    {
+        for b in bytes {
+            self.put_byte(glyph(*b / 16));
+            self.put_byte(glyph(*b % 16));
+        }
+    }
+
+    // Rows of numbers.
+    pub fn put_rows(&mut self, list: &[u64], layout: Layout)
+        ensures { Adds self.old (rows layout.last layout.first layout.between layout.within 0 list.now) self.new }
+    {
+        let mut before = layout.first;
+        let mut column: usize = 0;
+        for n in list {
+            self.put_byte(before);
+            self.put_decimal(*n);
+            if column < layout.last {
+                column += 1;
+                before = layout.within;
+            } else {
+                column = 0;
+                before = layout.between;
+            }
+        }
+    }
+
+    // How a reading ended: `ok` and how many rows there are, or `refused`, the number, `at` and the place.
+    fn put_verdict(&mut self, ending: Ending)
+        ensures { Adds self.old (verdict ending.number ending.count ending.place) self.new }
+    {
+        if ending.number == 0 {
+            self.put_text(b"ok ");
+            self.put_decimal(ending.count as u64);
+        } else {
+            self.put_text(b"refused ");
+            self.put_decimal(u64::from(ending.number));
+            self.put_text(b" at ");
+            self.put_decimal(ending.place as u64);
+        }
+    }
+
+    // What was read: its rows, a line each, and how the reading ended. `line_end` stands before each line, as the first may follow a header.
+    pub fn put_lines(&mut self, ending: Ending, list: &[u64], last: usize, line_end: u8)
+        ensures { Adds self.old (lines ending.number ending.count ending.place list.now last line_end) self.new }
+    {
+        let layout = Layout {
+            last,
+            first: line_end,
+            between: line_end,
+            within: b' ',
+        };
+        self.put_rows(list, layout);
+        self.put_byte(line_end);
+        self.put_verdict(ending);
+    }
+
+    // The listing of records: a header, the records that stand in the room, a line each, and how the reading ended. `line_end` stands between lines.
+    pub fn put_listing(&mut self, ending: Ending, list: &[u64], line_end: u8)
+        ensures { Adds self.old (listing ending.number ending.count ending.place list.now line_end) self.new }
+    {
+        self.put_text(b"depth number kind value start end tag");
+        self.put_lines(ending, list, columns::TAG, line_end);
+    }
+}
+
+// What `write!` stores. It never fails: here too what finds no room is left out.
+impl fmt::Write for Page<'_> {
+    ghost write_str_gives = { Adds };
+
+    fn write_str(&mut self, text: &str) -> fmt::Result {
+        self.put_text(text.as_bytes());
+        Ok(())
+    }
+}
+
+// What a reading left at the front of a room: its records or ranges, `stride` numbers each.
+pub fn rows_read<'a>(read: Result<usize, Stopped>, room: &'a [u64], stride: usize) -> &'a [u64]
+    ensures { result.now ≡ take (read_count read * stride) room.now }
 {
-    put_digits(n, 20, at, out)
+    let count = read.unwrap_or_else(|stopped| stopped.count);
+    let end = count.saturating_mul(stride).min(room.len());
+    &room[..end]
 }
 
 // A digit of hexadecimal, in lower case.
@@ -66,107 +219,4 @@ fn glyph(digit: u8) -> u8
     } else {
         LETTERS + digit
     }
-}
-
-// Bytes in hexadecimal, two digits each.
-pub fn put_hex(bytes: &[u8], at: usize, out: &mut [u8]) -> usize
-    ensures { Shown out.old at (hexadecimal bytes.now) out.new result }
-{
-    let mut to = at;
-    let mut i: usize = 0;
-    while i < bytes.len() {
-        let b = bytes[i];
-        to = put_byte(glyph(b / 16), to, out);
-        to = put_byte(glyph(b % 16), to, out);
-        i += 1;
-    }
-    to
-}
-
-// Rows of numbers, whose columns end with `last`: `first` before the first row, `between` before each other, `within` before the other numbers of a row.
-pub fn put_rows(
-    list: &[u64],
-    last: usize,
-    first: u8,
-    between: u8,
-    within: u8,
-    at: usize,
-    out: &mut [u8],
-) -> usize
-    ensures { Shown out.old at (rows last first between within 0 list.now) out.new result }
-{
-    let mut to = at;
-    let mut before = first;
-    let mut column: usize = 0;
-    let mut i: usize = 0;
-    while i < list.len() {
-        to = put_byte(before, to, out);
-        to = put_decimal(list[i], to, out);
-        i += 1;
-        if column < last {
-            column += 1;
-            before = within;
-        } else {
-            column = 0;
-            before = between;
-        }
-    }
-    to
-}
-
-// How a reading ended: `ok` and how many rows there are, or `refused`, the number, `at` and the place.
-fn put_verdict(number: u32, count: usize, place: usize, at: usize, out: &mut [u8]) -> usize
-    ensures { Shown out.old at (verdict number count place) out.new result }
-{
-    if number == 0 {
-        let to = put_text(b"ok ", at, out);
-        return put_decimal(count as u64, to, out);
-    }
-    let told = put_text(b"refused ", at, out);
-    let numbered = put_decimal(number as u64, told, out);
-    let to = put_text(b" at ", numbered, out);
-    put_decimal(place as u64, to, out)
-}
-
-// What was read: its rows, a line each, and how the reading ended. `line_end` stands before each line, as the first may follow a header.
-pub fn put_lines(
-    number: u32,
-    count: usize,
-    place: usize,
-    list: &[u64],
-    last: usize,
-    line_end: u8,
-    at: usize,
-    out: &mut [u8],
-) -> usize
-    ensures { Shown out.old at (lines number count place list.now last line_end) out.new result }
-{
-    let listed = put_rows(list, last, line_end, line_end, b' ', at, out);
-    let to = put_byte(line_end, listed, out);
-    put_verdict(number, count, place, to, out)
-}
-
-// The listing of records: a header, the records that stand in the room, a line each, and how the reading ended. `line_end` stands between lines.
-pub fn put_listing(
-    number: u32,
-    count: usize,
-    place: usize,
-    list: &[u64],
-    line_end: u8,
-    at: usize,
-    out: &mut [u8],
-) -> usize
-    ensures { Shown out.old at (listing number count place list.now line_end) out.new result }
-{
-    let headed = put_text(b"depth number kind value start end tag", at, out);
-    put_lines(
-        number,
-        count,
-        place,
-        list,
-        columns::TAG,
-        line_end,
-        headed,
-        out,
-    )
 }

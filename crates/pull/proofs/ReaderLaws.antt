@@ -8,12 +8,14 @@ use lib.ListN.{length}
 use lib.Dec.{ltb}
 use denote.Ref.{Bor}
 use Rattle.spec.specs.Names.{too_large}
-use Rattle.std.specs.Prelude.{if◌then◌else◌}
+use Rattle.std.specs.Prelude.{if◌then◌else◌, Option, Result}
+use Rattle.spec.specs.declared.refusals.Refusal.{Refusal}
 use Rattle.spec.specs.Base.{part, limit}
 use Rattle.spec.specs.Pull as spec
 use Rattle.spec.specs.Pull.{says, reader, opened, stepped, entered, step_at, enter_at}
 use Rattle.pull.specs.declared.step.Ask.{Ask}
 use Rattle.pull.specs.declared.step.Said.{Said}
+use Rattle.pull.specs.declared.step.Refused.{Refused}
 use Rattle.pull.specs.declared.step.Moved.{Moved}
 use Rattle.pull.specs.declared.step.Gate.{Gate}
 use Rattle.pull.specs.declared.reader.Reader.{Reader}
@@ -22,15 +24,15 @@ use Rattle.pull.specs.declared.reader.Stepped.{Stepped}
 use Rattle.pull.specs.declared.reader.Entered.{Entered}
 use Rattle.pull.specs.declared.reader.Once.{Once}
 use Rattle.pull.specs.Told.{said_told, as_moved, asked, Gated}
-use Rattle.pull.specs.Reader.{reader_told, opened_told, stepped_told, entered_told, Entering, once_told, open_number, first_part}
+use Rattle.pull.specs.Reader.{reader_told, opened_told, stepped_told, entered_told, Entering, once_told, opening_number, open_number, first_part}
 use Rattle.pull.proofs.StepLaws.{one_said}
 
 -- ---- opening
 
-abbrev pub opening : ℕ → Bor (List ℕ) → Opened
-opening n p = record { number = n; reader = record { s = p; at = 0; level = 0 } }
+abbrev pub opening : Option Refusal → Bor (List ℕ) → Opened
+opening n p = record { refused = n; reader = record { s = p; at = 0; level = 0 } }
 
-pub open_says : (s : List ℕ) (n : ℕ) (p : Bor (List ℕ)) → n ≡ open_number s → p.now ≡ first_part s → opened_told (opening n p) ≡ opened s
+pub open_says : (s : List ℕ) (n : Option Refusal) (p : Bor (List ℕ)) → opening_number n ≡ open_number s → p.now ≡ first_part s → opened_told (opening n p) ≡ opened s
 unfolding opened
 open_says s n p e f =
     ap (λ (k : ℕ). opened_as k p.now) e ∙ ap (opened_as (open_number s)) f ∙ go (ltb limit (length s))
@@ -80,17 +82,17 @@ one_entered r x y e f = e ∙ sym f
 pub one_stepped : (d : Reader) (m : spec.Stepped) (x y : Stepped) → (stepped_told x ≡ m) × (x.reader.s ≡ d.s) → (stepped_told y ≡ m) × (y.reader.s ≡ d.s) → x ≡ y
 one_stepped d m x y e f =
     let h : stepped_told x ≡ stepped_told y = e.0 ∙ sym f.0 in
-    ap (λ (a : Said). made a x.reader.s x.reader.at x.reader.level) (one_said (ap (λ (z : spec.Stepped). z.said) h))
+    ap (λ (a : Result Said Refused). made a x.reader.s x.reader.at x.reader.level) (one_said (ap (λ (z : spec.Stepped). z.said) h))
     ∙ ap (λ (a : Bor (List ℕ)). made y.said a x.reader.at x.reader.level) (e.1 ∙ sym f.1)
     ∙ ap (λ (z : spec.Stepped). made y.said y.reader.s z.reader.at z.reader.level) h
   where
-    made : Said → Bor (List ℕ) → ℕ → ℕ → Stepped
+    made : Result Said Refused → Bor (List ℕ) → ℕ → ℕ → Stepped
     made a s at level = record { said = a; reader = record { s = s; at = at; level = level } }
 
 pub one_once : (m : Entering) (x y : Once) → once_told x ≡ m → once_told y ≡ m → x ≡ y
 one_once m x y e f =
     let h : once_told x ≡ once_told y = e ∙ sym f in
-    ap (λ (a : Said). made a x.at x.level) (one_said (ap (λ (z : Entering). z.said) h)) ∙ ap (λ (z : Entering). made y.said z.at z.level) h
+    ap (λ (a : Result Said Refused). made a x.at x.level) (one_said (ap (λ (z : Entering). z.said) h)) ∙ ap (λ (z : Entering). made y.said z.at z.level) h
   where
-    made : Said → ℕ → ℕ → Once
+    made : Result Said Refused → ℕ → ℕ → Once
     made a at level = record { said = a; at = at; level = level }

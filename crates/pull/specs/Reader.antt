@@ -1,8 +1,10 @@
 -- What the pull reader's structs say, in the definitions' terms. Assumes nothing: these are definitions. Public promises cite it.
-use Rattle.std.specs.Prelude.{ℕ, List, [], length, ltb, if◌then◌else◌}
+use Rattle.std.specs.Prelude.{ℕ, List, [], length, ltb, if◌then◌else◌, Option, Some, None}
 use Rattle.spec.specs.Names.{too_large}
 use Rattle.spec.specs.Base.{limit}
 use Rattle.spec.specs.Pull as spec
+use Rattle.spec.specs.Told.{number_of}
+use Rattle.spec.specs.declared.refusals.Refusal.{Refusal}
 use Rattle.pull.specs.Told.{said_told}
 use Rattle.pull.specs.declared.reader.Reader.{Reader}
 use Rattle.pull.specs.declared.reader.Opened.{Opened}
@@ -13,8 +15,13 @@ use Rattle.pull.specs.declared.reader.Once.{Once}
 abbrev pub reader_told : Reader → spec.Reader
 reader_told r = spec.reader r.s.now r.at r.level
 
+-- the number of the refusal, 0 for none
+abbrev pub opening_number : Option Refusal → ℕ
+opening_number None = 0
+opening_number (Some r) = number_of r
+
 abbrev pub opened_told : Opened → spec.Opened
-opened_told n = record { number = n.number; reader = reader_told n.reader }
+opened_told n = record { number = opening_number n.refused; reader = reader_told n.reader }
 
 abbrev pub stepped_told : Stepped → spec.Stepped
 stepped_told n = record { said = said_told n.said; reader = reader_told n.reader }

@@ -1,16 +1,17 @@
 -- What the answers of the steps say, in the definitions' terms. Assumes nothing: these are definitions. Public promises cite it.
-use Rattle.std.specs.Prelude.{ℕ, ◌≤◌, ◌≡◌, List, length}
+use Rattle.std.specs.Prelude.{ℕ, ◌≤◌, ◌≡◌, List, length, Result, Ok, Err}
 use Rattle.spec.specs.Base.{part}
 use Rattle.spec.specs.Kind as kind
 use Rattle.spec.specs.Pull as spec
+use Rattle.spec.specs.Told as told
+use Rattle.spec.specs.declared.refusals.Refusal.{Refusal}
 use Rattle.wire.specs.declared.found.Found.{Found}
-use Rattle.wire.specs.declared.found.Found.TheVariants as found
 use Rattle.skip.specs.declared.content.Span.{Span}
-use Rattle.skip.specs.declared.content.Span.TheVariants as span
 use Rattle.pull.specs.declared.step.Ask.{Ask}
 use Rattle.pull.specs.declared.step.Ask.TheVariants as ask
 use Rattle.pull.specs.declared.step.Said.{Said}
 use Rattle.pull.specs.declared.step.Said.TheVariants as said
+use Rattle.pull.specs.declared.step.Refused.{Refused}
 use Rattle.pull.specs.declared.step.Moved.{Moved}
 use Rattle.pull.specs.declared.step.Gate.{Gate}
 
@@ -36,32 +37,32 @@ asked ask.Sint64 = spec.value kind.sint64
 asked (ask.Skip tag) = spec.skip tag
 
 -- what is said
-abbrev pub said_told : Said → spec.Said
-said_told (said.Number v) = spec.Number v
-said_told (said.Content a z) = spec.Content a z
-said_told said.End = spec.End
-said_told (said.Refused k p) = spec.Refused k p
+abbrev pub said_told : Result Said Refused → spec.Said
+said_told (Ok (said.Number v)) = spec.Number v
+said_told (Ok (said.Content a z)) = spec.Content a z
+said_told (Ok said.End) = spec.End
+said_told (Err r) = spec.Refused (told.number_of r.refusal) r.place
 
 abbrev pub as_moved : Moved → spec.Moved
 as_moved m = spec.says (said_told m.said) m.at
 
 -- ---- the parts of an answer, from what was found at a position
 
-abbrev pub refused_at : (number at : ℕ) → Moved
-refused_at k at = record { said = said.Refused k at; at = at }
+abbrev pub refused_at : Refusal → ℕ → Moved
+refused_at k at = record { said = Err (record { refusal = k; place = at }); at = at }
 
-abbrev pub number_of : ℕ → Found → Moved
-number_of at (found.Value v next) = record { said = said.Number v; at = next }
-number_of at (found.Refused k) = refused_at k at
+abbrev pub number_of : ℕ → Result Found Refusal → Moved
+number_of at (Ok f) = record { said = Ok (said.Number f.value); at = f.next }
+number_of at (Err k) = refused_at k at
 
-abbrev pub content_of : ℕ → Span → Moved
-content_of at (span.Of a z) = record { said = said.Content a z; at = z }
-content_of at (span.Bad k) = refused_at k at
+abbrev pub content_of : ℕ → Result Span Refusal → Moved
+content_of at (Ok f) = record { said = Ok (said.Content f.start f.end); at = f.end }
+content_of at (Err k) = refused_at k at
 
 -- ---- entering
 
-abbrev pub shut_at : (number at level : ℕ) → Gate
-shut_at k at level = record { said = said.Refused k at; start = 0; end = 0; level = level; at = at }
+abbrev pub shut_at : Refusal → (at level : ℕ) → Gate
+shut_at k at level = record { said = Err (record { refusal = k; place = at }); start = 0; end = 0; level = level; at = at }
 
 -- What entering finds is what the definition says; its bounds lie in the bytes, and are those of the inner reader's.
 pub record Gated (s : List ℕ) (at level : ℕ) (g : Gate) : Type 0 where

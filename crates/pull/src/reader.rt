@@ -5,10 +5,11 @@ ghost use Rattle.std.specs.Prelude.{◌≡◌, ◌≤◌, length};
 ghost use Rattle.spec.specs.Base.{part};
 ghost use Rattle.spec.specs.Pull.{opened, stepped, entered, step_at, reader};
 ghost use Rattle.pull.specs.Told.{as_moved, asked};
-ghost use Rattle.pull.specs.Reader.{reader_told, opened_told, stepped_told, entered_told, once_told, entering, first_part, open_number};
+ghost use Rattle.pull.specs.Reader.{reader_told, opened_told, stepped_told, entered_told, once_told, entering, first_part, opening_number, open_number};
 
-use crate::step::{Ask, Moved, Said, gate_at, step_at};
-use spec::{limits, refusals};
+use crate::step::{Ask, Moved, Refused, Said, gate_at, step_at};
+use spec::limits;
+use spec::refusals::Refusal;
 
 #[derive(Drop)]
 pub struct Reader<'a> {
@@ -20,35 +21,35 @@ pub struct Reader<'a> {
 // A reader, or the refusal of too many bytes and a reader over no bytes.
 #[derive(Drop)]
 pub struct Opened<'a> {
-    pub number: u32,
+    pub refused: Option<Refusal>,
     pub reader: Reader<'a>,
 }
 
 // The answer of a step, and the moved reader.
 #[derive(Drop)]
 pub struct Stepped<'a> {
-    pub said: Said,
+    pub said: Result<Said, Refused>,
     pub reader: Reader<'a>,
 }
 
 // The answer of entering: the reader over the content, one level up, and the outer one after it.
 #[derive(Drop)]
 pub struct Entered<'a> {
-    pub said: Said,
+    pub said: Result<Said, Refused>,
     pub inner: Reader<'a>,
     pub outer: Reader<'a>,
 }
 
 // ---- the parts of the calls
 
-// The refusal of more bytes than may be read, else 0.
-fn open_number(s: &[u8]) -> u32
-    ensures { result ≡ open_number s.now }
+// The refusal of more bytes than may be read.
+fn open_number(s: &[u8]) -> Option<Refusal>
+    ensures { opening_number result ≡ open_number s.now }
 {
     if limits::MOST_BYTES < s.len() {
-        return refusals::TOO_LARGE;
+        return Some(Refusal::TooLarge);
     }
-    0
+    None
 }
 
 // The bytes that are read: all, or none.
@@ -74,12 +75,10 @@ fn content<'a>(s: &'a [u8], start: usize, end: usize) -> &'a [u8]
 pub fn open<'a>(s: &'a [u8]) -> Opened<'a>
     ensures { opened_told result ≡ opened s.now }
 {
-    let number = open_number(s);
-    let p = first_part(s);
     Opened {
-        number,
+        refused: open_number(s),
         reader: Reader {
-            s: p,
+            s: first_part(s),
             at: 0,
             level: 0,
         },
@@ -134,9 +133,9 @@ pub fn step_once(s: &[u8], at: usize, level: u32, ask: Ask) -> Moved
 }
 
 // The answer of entering, where the outer reader then is, and the level of the inner one.
-#[derive(Drop)]
+#[derive(Clone, Copy, Debug, PartialEq, Eq)]
 pub struct Once {
-    pub said: Said,
+    pub said: Result<Said, Refused>,
     pub at: usize,
     pub level: u32,
 }

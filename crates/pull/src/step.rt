@@ -8,13 +8,14 @@ use crate::value::{bool_found, int32_found, narrow_found, sfixed32_found, sint_f
 use crate::wide::wide_found;
 use skip::content::Span;
 use skip::unknown_or_group::skip_field_for_tag;
-use spec::{limits, refusals};
+use spec::limits;
+use spec::refusals::Refusal;
 use utf8::utf8_prefix;
 use wire::fixed::{decode_fixed32, decode_fixed64};
 use wire::found::Found;
 
 // What a step is asked for: the tag as it stands, a value of a kind, a content, or the field after a tag skipped.
-#[derive(Drop)]
+#[derive(Clone, Copy, Debug, PartialEq, Eq)]
 pub enum Ask {
     RawTag,
     Double,
@@ -36,56 +37,60 @@ pub enum Ask {
     Skip(u32),
 }
 
-// The answer of a step: a number (a raw tag, a value as a 64-bit pattern, the bytes skipped), the bounds of a content in the slice, that the
-// bytes are at their end, or a refusal's number and place.
-#[derive(Clone, Copy)]
+// The answer of a step: a number (a raw tag, a value as a 64-bit pattern, the bytes skipped), the bounds of a content in the slice, or that the
+// bytes are at their end.
+#[derive(Clone, Copy, Debug, PartialEq, Eq)]
 pub enum Said {
     Number(u64),
     Content { start: usize, end: usize },
     End,
-    Refused { number: u32, place: usize },
 }
 
-// The answer, and the position then.
-#[derive(Clone, Copy)]
+// A step that was refused: why, and where.
+#[derive(Clone, Copy, Debug, PartialEq, Eq)]
+pub struct Refused {
+    pub refusal: Refusal,
+    pub place: usize,
+}
+
+// The answer, or the refusal, and the position then: a refused step has one too.
+#[derive(Clone, Copy, Debug, PartialEq, Eq)]
 pub struct Moved {
-    pub said: Said,
+    pub said: Result<Said, Refused>,
     pub at: usize,
 }
 
 // ---- the parts of an answer
 
-fn number_of(f: Found, at: usize) -> Moved
+fn number_of(f: Result<Found, Refusal>, at: usize) -> Moved
     ensures { result ≡ number_of at f }
 {
     match f {
-        Found::Value { value, next } => Moved {
-            said: Said::Number(value),
+        Ok(Found { value, next }) => Moved {
+            said: Ok(Said::Number(value)),
             at: next,
         },
-        Found::Refused(k) => refused(k, at),
+        Err(refusal) => refuse(refusal, at),
     }
 }
 
 // A refused step stays, and its place is the position, unless a letter is broken.
-fn refused(number: u32, at: usize) -> Moved
-    ensures { result ≡ refused_at number at }
+fn refuse(refusal: Refusal, at: usize) -> Moved
+    ensures { result ≡ refused_at refusal at }
 {
-    Moved {
-        said: Said::Refused { number, place: at },
-        at,
-    }
+    let said = Err(Refused { refusal, place: at });
+    Moved { said, at }
 }
 
-fn content_of(f: Span, at: usize) -> Moved
+fn content_of(f: Result<Span, Refusal>, at: usize) -> Moved
     ensures { result ≡ content_of at f }
 {
     match f {
-        Span::Of { start, end } => Moved {
-            said: Said::Content { start, end },
+        Ok(Span { start, end }) => Moved {
+            said: Ok(Said::Content { start, end }),
             at: end,
         },
-        Span::Bad(k) => refused(k, at),
+        Err(refusal) => refuse(refusal, at),
     }
 }
 
@@ -97,7 +102,7 @@ pub fn tag_at(s: &[u8], at: usize) -> Moved
 {
     if s.len() <= at {
         return Moved {
-            said: Said::End,
+            said: Ok(Said::End),
             at,
         };
     }
@@ -169,36 +174,28 @@ pub fn bytes_at(s: &[u8], at: usize) -> Moved
 pub fn string_at(s: &[u8], at: usize) -> Moved
     ensures { as_moved result ≡ step_at s.now at 0 string }
 {
-    match span_at(s, at, true) {
-        Span::Of { start, end } => {
-            let n = utf8_prefix(&s[start..end]);
-            let valid = start + n;
-            if valid < end {
-                return Moved {
-                    said: Said::Refused {
-                        number: refusals::NOT_UTF8,
-                        place: valid,
-                    },
-                    at,
-                };
-            }
-            Moved {
-                said: Said::Content { start, end },
-                at: end,
-            }
+    let found = span_at(s, at, true);
+    if let Ok(span) = found {
+        let n = utf8_prefix(&s[span.start..span.end]);
+        let valid = span.start + n;
+        if valid < span.end {
+            return Moved {
+                said: Err(Refused {
+                    refusal: Refusal::NotUtf8,
+                    place: valid,
+                }),
+                at,
+            };
         }
-        Span::Bad(k) => refused(k, at),
     }
+    content_of(found, at)
 }
 
 // A position in the slice from which as much is left as from `at`.
 fn inside(s: &[u8], at: usize) -> usize
     ensures { (result ≤ length s.now) × (drop result s.now ≡ drop at s.now) }
 {
-    if s.len() < at {
-        return s.len();
-    }
-    at
+    at.min(s.len())
 }
 
 // Skips the field after a tag; the answer is how many bytes it took.
@@ -206,16 +203,12 @@ pub fn skip_at(s: &[u8], at: usize, level: u32, tag: u32) -> Moved
     ensures { as_moved result ≡ step_at s.now at level (skip tag) }
 {
     let from = inside(s, at);
-    let k = skip_field_for_tag(tag, &s[from..], level);
-    let number = k.number;
-    let used = k.used;
-    if 0 < number {
-        return refused(number, at);
-    }
-    let next = at + used;
-    Moved {
-        said: Said::Number(used as u64),
-        at: next,
+    match skip_field_for_tag(tag, &s[from..], level) {
+        Ok(used) => Moved {
+            said: Ok(Said::Number(used as u64)),
+            at: at + used,
+        },
+        Err(refusal) => refuse(refusal, at),
     }
 }
 
@@ -226,41 +219,36 @@ pub fn step_at(s: &[u8], at: usize, level: u32, ask: Ask) -> Moved
 {
     match ask {
         Ask::RawTag => tag_at(s, at),
-        Ask::Double => fixed64_at(s, at),
-        Ask::Float => fixed32_at(s, at),
-        Ask::Int64 => uint64_at(s, at),
-        Ask::Uint64 => uint64_at(s, at),
-        Ask::Int32 => int32_at(s, at),
-        Ask::Fixed64 => fixed64_at(s, at),
-        Ask::Fixed32 => fixed32_at(s, at),
-        Ask::Bool => bool_at(s, at),
-        Ask::String => string_at(s, at),
-        Ask::Bytes => bytes_at(s, at),
+        Ask::Int32 | Ask::Enum => int32_at(s, at),
         Ask::Uint32 => uint32_at(s, at),
-        Ask::Enum => int32_at(s, at),
-        Ask::Sfixed32 => sfixed32_at(s, at),
-        Ask::Sfixed64 => fixed64_at(s, at),
+        Ask::Int64 | Ask::Uint64 => uint64_at(s, at),
+        Ask::Bool => bool_at(s, at),
         Ask::Sint32 => sint32_at(s, at),
         Ask::Sint64 => sint64_at(s, at),
+        Ask::Float | Ask::Fixed32 => fixed32_at(s, at),
+        Ask::Sfixed32 => sfixed32_at(s, at),
+        Ask::Double | Ask::Fixed64 | Ask::Sfixed64 => fixed64_at(s, at),
+        Ask::String => string_at(s, at),
+        Ask::Bytes => bytes_at(s, at),
         Ask::Skip(tag) => skip_at(s, at, level, tag),
     }
 }
 
 // What entering finds: the answer, the content's bounds and level, and the position after it. Where it is refused the content is empty.
-#[derive(Drop)]
+#[derive(Clone, Copy, Debug, PartialEq, Eq)]
 pub struct Gate {
-    pub said: Said,
+    pub said: Result<Said, Refused>,
     pub start: usize,
     pub end: usize,
     pub level: u32,
     pub at: usize,
 }
 
-fn shut(number: u32, at: usize, level: u32) -> Gate
-    ensures { result ≡ shut_at number at level }
+fn shut(refusal: Refusal, at: usize, level: u32) -> Gate
+    ensures { result ≡ shut_at refusal at level }
 {
     Gate {
-        said: Said::Refused { number, place: at },
+        said: Err(Refused { refusal, place: at }),
         start: 0,
         end: 0,
         level,
@@ -268,30 +256,34 @@ fn shut(number: u32, at: usize, level: u32) -> Gate
     }
 }
 
+// It is put in place, as the content's bounds are then in registers.
+#[inline]
 pub(crate) fn gate_at(s: &[u8], at: usize, level: u32) -> Gate
     ensures { Gated s.now at level result }
 {
     if limits::MOST_LEVELS <= level {
-        return shut(refusals::TOO_DEEP, at, level);
+        return shut(Refusal::TooDeep, at, level);
     }
     match span_at(s, at, false) {
-        Span::Of { start, end } => Gate {
-            said: Said::Content { start, end },
+        Ok(Span { start, end }) => Gate {
+            said: Ok(Said::Content { start, end }),
             start,
             end,
             level: level + 1,
             at: end,
         },
-        Span::Bad(k) => shut(k, at, level),
+        Err(refusal) => shut(refusal, at, level),
     }
 }
 
 // The content of a message at a position and a level.
+#[inline]
 pub fn enter_at(s: &[u8], at: usize, level: u32) -> Moved
     ensures { as_moved result ≡ enter_at s.now at level }
 {
-    let g = gate_at(s, at, level);
-    let said = g.said;
-    let behind = g.at;
-    Moved { said, at: behind }
+    let gate = gate_at(s, at, level);
+    Moved {
+        said: gate.said,
+        at: gate.at,
+    }
 }

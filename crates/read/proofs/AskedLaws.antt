@@ -9,7 +9,7 @@ use lib.Seq.{drop-drop}
 use lib.Dec.{leb, eqb}
 use borrow.Author.Tests.{ne_eqb, leb-false}
 use Rattle.spec.specs.Names.{bad_tag, message_kind, most_levels, no_group_open, not_utf8, packed_head, too_deep}
-use Rattle.std.specs.Prelude.{if◌then◌else◌}
+use Rattle.std.specs.Prelude.{if◌then◌else◌, Result, Ok, Err}
 use Rattle.spec.specs.Base.{part, Read, Took, No}
 use Rattle.spec.specs.Varint.{varint32, varint64, tag}
 use Rattle.spec.specs.Utf8.{utf8, valid_end}
@@ -21,11 +21,11 @@ use Rattle.spec.proofs.Laws.{chosen, either_way, Takes, took, none, takes_tag}
 use Rattle.spec.proofs.ReadingLaws.{In, Sound, is_value, is_message, is_packed, field_sound}
 use Rattle.spec.proofs.RefusalLaws.{is_ordinary, Ordinary, was_read, refused_by, not_ordinary, ordinary_tag, ordinary_scalar, ordinary_content}
 use Rattle.skip.proofs.PastLaws.{tag_varint}
-use Rattle.read.specs.Answers.{valued, ranged, texted, bodied, tag_at, from_body, from_tag, asked, letter_after, letter_in, refused_in, as_field, row_field, resolved, Held}
+use Rattle.read.specs.Answers.{value_in, valued, ranged, texted, bodied, tag_said, tag_at, with_body, from_body, from_tag, asked, letter_after, letter_in, refused_in, as_field, row_field, resolved, Held}
 use Rattle.read.specs.declared.classify.Row.{Row}
 use Rattle.read.specs.declared.classify.Field.{Field}
 use Rattle.read.specs.declared.classify.Field.TheVariants as field
-use Rattle.read.specs.declared.classify.Tag.TheVariants as tagged
+use Rattle.read.specs.declared.classify.TagSaid.{TagSaid}
 use Rattle.read.specs.declared.classify.Body.{Body}
 use Rattle.read.specs.declared.classify.Body.TheVariants as body
 use Rattle.read.proofs.KindTests.{head_of, head_test, head_kind_lem, head_one}
@@ -73,50 +73,50 @@ module _ (m kind inner v a e : ℕ) where
   as_packed h = rw h
 
 module _ (depth at n m kind inner : ℕ) (s : List ℕ) where
-  abbrev there : Body → spec.Field
-  there b = resolved depth at s (from_body m kind inner (at + n) b)
+  abbrev there : Result Body ℕ → spec.Field
+  there b = resolved depth at s (from_body (tag_said m kind inner (at + n)) b)
 
   abbrev behind : List ℕ
   behind = drop (at + n) s
 
-  there_is : (v a e : ℕ) → there (body.Is v (at + n + a) (at + n + e)) ≡ as_field m kind inner v (n + a) (n + e)
-  unfolding resolved from_body
+  there_is : (v a e : ℕ) → there (value_in v (at + n + a) (at + n + e)) ≡ as_field m kind inner v (n + a) (n + e)
+  unfolding resolved from_body with_body
   there_is v a e = ap₂ (as_field m kind inner v) (omega arith) (omega arith)
 
-  there_bad : (k : ℕ) → is_ordinary k ≡ true → there (body.Bad k) ≡ spec.Fault k 0
-  unfolding resolved from_body
+  there_bad : (k : ℕ) → is_ordinary k ≡ true → there (Err k) ≡ spec.Fault k 0
+  unfolding resolved from_body with_body
   there_bad k o = ap (spec.Fault k) (at_tag k (drop at s) (not_ordinary o))
 
   there_valued : 0 ≡ head_test kind → {r : Read} → Ordinary r → there (valued (at + n) r) ≡ spec.given r (λ v l. spec.Value m kind v n (n + l))
-  unfolding resolved from_body valued spec.given
+  unfolding resolved from_body with_body valued spec.given
   there_valued h (was_read {v} {n = l}) = ap₂ (as_field m kind inner v) (omega arith) (omega arith) ∙ as_value m kind inner v n (n + l) h
   there_valued h (refused_by {k} o) = there_bad k o
 
   there_ranged : (f : ℕ → ℕ → spec.Field) → ((a e : ℕ) → as_field m kind inner 0 (n + a) (n + e) ≡ f a e) → {r : Read} → Ordinary r → there (ranged (at + n) r) ≡ spec.given r f
-  unfolding resolved from_body ranged spec.given
+  unfolding resolved from_body with_body ranged spec.given
   there_ranged f h (was_read {v = a} {n = z}) = there_is 0 a z ∙ h a z
   there_ranged f h (refused_by {k} o) = there_bad k o
 
-  there_either : (b : Bool) (x y : Body) {x' y' : spec.Field} → there x ≡ x' → there y ≡ y' → there (if b then x else y) ≡ (if b then x' else y')
+  there_either : (b : Bool) (x y : Result Body ℕ) {x' y' : spec.Field} → there x ≡ x' → there y ≡ y' → there (if b then x else y) ≡ (if b then x' else y')
   there_either true x y e f = e
   there_either false x y e f = f
 
   module _ {t : ℕ} (tagged : varint32 (drop at s) ≡ Took t (at + n - at)) where
     there_texted : 0 ≡ head_test kind → (r : Read) → content varint32 behind ≡ r → Ordinary r
         → there (texted (at + n) behind r) ≡ spec.given r (λ a z. if utf8 (part a z behind) then spec.Value m kind 0 (n + a) (n + z) else spec.Fault not_utf8 (n + valid_end a z behind))
-    unfolding resolved from_body texted spec.given
+    unfolding resolved from_body with_body texted spec.given
     there_texted h (Took a z) c ok =
-        there_either (utf8 (part a z behind)) (body.Is 0 (at + n + a) (at + n + z)) (body.Bad not_utf8) (there_is 0 a z ∙ as_value m kind inner 0 (n + a) (n + z) h)
+        there_either (utf8 (part a z behind)) (value_in 0 (at + n + a) (at + n + z)) (Err not_utf8) (there_is 0 a z ∙ as_value m kind inner 0 (n + a) (n + z) h)
         (ap (spec.Fault not_utf8) (omega (arith, at_letter at (at + n) s (omega arith) tagged c)))
     there_texted h (No k) c (refused_by o) = there_bad k o
 
     there_bodied : (mode : Mode) (x : Shape) → head_of x ≡ head_test kind → there (bodied x depth (at + n) behind) ≡ spec.shaped mode x depth inner m kind n behind
-    unfolding resolved from_body bodied spec.shaped head_of
+    unfolding resolved from_body with_body bodied spec.shaped head_of
     there_bodied mode (one c) h = there_valued h (ordinary_scalar c behind)
     there_bodied mode (other string) h = there_texted h (content varint32 behind) refl (ordinary_content _ _ behind)
     there_bodied mode (other bytes) h = there_ranged _ (λ a e. as_value m kind inner 0 (n + a) (n + e) h) (ordinary_content _ _ behind)
     there_bodied mode (other message) h =
-        there_either (leb most_levels depth) (body.Bad too_deep) (ranged (at + n) (content varint64 behind)) (there_bad too_deep refl)
+        there_either (leb most_levels depth) (Err too_deep) (ranged (at + n) (content varint64 behind)) (there_bad too_deep refl)
         (there_ranged _ (λ a e. as_message m kind inner 0 (n + a) (n + e) (head_one kind message_kind (omega arith) h)) (ordinary_content _ _ behind))
     there_bodied mode (other packed) h = there_ranged _ (λ a e. as_packed m kind inner 0 (n + a) (n + e) (head_one kind packed_head (omega arith) h)) (ordinary_content _ _ behind)
     there_bodied mode (other start_group) h = ap (λ (k : ℕ). spec.given (outer_group depth behind) λ v l. spec.Dropped m (k + l)) (omega arith)
@@ -139,55 +139,55 @@ module _ (look : spec.Look) (depth type at : ℕ) (s : List ℕ) where
 
   -- the answer, step by step
 
-  abbrev Answered : Field → Type 0
+  abbrev Answered : Result Field ℕ → Type 0
   Answered r = (resolved depth at s r ≡ spec.field look depth type (drop at s)) × (r ≡ asked look depth type at s)
 
-  answered : (r : Field) → r ≡ asked look depth type at s → Answered r
+  answered : (r : Result Field ℕ) → r ≡ asked look depth type at s → Answered r
   answered r e = (rw e asked_resolved, e)
 
-  pub field_answer : (r : Field) {m kind inner next : ℕ} {b : Body} → tagged.Of m kind inner next ≡ tag_at (look.says type) at (tag (drop at s))
-      → b ≡ bodied (shape kind) depth next (drop next s) → r ≡ from_body m kind inner next b → Answered r
+  pub body_answer : {t : TagSaid} {b : Result Body ℕ} → Ok t ≡ tag_at (look.says type) at (tag (drop at s)) → b ≡ bodied (shape t.kind) depth t.next (drop t.next s)
+      → Answered (from_body t b)
   unfolding asked from_tag
-  field_answer r {m} {kind} {inner} {next} t e f = answered r (f ∙ ap (from_body m kind inner next) e ∙ ap (from_tag depth s) t)
+  body_answer {t} {b} e f = answered (from_body t b) (ap (from_body t) f ∙ ap (from_tag depth s) e)
 
-  pub fault_answer : {k : ℕ} → tagged.Bad k ≡ tag_at (look.says type) at (tag (drop at s)) → Answered (field.Bad k)
+  pub fault_answer : {k : ℕ} → Err k ≡ tag_at (look.says type) at (tag (drop at s)) → Answered (Err k)
   unfolding asked from_tag
-  fault_answer {k} t = answered (field.Bad k) (ap (from_tag depth s) t)
+  fault_answer {k} t = answered (Err k) (ap (from_tag depth s) t)
 
 -- ---- what a reader may rely on
 
 -- a head has no value, and a message's stands above the greatest depth
-data Kept (depth : ℕ) : Field → Type 0 where
-  of_row : {r : Row} → (r.kind ≡ message_kind → depth < most_levels) → (r.kind ≡ message_kind → r.value ≡ 0) → (r.kind ≡ packed_head → r.value ≡ 0) → Kept depth (field.Of r)
-  of_group : {m n : ℕ} → Kept depth (field.Group m n)
-  of_bad : {k : ℕ} → Kept depth (field.Bad k)
+data Kept (depth : ℕ) : Result Field ℕ → Type 0 where
+  of_row : {r : Row} → (r.kind ≡ message_kind → depth < most_levels) → (r.kind ≡ message_kind → r.value ≡ 0) → (r.kind ≡ packed_head → r.value ≡ 0) → Kept depth (Ok (field.Of r))
+  of_group : {m n : ℕ} → Kept depth (Ok (field.Group m n))
+  of_bad : {k : ℕ} → Kept depth (Err k)
 
 not_head : (kind n : ℕ) → n ≡ head_test kind → (k : ℕ) → head_test k ≡ k → (n ≡ k → ⊥) → kind ≡ k → ⊥
 not_head kind n h k i d e = d (h ∙ ap head_test e ∙ i)
 
 module _ (depth m kind inner next at : ℕ) where
-  abbrev from : Body → Field
-  from b = from_body m kind inner next b
+  abbrev from : Result Body ℕ → Result Field ℕ
+  from b = from_body (tag_said m kind inner next) b
 
   kept_valued : 0 ≡ head_test kind → (r : Read) → Kept depth (from (valued at r))
-  unfolding from_body valued
+  unfolding from_body with_body valued
   kept_valued h (Took v n) =
       of_row (λ e. absurd (not_head kind 0 h message_kind refl (λ z. omega arith) e)) (λ e. absurd (not_head kind 0 h message_kind refl (λ z. omega arith) e))
       (λ e. absurd (not_head kind 0 h packed_head refl (λ z. omega arith) e))
   kept_valued h (No k) = of_bad
 
   kept_ranged : (kind ≡ message_kind → depth < most_levels) → (r : Read) → Kept depth (from (ranged at r))
-  unfolding from_body ranged
+  unfolding from_body with_body ranged
   kept_ranged d (Took a z) = of_row d (λ e. refl) (λ e. refl)
   kept_ranged d (No k) = of_bad
 
   kept_texted : (kind ≡ message_kind → depth < most_levels) → (s : List ℕ) (r : Read) → Kept depth (from (texted at s r))
-  unfolding from_body texted
+  unfolding from_body with_body texted
   kept_texted d s (Took a z) = either_way (λ b. Kept depth (from b)) (utf8 (part a z s)) (of_row d (λ e. refl) (λ e. refl)) of_bad
   kept_texted d s (No k) = of_bad
 
   kept_bodied : (s : List ℕ) (x : Shape) → head_of x ≡ head_test kind → Kept depth (from (bodied x depth at s))
-  unfolding from_body bodied head_of
+  unfolding from_body with_body bodied head_of
   kept_bodied s (one c) h = kept_valued h (scalar c s)
   kept_bodied s (other string) h = kept_texted (λ e. absurd (not_head kind 0 h message_kind refl (λ z. omega arith) e)) s (content varint32 s)
   kept_bodied s (other bytes) h = kept_ranged (λ e. absurd (not_head kind 0 h message_kind refl (λ z. omega arith) e)) (content varint32 s)
@@ -214,16 +214,16 @@ module _ (look : spec.Look) (depth type at : ℕ) (s : List ℕ) where
   unfolding asked
   asked_kept = kept_tag (tag (drop at s))
 
-  asked_in : (r : Row) → asked look depth type at s ≡ field.Of r → In (r.start - at) (r.end - at) (length (drop at s))
+  asked_in : (r : Row) → asked look depth type at s ≡ Ok (field.Of r) → In (r.start - at) (r.end - at) (length (drop at s))
   unfolding resolved
   asked_in r e =
       let same : spec.field look depth type (drop at s) ≡ row_field at r = sym (asked_resolved look depth type at s) ∙ ap (resolved depth at s) e in
       row_in (eqb r.kind message_kind) (eqb r.kind packed_head) r.number r.kind r.inner r.value (r.start - at) (r.end - at) (rw same at (field_sound look depth type (drop at s)))
 
-  pub asked_held : (r : Row) → asked look depth type at s ≡ field.Of r → Held depth at (length s) r
+  pub asked_held : (r : Row) → asked look depth type at s ≡ Ok (field.Of r) → Held depth at (length s) r
   asked_held r e = go (rw e at asked_kept)
     where
-      go : Kept depth (field.Of r) → Held depth at (length s) r
+      go : Kept depth (Ok (field.Of r)) → Held depth at (length s) r
       go (of_row d z y) =
           let i = asked_in r e in
           record {
@@ -236,17 +236,17 @@ module _ (look : spec.Look) (depth type at : ℕ) (s : List ℕ) where
           }
 
   -- a group's fields stand in the slice
-  pub asked_group : {m next : ℕ} → asked look depth type at s ≡ field.Group m next → (at < next) × (next ≤ length s)
-  unfolding asked from_tag tag_at from_body
+  pub asked_group : {m next : ℕ} → asked look depth type at s ≡ Ok (field.Group m next) → (at < next) × (next ≤ length s)
+  unfolding asked from_tag tag_at from_body with_body
   asked_group {m} {next} e = go (tag (drop at s)) (takes_tag (drop at s)) e
     where
-      from_body_lem : (m' kind inner n : ℕ) (b : Body) → from_body m' kind inner n b ≡ field.Group m next → n ≡ next
-      from_body_lem m' kind inner n (body.Is v a z) q = let z : ◌≡◌ {A = ℕ} 0 1 = cc in absurd (omega arith)
-      from_body_lem m' kind inner n body.Group q = cc
-      from_body_lem m' kind inner n (body.Bad k) q = let z : ◌≡◌ {A = ℕ} 0 1 = cc in absurd (omega arith)
+      from_body_lem : (t : TagSaid) (b : Result Body ℕ) → from_body t b ≡ Ok (field.Group m next) → t.next ≡ next
+      from_body_lem t (Ok (body.Is v a z)) q = let z : ◌≡◌ {A = ℕ} 0 1 = cc in absurd (omega arith)
+      from_body_lem t (Ok body.Group) q = cc
+      from_body_lem t (Err k) q = let z : ◌≡◌ {A = ℕ} 0 1 = cc in absurd (omega arith)
 
-      go : (r : Read) → Takes 1 (length (drop at s)) r → from_tag depth s (tag_at (look.says type) at r) ≡ field.Group m next → (at < next) × (next ≤ length s)
+      go : (r : Read) → Takes 1 (length (drop at s)) r → from_tag depth s (tag_at (look.says type) at r) ≡ Ok (field.Group m next) → (at < next) × (next ≤ length s)
       go (Took t n) (took h j) q =
-          let z : at + n ≡ next = from_body_lem (t / 8) (look.says type t).kind (look.says type t).inner (at + n) (bodied (shape (look.says type t).kind) depth (at + n) (drop (at + n) s)) q in
+          let z : at + n ≡ next = from_body_lem (tag_said (t / 8) (look.says type t).kind (look.says type t).inner (at + n)) (bodied (shape (look.says type t).kind) depth (at + n) (drop (at + n) s)) q in
           (omega arith, omega (arith, length-drop at s))
       go (No k) none q = let z : ◌≡◌ {A = ℕ} 0 1 = cc in absurd (omega arith)

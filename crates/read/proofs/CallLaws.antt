@@ -13,54 +13,58 @@ use Rattle.spec.specs.Reading.{Look, Reading, Refused, within, refused_or, calle
 use Rattle.spec.specs.Schema.{bad_schema, says}
 use Rattle.spec.proofs.SchemaLaws.{valid_types}
 use Rattle.spec.proofs.ValidLaws.{goes}
+use Rattle.skip.proofs.KnownLaws.{some_number}
 use Rattle.schema.specs.Tables.{keys_of, info_of, table_says}
 use Rattle.schema.proofs.TableLaws.{table_says_lem, said_message}
-use Rattle.read.specs.Answers.{answered}
+use Rattle.std.specs.Prelude.{Result, Ok, Err}
+use Rattle.spec.specs.Told.{number_of, read_number, read_place, read_count}
+use Rattle.spec.specs.declared.answers.Stopped.{Stopped}
+use Rattle.spec.specs.declared.refusals.Refusal.{Refusal}
+use Rattle.spec.proofs.ToldLaws.{same_refusal}
 use Rattle.read.specs.Prepared.{PreparedReads}
-use Rattle.read.specs.Emit.{left, emit}
-use Rattle.read.specs.declared.Answer.{Answer}
-use Rattle.read.specs.declared.room.Step.{Step}
-use Rattle.read.specs.declared.room.Step.TheVariants.{Go, Stop}
+use Rattle.read.specs.Emit.{left, emit, counted}
+use Rattle.read.specs.declared.room.Stop.{Stop}
 use Rattle.read.proofs.CongLaws.{read_cong}
-use Rattle.read.proofs.EmitLaws.{ended, emit_all, ended_go, ended_stop}
+use Rattle.read.proofs.EmitLaws.{emit_all, ended_going, ended_stopped}
 
 -- the answer and the room that a reading leaves
-abbrev pub Answers : Reading → Answer → (room room' : List ℕ) → Type 0
-Answers q a room room' = (a.number ≡ number q) × (a.place ≡ place q) × (a.count ≡ length (listed q)) × (room' ≡ room_after q room)
+abbrev pub Answers : Reading → Result ℕ Stopped → (room room' : List ℕ) → Type 0
+Answers q a room room' = (read_number a ≡ number q) × (read_place a ≡ place q) × (read_count a ≡ length (listed q)) × (room' ≡ room_after q room)
 
 -- any two answers to a call, and any two rooms, are equal
-pub one_answer : (q : Reading) (a b : Answer) (room x y : List ℕ) → Answers q a room x → Answers q b room y → (a ≡ b) × (x ≡ y)
-one_answer q a b room x y h g = (
-  ap (λ (c : ℕ). record { number = a.number; count = c; place = a.place }) (h.2 ∙ sym g.2)
-      ∙ ap₂ (λ (n p : ℕ). record { number = n; count = b.count; place = p }) (h.0 ∙ sym g.0) (h.1 ∙ sym g.1),
-  h.3 ∙ sym g.3,
-)
+same_stop : (a b : Stopped) → a.refusal ≡ b.refusal → a.count ≡ b.count → a.place ≡ b.place → a ≡ b
+same_stop a b e f g =
+    ap (λ (r : Refusal). record { refusal = r; count = a.count; place = a.place }) e
+    ∙ ap₂ (λ (n p : ℕ). record { refusal = b.refusal; count = n; place = p }) f g
 
-pub answers_refused : (q : Reading) (k p : ℕ) (room : List ℕ) → q ≡ Refused k p → Answers q (record { number = k; count = 0; place = p }) room room
+pub one_answer : (q : Reading) (a b : Result ℕ Stopped) (room x y : List ℕ) → Answers q a room x → Answers q b room y → (a ≡ b) × (x ≡ y)
+one_answer q (Ok n) (Ok m) room x y h g = (ap Ok (h.2 ∙ sym g.2), h.3 ∙ sym g.3)
+one_answer q (Ok n) (Err b) room x y h g = absurd (omega (arith, some_number b.refusal, h.0, g.0))
+one_answer q (Err a) (Ok n) room x y h g = absurd (omega (arith, some_number a.refusal, h.0, g.0))
+one_answer q (Err a) (Err b) room x y h g = (ap Err (same_stop a b (same_refusal (h.0 ∙ sym g.0)) (h.2 ∙ sym g.2) (h.1 ∙ sym g.1)), h.3 ∙ sym g.3)
+
+pub answers_refused : (q : Reading) (r : Refusal) (p : ℕ) (room : List ℕ) → q ≡ Refused (number_of r) p → Answers q (Err (record { refusal = r; count = 0; place = p })) room room
 unfolding number place listed stored
-answers_refused q k p room e = rw e (refl, refl, refl, refl)
+answers_refused q r p room e = rw e (refl, refl, refl, refl)
 
-answers_step : (a : Step) (q : Reading) → a ≡ ended 0 q → ((answered a).number ≡ number q) × ((answered a).place ≡ place q) × ((answered a).count ≡ length (listed q))
-unfolding answered
-answers_step (Go c) q e = let h = ended_go 0 q (sym e) in (sym h.0, sym h.1, omega (arith, h.2))
-answers_step (Stop k c p) q e = let h = ended_stop 0 q (sym e) in (sym h.0, sym h.1, omega (arith, h.2))
+module _ (q : Reading) (room room' : List ℕ) where
+  abbrev fits : Reading
+  fits = within (length room / stride) q
 
-left_step : {a a' : Step} {r r' : List ℕ} → left a r ≡ left a' r' → a ≡ a'
-left_step e = cc
+  pub answers_read : {to : ℕ} → left (Ok to) room' ≡ emit room 0 q → Answers fits (Ok (to / stride)) room room'
+  answers_read e =
+      let h = ended_going 0 fits (e ∙ emit_all room q) in
+      (h.0, h.1, omega (arith, h.2), h.3)
 
-left_room : {a a' : Step} {r r' : List ℕ} → left a r ≡ left a' r' → r ≡ r'
-left_room e = cc
-
-pub answers_read : (q : Reading) (room : List ℕ) {a : Step} {room' : List ℕ} → left a room' ≡ emit room 0 q → Answers (within (length room / stride) q) (answered a) room room'
-answers_read q room {a} e =
-    let all = e ∙ emit_all room q in
-    let h = answers_step a (within (length room / stride) q) (left_step all) in
-    (h.0, h.1, h.2, left_room all)
+  pub answers_stopped : (x : Stop) → left (Err x) room' ≡ emit room 0 q → Answers fits (Err (counted x)) room room'
+  answers_stopped x e =
+      let h = ended_stopped 0 fits (e ∙ emit_all room q) in
+      (h.0, h.1, omega (arith, h.2), h.3)
 
 -- under tables, which have no bad entry
-pub answers_prepared : (look : Look) (s room : List ℕ) {a : Step} {room' : List ℕ} {r : Answer} → length s ≤ limit → left a room' ≡ emit room 0 (read look 0 0 0 s)
-    → r ≡ answered a → Answers (reading_by none look (length room / stride) s) r room room'
-answers_prepared look s room h e is = rw (is, goes none look (length room / stride) s h refl) (answers_read (read look 0 0 0 s) room e)
+pub answers_prepared : (look : Look) (s room room' : List ℕ) (r : Result ℕ Stopped) → length s ≤ limit
+    → Answers (within (length room / stride) (read look 0 0 0 s)) r room room' → Answers (reading_by none look (length room / stride) s) r room room'
+answers_prepared look s room room' r h a = rw (goes none look (length room / stride) s h refl) a
 
 -- ---- what is refused before the bytes are read
 

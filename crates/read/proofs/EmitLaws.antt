@@ -15,22 +15,22 @@ use Rattle.std.specs.Prelude.{if◌then◌else◌}
 use Rattle.spec.specs.Base.{filled}
 use Rattle.spec.specs.Record.{Record, stride, numbers, stored}
 use Rattle.spec.specs.Reading.{Reading, Done, Refused, ◌then◌, ◌followed_by◌, within, number, place, listed, room_after}
-use Rattle.read.specs.Emit.{Left, left, stored_from, placed, emit}
-use Rattle.read.specs.declared.room.Step.{Step}
-use Rattle.read.specs.declared.room.Step.TheVariants.{Go, Stop}
+use Rattle.std.specs.Prelude.{Result, Ok, Err}
+use Rattle.read.specs.Emit.{Left, going, stopped, left, stored_from, placed, emit}
+use Rattle.read.specs.declared.room.Stop.{Stop}
 
 -- ---- one reading after another
 
 -- on with q, unless stopped
 pub onward : Left → Reading → Left
-onward (left (Go b) room) q = emit room b q
-onward (left (Stop k b p) room) q = left (Stop k b p) room
+onward (going b room) q = emit room b q
+onward (stopped k b p room) q = stopped k b p room
 
-pub onward_go : {a : Step} {b : ℕ} (room : List ℕ) (q : Reading) → a ≡ Go b → onward (left a room) q ≡ emit room b q
+onward_go : {a : Result ℕ Stop} {b : ℕ} (room : List ℕ) (q : Reading) → a ≡ Ok b → onward (left a room) q ≡ emit room b q
 unfolding onward
 onward_go room q e = rw e
 
-pub onward_stop : {a : Step} {k b p : ℕ} (room : List ℕ) (q : Reading) → a ≡ Stop k b p → onward (left a room) q ≡ left a room
+onward_stop : {a : Result ℕ Stop} {x : Stop} (room : List ℕ) (q : Reading) → a ≡ Err x → onward (left a room) q ≡ left a room
 unfolding onward
 onward_stop room q e = rw e
 
@@ -45,22 +45,22 @@ emit_followed room b (Refused k i) q = refl
 emit_followed room b (r then p) q = choice_onward (leb (b + stride) (length room)) _ _ _ q (emit_followed (placed room b r) (b + stride) p q) refl
 
 -- A reader of p was called, and its answer is a: it stopped, and that is all; or it is to go on with q.
-module _ (room : List ℕ) (b : ℕ) (p q : Reading) {all : Left} {a : Step} {room' : List ℕ} (is : all ≡ emit room b (p followed_by q)) (called : left a room' ≡ emit room b p) where
-  pub call_stop : {k c i : ℕ} → a ≡ Stop k c i → left a room' ≡ all
+module _ (room : List ℕ) (b : ℕ) (p q : Reading) (room' : List ℕ) {all : Left} {a : Result ℕ Stop} (is : all ≡ emit room b (p followed_by q)) (called : left a room' ≡ emit room b p) where
+  pub call_stop : {x : Stop} → a ≡ Err x → left a room' ≡ all
   call_stop e = sym (is ∙ emit_followed room b p q ∙ ap (λ (x : Left). onward x q) (sym called) ∙ onward_stop room' q e)
 
-  pub call_go : {c : ℕ} → a ≡ Go c → all ≡ emit room' c q
+  pub call_go : {c : ℕ} → a ≡ Ok c → all ≡ emit room' c q
   call_go e = is ∙ emit_followed room b p q ∙ ap (λ (x : Left). onward x q) (sym called) ∙ onward_go room' q e
 
 -- ---- one record
 
 pub emit_room : (room : List ℕ) (b : ℕ) (r : Record) (q : Reading) → b + stride ≤ length room → emit room b (r then q) ≡ emit (placed room b r) (b + stride) q
 unfolding emit
-emit_room room b r q h = ap (λ (t : Bool). if t then emit (placed room b r) (b + stride) q else left (Stop no_room b r.tag) room) (le-leb (b + stride) (length room) h)
+emit_room room b r q h = ap (λ (t : Bool). if t then emit (placed room b r) (b + stride) q else stopped no_room b r.tag room) (le-leb (b + stride) (length room) h)
 
-pub emit_full : (room : List ℕ) (b : ℕ) (r : Record) (q : Reading) → length room < b + stride → emit room b (r then q) ≡ left (Stop no_room b r.tag) room
+pub emit_full : (room : List ℕ) (b : ℕ) (r : Record) (q : Reading) → length room < b + stride → emit room b (r then q) ≡ stopped no_room b r.tag room
 unfolding emit
-emit_full room b r q h = ap (λ (t : Bool). if t then emit (placed room b r) (b + stride) q else left (Stop no_room b r.tag) room) (lt-leb (b + stride) (length room) h)
+emit_full room b r q h = ap (λ (t : Bool). if t then emit (placed room b r) (b + stride) q else stopped no_room b r.tag room) (lt-leb (b + stride) (length room) h)
 
 stored_length : (xs room : List ℕ) (b i : ℕ) → length (stored_from room b i xs) ≡ length room
 unfolding stored_from
@@ -91,15 +91,15 @@ placed_behind : (pre : List ℕ) (r : Record) (rest : List ℕ) → stride ≤ l
 placed_behind pre r rest h =
     stored_behind (numbers r) pre rest (length pre) 0 (omega arith) (omega (arith, numbers_length r)) ∙ ap (λ (n : ℕ). pre ++ (numbers r ++ drop n rest)) (numbers_length r)
 
--- how a reading ends, with b numbers before its records
-pub ended : ℕ → Reading → Step
-ended b Done = Go b
-ended b (Refused k p) = Stop k b p
-ended b (r then q) = ended (b + stride) q
+-- how a reading ends, with b numbers before its records, and the room that it leaves
+pub ended : ℕ → Reading → List ℕ → Left
+ended b Done room = going b room
+ended b (Refused k p) room = stopped k b p room
+ended b (r then q) room = ended (b + stride) q room
 
 -- what a reading leaves, with the numbers `pre` in use and `rest` after them
 abbrev leaves : List ℕ → List ℕ → Reading → Left
-leaves pre rest q = left (ended (length pre) q) (pre ++ room_after q rest)
+leaves pre rest q = ended (length pre) q (pre ++ room_after q rest)
 
 -- a record that finds no room, and one that does
 leaves_few : (pre rest : List ℕ) (r : Record) (q : Reading) → length rest < stride → emit (pre ++ rest) (length pre) (r then q) ≡ leaves pre rest (within (length rest / stride) (r then q))
@@ -128,8 +128,8 @@ leaves_more pre rest r q h more =
     ∙ ap (λ (x : List ℕ). emit x (length pre + stride) q) (placed_behind pre r rest h ∙ sym (append_assoc pre (numbers r) behind))
     ∙ ap (λ (n : ℕ). emit ((pre ++ numbers r) ++ behind) n q) (sym long)
     ∙ more
-    ∙ ap₂ (λ (n : ℕ) (x : List ℕ). left (ended n w) x) long (append_assoc pre (numbers r) (room_after w behind))
-    ∙ ap (λ (x : List ℕ). left (ended (length pre + stride) w) (pre ++ x)) (filled_then (numbers r) (stored (listed w)) rest (numbers_length r))
+    ∙ ap₂ (λ (n : ℕ) (x : List ℕ). ended n w x) long (append_assoc pre (numbers r) (room_after w behind))
+    ∙ ap (λ (x : List ℕ). ended (length pre + stride) w (pre ++ x)) (filled_then (numbers r) (stored (listed w)) rest (numbers_length r))
     ∙ ap (λ (n : ℕ). leaves pre rest (within n (r then q))) one_more
 
 emit_behind : (q : Reading) (pre rest : List ℕ) → emit (pre ++ rest) (length pre) q ≡ leaves pre rest (within (length rest / stride) q)
@@ -144,19 +144,19 @@ emit_behind (r then q) pre rest =
     ]
 
 -- from the start of the room: number, place and count of what fits, and the room with it
-pub emit_all : (room : List ℕ) (q : Reading) → emit room 0 q ≡ left (ended 0 (within (length room / stride) q)) (room_after (within (length room / stride) q) room)
+pub emit_all : (room : List ℕ) (q : Reading) → emit room 0 q ≡ ended 0 (within (length room / stride) q) (room_after (within (length room / stride) q) room)
 emit_all room q = emit_behind q [] room
 
 -- the parts of how it ended
 
-pub ended_go : (b : ℕ) (q : Reading) {c : ℕ} → ended b q ≡ Go c → (number q ≡ 0) × (place q ≡ 0) × (c ≡ b + stride * length (listed q))
+pub ended_going : (b : ℕ) (q : Reading) {c : ℕ} {room room' : List ℕ} → going c room' ≡ ended b q room → (0 ≡ number q) × (0 ≡ place q) × (c ≡ b + stride * length (listed q)) × (room' ≡ room)
 unfolding ended number place listed
-ended_go b Done {c} e = let same : b ≡ c = cc in (refl, refl, omega arith)
-ended_go b (Refused k p) e = let z : ◌≡◌ {A = ℕ} 0 1 = cc in absurd (omega arith)
-ended_go b (r then q) e = let h = ended_go (b + stride) q e in (h.0, h.1, omega (arith, h.2))
+ended_going b Done {c} e = let same : c ≡ b = cc in (refl, refl, omega arith, cc)
+ended_going b (Refused k p) e = let z : ◌≡◌ {A = ℕ} 0 1 = cc in absurd (omega arith)
+ended_going b (r then q) e = let h = ended_going (b + stride) q e in (h.0, h.1, omega (arith, h.2), h.3)
 
-pub ended_stop : (b : ℕ) (q : Reading) {k c p : ℕ} → ended b q ≡ Stop k c p → (number q ≡ k) × (place q ≡ p) × (c ≡ b + stride * length (listed q))
+pub ended_stopped : (b : ℕ) (q : Reading) {k c p : ℕ} {room room' : List ℕ} → stopped k c p room' ≡ ended b q room → (k ≡ number q) × (p ≡ place q) × (c ≡ b + stride * length (listed q)) × (room' ≡ room)
 unfolding ended number place listed
-ended_stop b Done e = let z : ◌≡◌ {A = ℕ} 0 1 = cc in absurd (omega arith)
-ended_stop b (Refused j i) {k} {c} {p} e = let same : b ≡ c = cc in ((cc), (cc), omega arith)
-ended_stop b (r then q) e = let h = ended_stop (b + stride) q e in (h.0, h.1, omega (arith, h.2))
+ended_stopped b Done e = let z : ◌≡◌ {A = ℕ} 0 1 = cc in absurd (omega arith)
+ended_stopped b (Refused j i) {k} {c} {p} e = let same : c ≡ b = cc in ((cc), (cc), omega arith, cc)
+ended_stopped b (r then q) e = let h = ended_stopped (b + stride) q e in (h.0, h.1, omega (arith, h.2), h.3)

@@ -22,20 +22,15 @@ use Rattle.spec.specs.Reading.{Look, Reading, Done, Refused, ◌then◌, ◌foll
 use Rattle.spec.proofs.Laws.{chosen, by_test}
 use Rattle.spec.proofs.FieldLaws.{span_none, span_asked}
 use Rattle.spec.proofs.ReadingLaws.{Sound, is_fault, read_nil, read_cons, field_sound}
-use Rattle.skip.specs.declared.field.Past.{Past}
-use Rattle.skip.specs.declared.field.Past.TheVariants as past
+use Rattle.spec.specs.Told.{number_of}
+use Rattle.spec.specs.declared.refusals.Refusal.{Refusal}
 use Rattle.skip.specs.Passed as skip
 use Rattle.skip.proofs.SkipAnswers.{takes_outer}
-use Rattle.read.specs.Answers.{scalar_of, Shortly, meant_by, Tells, tells, tells_not, asked, refused_in, row_field, skipped_row, resolved, Held}
-use Rattle.read.specs.Emit.{Left, left, placed, emit}
-use Rattle.read.specs.declared.room.Step.{Step}
-use Rattle.read.specs.declared.room.Step.TheVariants.{Go, Stop}
-use Rattle.read.specs.declared.message.Kind.{Kind}
-use Rattle.read.specs.declared.message.Kind.TheVariants as known
-use Rattle.read.specs.declared.scalar.Short.{Short}
-use Rattle.read.specs.declared.scalar.Short.TheVariants as short
-use Rattle.read.specs.declared.scalar.Meant.{Meant}
-use Rattle.read.specs.declared.scalar.Meant.TheVariants as meant
+use Rattle.std.specs.Prelude.{Option, Some, Result, Ok, Err}
+use Rattle.read.specs.Answers.{numbered, scalar_of, short, Shortly, meant_by, Tells, tells, tells_not, asked, refused_in, row_field, skipped_row, resolved, Held}
+use Rattle.read.specs.Emit.{Left, going, stopped, left, placed, emit}
+use Rattle.read.specs.declared.room.Stop.{Stop}
+use Rattle.read.specs.declared.scalar.ShortVarint.{ShortVarint}
 use Rattle.read.specs.declared.classify.Row.{Row}
 use Rattle.read.specs.declared.classify.Field.{Field}
 use Rattle.read.specs.declared.classify.Field.TheVariants as field
@@ -46,8 +41,8 @@ use Rattle.read.proofs.Turn.{Here, ends, stops, stored, took_in, takes_of, short
 -- ---- what a reader that goes on leaves fits
 
 data Fits : Left → Type 0 where
-  fits_go : {n : ℕ} {room : List ℕ} → n ≤ length room → Fits (left (Go n) room)
-  fits_stop : {k n p : ℕ} {room : List ℕ} → Fits (left (Stop k n p) room)
+  fits_go : {n : ℕ} {room : List ℕ} → n ≤ length room → Fits (going n room)
+  fits_stop : {k n p : ℕ} {room : List ℕ} → Fits (stopped k n p room)
 
 emit_fits : (q : Reading) (room : List ℕ) (b : ℕ) → b ≤ length room → Fits (emit room b q)
 unfolding emit
@@ -58,7 +53,7 @@ emit_fits (r then q) room b h =
     (λ e. emit_fits q (placed room b r) (b + stride) (omega (arith, leb-true (b + stride) (length room) e, placed_length room b r)))
     (λ e. fits_stop)
 
-goes_on : {n : ℕ} {room : List ℕ} → Fits (left (Go n) room) → n ≤ length room
+goes_on : {n : ℕ} {room : List ℕ} → Fits (going n room) → n ≤ length room
 goes_on (fits_go h) = h
 
 -- ---- the records of a field that is asked for
@@ -119,7 +114,7 @@ module _ (mode : Mode) (inner : ℕ → ℕ → List ℕ → Reading) {depth at 
       (λ k. (_, row_packed (eqb-true f.kind packed_head k) (some (eqb-true f.kind packed_head k))))
       (λ k. (Done, row_value (eqb-false f.kind message_kind e) (eqb-false f.kind packed_head k))))
 
-  pub row_full : (f.kind ≡ packed_head → f.start ≡ f.end → ⊥) → (room : List ℕ) (to : ℕ) → to ≤ length room → length room - to < stride → left (Stop no_room to (off + at)) room ≡ emit room to recs
+  pub row_full : (f.kind ≡ packed_head → f.start ≡ f.end → ⊥) → (room : List ℕ) (to : ℕ) → to ≤ length room → length room - to < stride → stopped no_room to (off + at) room ≡ emit room to recs
   row_full some room to i l = let x = row_first some in sym (ap (emit room to) x.1 ∙ emit_full room to this x.0 (omega arith))
 
 -- a record is stored, and then what is below it
@@ -129,7 +124,7 @@ put_then room to {room'} {to'} {r} {all} {q} e l is next o =
     o ∙ ap₂ (λ (x : List ℕ) (n : ℕ). emit x n q) is next ∙ sym (ap (emit room to) e ∙ emit_room room to r q l)
 
 pub put_only : (room : List ℕ) (to : ℕ) {room' : List ℕ} {to' : ℕ} {r : Record} {all : Reading} → all ≡ (r then Done) → to + stride ≤ length room
-    → room' ≡ placed room to r → to' ≡ to + stride → left (Go to') room' ≡ emit room to all
+    → room' ≡ placed room to r → to' ≡ to + stride → going to' room' ≡ emit room to all
 unfolding emit
 put_only room to e l is next = put_then room to e l is next refl
 
@@ -139,16 +134,16 @@ module _ (mode : Mode) (depth m tag end : ℕ) (room : List ℕ) (to : ℕ) wher
   abbrev dropping : Reading
   dropping = span mode depth m tag (end - tag)
 
-  pub span_passed : mode.dropped ≡ false → left (Go to) room ≡ emit room to dropping
+  pub span_passed : mode.dropped ≡ false → going to room ≡ emit room to dropping
   unfolding emit
   span_passed h = sym (ap (emit room to) (span_none mode depth m tag (end - tag) h))
 
   module _ (h : mode.dropped ≡ true) where
-    pub span_full : to ≤ length room → length room - to < stride → left (Stop no_room to tag) room ≡ emit room to dropping
+    pub span_full : to ≤ length room → length room - to < stride → stopped no_room to tag room ≡ emit room to dropping
     span_full i l = sym (ap (emit room to) (span_asked mode depth m tag (end - tag) h) ∙ emit_full room to _ Done (omega arith))
 
     pub span_stored : tag ≤ end → to + stride ≤ length room → {room' : List ℕ} {to' : ℕ} → room' ≡ placed room to (row depth m dropped_span 0 tag end tag) → to' ≡ to + stride
-        → left (Go to') room' ≡ emit room to dropping
+        → going to' room' ≡ emit room to dropping
     span_stored i l is next =
         let there : tag + (end - tag) ≡ end = omega arith in
         put_only room to (span_asked mode depth m tag (end - tag) h ∙ rw there) l is next
@@ -228,53 +223,53 @@ module _ (look : Look) (depth ty : ℕ) {s : List ℕ} {off : ℕ} {room₀ : Li
   from_first : {x : Left} → x ≡ emit room₀ from (read look depth ty (off + 0) (drop 0 s)) → x ≡ all
   from_first e = e ∙ ap (λ (o : ℕ). emit room₀ from (read look depth ty o s)) (add-zero off)
 
-  pub fields_end : length s ≤ at → left (Go to) room ≡ all
+  pub fields_end : length s ≤ at → going to room ≡ all
   fields_end l = from_first (ends h.further (ap (read look depth ty (off + at)) (drop_of_length-le s {i = at} l) ∙ read_nil look depth ty (off + at)))
 
   -- a field, whose records another stores
-  module _ (lt : at < length s) {f : Row} (g : Given look depth ty s off at f) {a : Step} {room' : List ℕ}
+  module _ (lt : at < length s) {f : Row} (g : Given look depth ty s off at f) (room' : List ℕ) (a : Result ℕ Stop)
       (called : left a room' ≡ emit room to (records look.mode (read look (depth + 1)) depth (off + at) (drop at s) (row_field at f))) where
     there : emit room₀ from (read look depth ty (off + 0) (drop 0 s))
         ≡ emit room to (records look.mode (read look (depth + 1)) depth (off + at) (drop at s) (row_field at f) followed_by read look depth ty (off + f.end) (drop f.end s))
     there = h.further.same ∙ ap (emit room to) (turned look depth ty s off at lt _ refl ∙ rw (g.same, g.ends))
 
-    pub row_stops : {k n p : ℕ} → a ≡ Stop k n p → left (Stop k n p) room' ≡ all
-    row_stops z = ap (λ (x : Step). left x room') (sym z) ∙ from_first (call_stop room to _ _ there called z)
+    pub row_stops : {x : Stop} → a ≡ Err x → left (Err x) room' ≡ all
+    row_stops z = ap (λ (x : Result ℕ Stop). left x room') (sym z) ∙ from_first (call_stop room to _ _ room' there called z)
 
-    pub row_goes : {n : ℕ} → a ≡ Go n → length room' ≡ length room → Here (read look depth ty) s off room₀ 0 from room' f.end n
+    pub row_goes : {n : ℕ} → a ≡ Ok n → length room' ≡ length room → Here (read look depth ty) s off room₀ 0 from room' f.end n
     row_goes {n} z l =
         record {
           further =
               record {
-                same = call_go room to _ _ there called z;
+                same = call_go room to _ _ room' there called z;
                 on = omega arith;
                 inside = g.held.inside;
-                fits = goes_on (subst Fits (sym called ∙ ap (λ (x : Step). left x room') z) (emit_fits _ room to h.further.fits));
+                fits = goes_on (subst Fits (sym called ∙ ap (λ (x : Result ℕ Stop). left x room') z) (emit_fits _ room to h.further.fits));
                 kept = l ∙ h.further.kept;
               };
         }
 
-  module _ (lt : at < length s) {r : Field} (e : resolved depth at s r ≡ spec.field look depth ty (drop at s)) where
-    is_field : {x : Field} → r ≡ x → resolved depth at s x ≡ spec.field look depth ty (drop at s)
-    is_field is = ap (resolved depth at s) (sym is) ∙ e
+  module _ (lt : at < length s) {r : Result Field Refusal} (e : resolved depth at s (numbered r) ≡ spec.field look depth ty (drop at s)) where
+    is_field : {x : Result Field Refusal} → r ≡ x → resolved depth at s (numbered x) ≡ spec.field look depth ty (drop at s)
+    is_field is = ap (λ (y : Result Field Refusal). resolved depth at s (numbered y)) (sym is) ∙ e
 
     -- a refusal, whose place lies in the slice
-    module _ {k p : ℕ} (is : r ≡ field.Bad k) (there : p ≡ at + refused_in k (drop at s)) where
+    module _ {x : Refusal} {p : ℕ} (is : r ≡ Err x) (there : p ≡ at + refused_in (number_of x) (drop at s)) where
       pub bad_within : p ≤ length s
       unfolding resolved
       bad_within = omega (arith, fault_bound (subst (Sound (length (drop at s))) (sym (is_field is)) (field_sound look depth ty (drop at s))), length-drop at s)
 
-      pub field_bad : left (Stop k to (off + p)) room ≡ all
+      pub field_bad : stopped (number_of x) to (off + p) room ≡ all
       unfolding resolved
       field_bad =
-          let q : off + at + refused_in k (drop at s) ≡ off + p = omega arith in
-          from_first (stops h.further (fault look depth ty s off at lt k (refused_in k (drop at s)) (is_field is) ∙ rw q))
+          let q : off + at + refused_in (number_of x) (drop at s) ≡ off + p = omega arith in
+          from_first (stops h.further (fault look depth ty s off at lt (number_of x) (refused_in (number_of x) (drop at s)) (is_field is) ∙ rw q))
 
     -- a record, which another stores
-    pub row_given : {f : Row} → r ≡ field.Of f → r ≡ asked look depth ty at s → Given look depth ty s off at f
+    pub row_given : {f : Row} → r ≡ Ok (field.Of f) → numbered r ≡ asked look depth ty at s → Given look depth ty s off at f
     unfolding resolved
     row_given {f} is asks =
-        let held = asked_held look depth ty at s f (sym asks ∙ is) in
+        let held = asked_held look depth ty at s f (sym asks ∙ ap numbered is) in
         let same : spec.field look depth ty (drop at s) ≡ row_field at f = sym (is_field is) in
         record {
           held = held;
@@ -283,19 +278,19 @@ module _ (look : Look) (depth ty : ℕ) {s : List ℕ} {off : ℕ} {room₀ : Li
         }
 
     -- a group, which is skipped
-    module _ {m next : ℕ} (is : r ≡ field.Group m next) {q : Past} (skipped : skip.past next q ≡ outer_group depth (drop next s)) where
-      pub group_bad : {k : ℕ} → q ≡ past.Refused k → left (Stop k to (off + at)) room ≡ all
+    module _ {m next : ℕ} (is : r ≡ Ok (field.Group m next)) {q : Result ℕ Refusal} (skipped : skip.past next q ≡ outer_group depth (drop next s)) where
+      pub group_bad : {x : Refusal} → q ≡ Err x → stopped (number_of x) to (off + at) room ≡ all
       unfolding resolved spec.given
-      group_bad {k} z =
-          let none-there : outer_group depth (drop next s) ≡ No k = sym skipped ∙ ap (skip.past next) z in
+      group_bad {x} z =
+          let none-there : outer_group depth (drop next s) ≡ No (number_of x) = sym skipped ∙ ap (skip.past next) z in
           let at_once : off + at + 0 ≡ off + at = omega arith in
-          from_first (stops h.further (fault look depth ty s off at lt k 0 (ap (λ (x : Read). spec.given x (λ v l. spec.Dropped m (next - at + l))) (sym none-there) ∙ is_field is) ∙ rw at_once))
+          from_first (stops h.further (fault look depth ty s off at lt (number_of x) 0 (ap (λ (x : Read). spec.given x (λ v l. spec.Dropped m (next - at + l))) (sym none-there) ∙ is_field is) ∙ rw at_once))
 
-      pub group_given : r ≡ asked look depth ty at s → {end : ℕ} → q ≡ past.To end → {f : Row} → f ≡ skipped_row m end → Given look depth ty s off at f
+      pub group_given : numbered r ≡ asked look depth ty at s → {end : ℕ} → q ≡ Ok end → {f : Row} → f ≡ skipped_row m end → Given look depth ty s off at f
       unfolding resolved spec.given
       group_given asks {end} z {f} row =
           let took-group : outer_group depth (drop next s) ≡ Took 0 (end - next) = sym skipped ∙ ap (skip.past next) z in
-          let in_it = asked_group look depth ty at s (sym asks ∙ is) in
+          let in_it = asked_group look depth ty at s (sym asks ∙ ap numbered is) in
           let k = took_in (takes_outer depth (drop next s)) took-group in
           let long : next - at + (end - next) ≡ end - at = omega (arith, in_it.0, k.0) in
           let same : spec.field look depth ty (drop at s) ≡ spec.Dropped m (end - at) =
@@ -313,14 +308,14 @@ unfolding spec.shaped scalar_of spec.given
 shaped_one mode (one c) depth inner m kind n l e = rw e
 shaped_one mode (other x) depth inner m kind n l e = let z : ◌≡◌ {A = ℕ} 0 1 = cc in absurd (omega arith)
 
-told_kind : {say : ℕ → Says} {c : ℕ} {r : Kind} (k : ℕ) → Tells say c r → r ≡ known.Of k → (8 ≤ c) × (c < 128) × (c % 8 ≡ varint_wire) × ((say c).kind ≡ k)
+told_kind : {say : ℕ → Says} {c : ℕ} {r : Option ℕ} (k : ℕ) → Tells say c r → r ≡ Some k → (8 ≤ c) × (c < 128) × (c % 8 ≡ varint_wire) × ((say c).kind ≡ k)
 told_kind k (tells {kind} h j z e) is = let same : kind ≡ k = cc in (h, j, z, e ∙ same)
 told_kind k tells_not is = let z : ◌≡◌ {A = ℕ} 0 1 = cc in absurd (omega arith)
 
 module _ (look : Look) (depth ty : ℕ) {s : List ℕ} {off : ℕ} {room₀ : List ℕ} {from b : ℕ} {room : List ℕ} {at to : ℕ}
     (h : Here (read look depth ty) s off room₀ from b room at to) (lt : at + 1 < length s)
-    {r : Kind} (t : Tells (look.says ty) (get_or s at 0) r) {k : ℕ} (is-kind : r ≡ known.Of k)
-    {a : Short} (e : Shortly (drop (at + 1) s) a) {v n : ℕ} (is : a ≡ short.Of v n) {m : Meant} (means : m ≡ meant_by (shape k) v) {w : ℕ} (that : m ≡ meant.Is w) where
+    {r : Option ℕ} (t : Tells (look.says ty) (get_or s at 0) r) {k : ℕ} (is-kind : r ≡ Some k)
+    {a : Option ShortVarint} (e : Shortly (drop (at + 1) s) a) {v n : ℕ} (is : a ≡ short v n) {m : Option ℕ} (means : m ≡ meant_by (shape k) v) {w : ℕ} (that : m ≡ Some w) where
   abbrev c : ℕ
   c = get_or s at 0
 

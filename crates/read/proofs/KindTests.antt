@@ -4,22 +4,19 @@ use native.Mathlib.Decide.{dec_lt}
 use native.Mathlib.Omega.{arith}
 use mathlib.Core.Path.{◌≡◌, refl, sym, ap, ◌∙◌}
 use mathlib.Core.Bool.{Bool, true, false, ◌||◌, false≢true}
-use mathlib.Core.Logic.{◌⊎◌, inl, inr}
 use mathlib.Core.List.{List}
 use lib.ListN.{get_or-eq_default}
 use lib.Dec.{T, leb, ltb, eqb}
 use borrow.Author.Tests.{lt-ltb, le-ltb, le-leb, lt-leb, ne_eqb, eqb-true}
 use Rattle.spec.specs.Names.{all_kinds, bad_tag, bool_kind, bytes_kind, double_kind, enum_kind, fixed32_kind, fixed64_kind, float_kind, group_end, group_start, int32_kind, int64_kind, message_kind, out_of_range, packed_head, sfixed32_kind, sfixed64_kind, sint32_kind, sint64_kind, string_kind, uint32_kind, unknown_bytes, unknown_fixed32, unknown_fixed64, unknown_varint}
-use Rattle.std.specs.Prelude.{if◌then◌else◌}
+use Rattle.std.specs.Prelude.{if◌then◌else◌, Option, Some, None}
 use Rattle.spec.specs.Base.{Read, Took, No, meaning, require}
 use Rattle.spec.specs.Varint.{varint32, varint64, unzigzag}
-use Rattle.spec.specs.Kind.{int32, uint32, uint64, bool, sint32, sint64, fixed32, sfixed32, fixed64, Shape, one, other, string, bytes, message, packed, start_group, end_group, nothing, shape, shapes, scalar, signed32}
+use Rattle.spec.specs.Kind.{int32, uint32, uint64, bool, sint32, sint64, fixed32, sfixed32, fixed64, Shape, one, other, string, bytes, message, packed, start_group, end_group, nothing, shape, shapes, is_scalar, scalar, signed32}
 use Rattle.spec.specs.Schema.{bit}
 use Rattle.wire.specs.Reached.{varint_of}
 use Rattle.spec.proofs.Below.{agree, equal_below}
-use Rattle.read.specs.Answers.{has_length, scalar_of, meant_as, meant_by, is_int, must_fit32, is_varint32, int_by, size_one, size_of}
-use Rattle.read.specs.declared.scalar.Meant.{Meant}
-use Rattle.read.specs.declared.scalar.Meant.TheVariants.{Is, Other}
+use Rattle.read.specs.Answers.{has_length, scalar_of, meant_as, meant_by, is_int, is_fixed, must_fit32, is_varint32, int_by}
 
 -- A number of the shape is decided by tests on the kind: where they agree on the kinds of the table, and no test is true after it.
 by_table : (f : Shape → ℕ) (g : ℕ → ℕ) → T (agree (λ k. f (shape k)) g all_kinds) → ((k : ℕ) → all_kinds ≤ k → f (other nothing) ≡ g k) → (k : ℕ) → f (shape k) ≡ g k
@@ -114,8 +111,8 @@ meaning_test k =
     if ltb k sint32_kind then 0 else
     if leb k sint64_kind then 3 else 0
 
-abbrev pub meant_in : ℕ → ℕ → Meant
-meant_in n v = if eqb n 1 then Is v else if eqb n 2 then Is (min 1 v) else if eqb n 3 then Is (unzigzag v) else Other
+abbrev pub meant_in : ℕ → ℕ → Option ℕ
+meant_in n v = if eqb n 1 then Some v else if eqb n 2 then Some (min 1 v) else if eqb n 3 then Some (unzigzag v) else None
 
 meant_shape : (x : Shape) (v : ℕ) → meant_by x v ≡ meant_in (meaning_of x) v
 unfolding meant_by meant_as meaning_of
@@ -151,46 +148,51 @@ meant_kind k v = meant_shape (shape k) v ∙ ap (λ (n : ℕ). meant_in n v) (me
 
 -- each answer of the tests
 
-pub meant_first : (k v : ℕ) → int64_kind ≤ k → k < fixed64_kind → Is v ≡ meant_by (shape k) v
+pub meant_first : (k v : ℕ) → int64_kind ≤ k → k < fixed64_kind → Some v ≡ meant_by (shape k) v
 meant_first k v h l = sym (meant_kind k v ∙ rw (lt-ltb k fixed64_kind l, lt-ltb float_kind k h))
 
-pub meant_zero : (k v : ℕ) → k < int64_kind → Other ≡ meant_by (shape k) v
+pub meant_zero : (k v : ℕ) → k < int64_kind → None ≡ meant_by (shape k) v
 meant_zero k v h = sym (meant_kind k v ∙ rw (lt-ltb k fixed64_kind (omega arith), le-ltb float_kind k (omega arith)))
 
 module _ (k v : ℕ) (above : fixed64_kind ≤ k) (no_bool : k ≡ bool_kind → ⊥) (known : k ≡ unknown_varint → ⊥) where
-  pub meant_low : k < uint32_kind → Other ≡ meant_by (shape k) v
+  pub meant_low : k < uint32_kind → None ≡ meant_by (shape k) v
   meant_low h = sym (meant_kind k v ∙ rw (le-ltb k fixed64_kind above, ne_eqb k bool_kind no_bool, ne_eqb k unknown_varint known, lt-ltb k uint32_kind h))
 
-  pub meant_uint32_enum : uint32_kind ≤ k → k ≤ enum_kind → Is v ≡ meant_by (shape k) v
+  pub meant_uint32_enum : uint32_kind ≤ k → k ≤ enum_kind → Some v ≡ meant_by (shape k) v
   meant_uint32_enum h l = sym (meant_kind k v ∙ rw (le-ltb k fixed64_kind above, ne_eqb k bool_kind no_bool, ne_eqb k unknown_varint known, le-ltb k uint32_kind h, le-leb k enum_kind l))
 
-  pub meant_sfixed : enum_kind < k → k < sint32_kind → Other ≡ meant_by (shape k) v
+  pub meant_sfixed : enum_kind < k → k < sint32_kind → None ≡ meant_by (shape k) v
   meant_sfixed h l =
       sym (meant_kind k v ∙ rw (le-ltb k fixed64_kind above, ne_eqb k bool_kind no_bool, ne_eqb k unknown_varint known, le-ltb k uint32_kind (omega arith), lt-leb k enum_kind h, lt-ltb k sint32_kind l))
 
-  pub meant_sint : sint32_kind ≤ k → k ≤ sint64_kind → Is (unzigzag v) ≡ meant_by (shape k) v
+  pub meant_sint : sint32_kind ≤ k → k ≤ sint64_kind → Some (unzigzag v) ≡ meant_by (shape k) v
   meant_sint h l =
       sym
       (meant_kind k v
       ∙ rw (le-ltb k fixed64_kind above, ne_eqb k bool_kind no_bool, ne_eqb k unknown_varint known, le-ltb k uint32_kind (omega arith), lt-leb k enum_kind (omega arith), le-ltb k sint32_kind h, le-leb k sint64_kind l))
 
-  pub meant_high : sint64_kind < k → Other ≡ meant_by (shape k) v
+  pub meant_high : sint64_kind < k → None ≡ meant_by (shape k) v
   meant_high h =
       sym
       (meant_kind k v
       ∙ rw (le-ltb k fixed64_kind above, ne_eqb k bool_kind no_bool, ne_eqb k unknown_varint known, le-ltb k uint32_kind (omega arith), lt-leb k enum_kind (omega arith), le-ltb k sint32_kind (omega arith), lt-leb k sint64_kind h))
 
--- ---- how many bytes a value has that is no varint
+-- ---- a number of a fixed size
 
-abbrev pub size_test : ℕ → ℕ
-size_test k =
-    if eqb k double_kind || eqb k fixed64_kind || eqb k sfixed64_kind || eqb k unknown_fixed64 then 8 else
-    if eqb k float_kind || eqb k fixed32_kind || eqb k sfixed32_kind || eqb k unknown_fixed32 then 4 else 0
+bit_back : (b : Bool) → b ≡ eqb (bit b) 1
+bit_back true = refl
+bit_back false = refl
 
-size_kind : (k : ℕ) → size_of (shape k) ≡ size_test k
-unfolding shape shapes size_of size_one
-size_kind k =
-    by_table size_of size_test tt
+abbrev pub fixed_test : ℕ → Bool
+fixed_test k =
+    eqb k double_kind || eqb k fixed64_kind || eqb k sfixed64_kind || eqb k unknown_fixed64 || eqb k float_kind || eqb k fixed32_kind || eqb k sfixed32_kind || eqb k unknown_fixed32
+
+pub fixed_kind : (k : ℕ) → is_fixed (shape k) ≡ fixed_test k
+unfolding shape shapes is_scalar meant_by meant_as
+fixed_kind k =
+    bit_back (is_fixed (shape k))
+    ∙ ap (λ (n : ℕ). eqb n 1)
+    (by_table (λ x. bit (is_fixed x)) (λ n. bit (fixed_test n)) tt
     (λ n h.
     rw (
       ne_eqb n double_kind (λ e. omega arith),
@@ -202,35 +204,37 @@ size_kind k =
       ne_eqb n sfixed32_kind (λ e. omega arith),
       ne_eqb n unknown_fixed32 (λ e. omega arith),
     ))
-    k
+    k)
+    ∙ sym (bit_back (fixed_test k))
 
-pub size_none : (k : ℕ) → ((k ≡ double_kind) ⊎ (k ≡ fixed64_kind) ⊎ (k ≡ sfixed64_kind) ⊎ (k ≡ unknown_fixed64) → ⊥) → (k ≡ float_kind → ⊥) → (k ≡ fixed32_kind → ⊥) → (k ≡ sfixed32_kind → ⊥) → (k ≡ unknown_fixed32 → ⊥) → size_of (shape k) ≡ 0
-size_none k n a b c d =
-    size_kind k
+pub not_fixed : (k : ℕ) → (k ≡ double_kind → ⊥) → (k ≡ fixed64_kind → ⊥) → (k ≡ sfixed64_kind → ⊥) → (k ≡ unknown_fixed64 → ⊥) → (k ≡ float_kind → ⊥) → (k ≡ fixed32_kind → ⊥) → (k ≡ sfixed32_kind → ⊥)
+    → (k ≡ unknown_fixed32 → ⊥) → is_fixed (shape k) ≡ false
+not_fixed k a b c d e f g h =
+    fixed_kind k
     ∙ rw (
-      ne_eqb k double_kind (λ e. n (inl e)),
-      ne_eqb k fixed64_kind (λ e. n (inr (inl e))),
-      ne_eqb k sfixed64_kind (λ e. n (inr (inr (inl e)))),
-      ne_eqb k unknown_fixed64 (λ e. n (inr (inr (inr e)))),
-      ne_eqb k float_kind a,
-      ne_eqb k fixed32_kind b,
-      ne_eqb k sfixed32_kind c,
-      ne_eqb k unknown_fixed32 d,
+      ne_eqb k double_kind a,
+      ne_eqb k fixed64_kind b,
+      ne_eqb k sfixed64_kind c,
+      ne_eqb k unknown_fixed64 d,
+      ne_eqb k float_kind e,
+      ne_eqb k fixed32_kind f,
+      ne_eqb k sfixed32_kind g,
+      ne_eqb k unknown_fixed32 h,
     )
 
--- a shape with no size is an integer's, or no number's
-pub no_size : (x : Shape) (s : List ℕ) → size_of x ≡ 0 → scalar_of x s ≡ (if is_int x then scalar_of x s else No bad_tag)
-unfolding size_of size_one scalar_of meant_by meant_as
-no_size (one int32) s h = refl
-no_size (one uint32) s h = refl
-no_size (one uint64) s h = refl
-no_size (one bool) s h = refl
-no_size (one sint32) s h = refl
-no_size (one sint64) s h = refl
-no_size (one fixed32) s h = absurd (omega arith)
-no_size (one sfixed32) s h = absurd (omega arith)
-no_size (one fixed64) s h = absurd (omega arith)
-no_size (other x) s h = refl
+-- a shape whose values have no fixed size is an integer's, or no number's
+pub int_or_nothing : (x : Shape) (s : List ℕ) → is_fixed x ≡ false → scalar_of x s ≡ (if is_int x then scalar_of x s else No bad_tag)
+unfolding is_scalar scalar_of meant_by meant_as
+int_or_nothing (one int32) s h = refl
+int_or_nothing (one uint32) s h = refl
+int_or_nothing (one uint64) s h = refl
+int_or_nothing (one bool) s h = refl
+int_or_nothing (one sint32) s h = refl
+int_or_nothing (one sint64) s h = refl
+int_or_nothing (one fixed32) s h = absurd (false≢true (sym h))
+int_or_nothing (one sfixed32) s h = absurd (false≢true (sym h))
+int_or_nothing (one fixed64) s h = absurd (false≢true (sym h))
+int_or_nothing (other x) s h = refl
 
 -- ---- an integer: whether it is a varint64 that must fit 32 signed bits, whether it is a varint32
 
@@ -257,10 +261,6 @@ varint32_of (one fixed32) = 0
 varint32_of (one sfixed32) = 0
 varint32_of (one fixed64) = 0
 varint32_of (other x) = 0
-
-bit_back : (b : Bool) → b ≡ eqb (bit b) 1
-bit_back true = refl
-bit_back false = refl
 
 fit_kind : (k : ℕ) → must_fit32 k ≡ eqb (fit_of (shape k)) 1
 unfolding shape shapes fit_of

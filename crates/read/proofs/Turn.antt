@@ -17,16 +17,14 @@ use Rattle.spec.specs.Record.{Record, row, stride}
 use Rattle.spec.specs.Reading.{Reading, Done, Refused, ◌then◌, element, elements, contents}
 use Rattle.spec.proofs.Laws.{Takes, took, none, takes_scalar}
 use Rattle.spec.proofs.ReadingLaws.{elements_cons}
+use Rattle.spec.specs.Told.{number_of}
+use Rattle.spec.specs.declared.refusals.Refusal.{Refusal}
 use Rattle.wire.specs.declared.found.Found.{Found}
-use Rattle.wire.specs.declared.found.Found.TheVariants as found
-use Rattle.wire.specs.Answers.{as_read}
-use Rattle.read.specs.Answers.{scalar_of, Shortly, is_short, meant_as, meant_by, is_int, size_one, size_of}
-use Rattle.read.specs.Emit.{Left, left, placed, emit, Further}
-use Rattle.read.specs.declared.room.Step.TheVariants.{Go, Stop}
-use Rattle.read.specs.declared.scalar.Short.{Short}
-use Rattle.read.specs.declared.scalar.Short.TheVariants as short
-use Rattle.read.specs.declared.scalar.Meant.{Meant}
-use Rattle.read.specs.declared.scalar.Meant.TheVariants as meant
+use Rattle.wire.specs.Answers.{as_read, value_at}
+use Rattle.std.specs.Prelude.{Option, Some, Result, Err}
+use Rattle.read.specs.Answers.{scalar_of, short, Shortly, is_short, meant_as, meant_by, is_int, is_fixed}
+use Rattle.read.specs.Emit.{Left, going, stopped, placed, emit, Further}
+use Rattle.read.specs.declared.scalar.ShortVarint.{ShortVarint}
 use Rattle.read.proofs.EmitLaws.{emit_room, emit_full, placed_length}
 
 -- ---- any loop
@@ -40,15 +38,15 @@ module _ {most : ℕ} {todo : ℕ → Reading} {room₀ : List ℕ} {from b : �
   on_by g = record { same = h.same ∙ g.same; on = omega (arith, h.on, g.on); inside = g.inside; fits = g.fits; kept = g.kept ∙ h.kept }
 
   -- the ends: nothing is left to do, a refusal, a record that finds no room
-  pub ends : todo at ≡ Done → left (Go to) room ≡ emit room₀ b (todo from)
+  pub ends : todo at ≡ Done → going to room ≡ emit room₀ b (todo from)
   unfolding emit
   ends e = sym (h.same ∙ ap (emit room to) e)
 
-  pub stops : {k p : ℕ} → todo at ≡ Refused k p → left (Stop k to p) room ≡ emit room₀ b (todo from)
+  pub stops : {k p : ℕ} → todo at ≡ Refused k p → stopped k to p room ≡ emit room₀ b (todo from)
   unfolding emit
   stops e = sym (h.same ∙ ap (emit room to) e)
 
-  pub full : {r : Record} {q : Reading} → todo at ≡ (r then q) → length room - to < stride → left (Stop no_room to r.tag) room ≡ emit room₀ b (todo from)
+  pub full : {r : Record} {q : Reading} → todo at ≡ (r then q) → length room - to < stride → stopped no_room to r.tag room ≡ emit room₀ b (todo from)
   full {r} {q} e l = sym (h.same ∙ ap (emit room to) e ∙ emit_full room to r q (omega (arith, h.fits)))
 
   -- a record is stored
@@ -105,36 +103,24 @@ module _ (d m kind t : ℕ) where
   contents_bad (one c) at (b ∷ s) h i e = elements_cons c d m kind t at b s ∙ rw e
   contents_bad (other x) at s h i e = absurd (false≢true i)
 
--- the kinds of elements: an integer and a number of fixed size are one number, and what is neither has no elements
+-- the kinds of elements: an integer and a number of fixed size are one number, and what is neither has none
 pub int_scalar : (x : Shape) → is_int x ≡ true → is_scalar x ≡ true
 unfolding is_scalar meant_by
 int_scalar (one c) h = refl
 int_scalar (other x) h = absurd (false≢true h)
 
-pub sized_scalar : (x : Shape) → 0 < size_of x → is_scalar x ≡ true
-unfolding is_scalar size_of
-sized_scalar (one c) h = refl
-sized_scalar (other x) h = absurd (omega arith)
+pub fixed_scalar : (x : Shape) → is_fixed x ≡ true → is_scalar x ≡ true
+unfolding is_scalar
+fixed_scalar (one c) h = refl
+fixed_scalar (other x) h = absurd (false≢true h)
 
-no_element : (c : Scalar) → is_int (one c) ≡ false → size_one c ≤ 0 → ⊥
-unfolding meant_by meant_as size_one
-no_element int32 i h = absurd (false≢true (sym i))
-no_element uint32 i h = absurd (false≢true (sym i))
-no_element uint64 i h = absurd (false≢true (sym i))
-no_element bool i h = absurd (false≢true (sym i))
-no_element sint32 i h = absurd (false≢true (sym i))
-no_element sint64 i h = absurd (false≢true (sym i))
-no_element fixed32 i h = absurd (omega arith)
-no_element sfixed32 i h = absurd (omega arith)
-no_element fixed64 i h = absurd (omega arith)
-
-pub no_elements : (x : Shape) (d m kind t at : ℕ) (s : List ℕ) (room : List ℕ) (to : ℕ) → is_int x ≡ false → size_of x ≤ 0 → left (Go to) room ≡ emit room to (contents x d m kind t at s)
-unfolding contents emit size_of
-no_elements (one c) d m kind t at s room to i h = absurd (no_element c i h)
+pub no_elements : (x : Shape) (d m kind t at : ℕ) (s : List ℕ) (room : List ℕ) (to : ℕ) → is_int x ≡ false → is_fixed x ≡ false → going to room ≡ emit room to (contents x d m kind t at s)
+unfolding contents emit is_scalar
+no_elements (one c) d m kind t at s room to i h = absurd (false≢true (sym (sym (rw i refl) ∙ h)))
 no_elements (other x) d m kind t at s room to i h = refl
 
 -- a short varint is the value that it means
-short_one : (c : Scalar) (s : List ℕ) (v n w : ℕ) → Shortly s (short.Of v n) → meant_as c v ≡ meant.Is w → scalar c s ≡ Took w n
+short_one : (c : Scalar) (s : List ℕ) (v n w : ℕ) → Shortly s (short v n) → meant_as c v ≡ Some w → scalar c s ≡ Took w n
 unfolding scalar meant_as meaning require
 short_one int32 s v n w (is_short f l) e = let same : v ≡ w = cc in rw (f 6 1, lt-ltb v (2 ^ 31) (omega arith), same)
 short_one uint32 s v n w (is_short f l) e = let same : v ≡ w = cc in rw (f 1 15, same)
@@ -146,7 +132,7 @@ short_one fixed32 s v n w h e = let z : ◌≡◌ {A = ℕ} 0 1 = cc in absurd (
 short_one sfixed32 s v n w h e = let z : ◌≡◌ {A = ℕ} 0 1 = cc in absurd (omega arith)
 short_one fixed64 s v n w h e = let z : ◌≡◌ {A = ℕ} 0 1 = cc in absurd (omega arith)
 
-pub short_scalar : (x : Shape) (s : List ℕ) {v n w : ℕ} → Shortly s (short.Of v n) → meant_by x v ≡ meant.Is w → scalar_of x s ≡ Took w n
+pub short_scalar : (x : Shape) (s : List ℕ) {v n w : ℕ} → Shortly s (short v n) → meant_by x v ≡ Some w → scalar_of x s ≡ Took w n
 unfolding scalar_of meant_by
 short_scalar (one c) s {v} {n} {w} h e = short_one c s v n w h e
 short_scalar (other x) s h e = let z : ◌≡◌ {A = ℕ} 0 1 = cc in absurd (omega arith)
@@ -177,12 +163,12 @@ module _ (p : List ℕ) (off depth number kind tag : ℕ) where
     element_bad i e = contents_bad depth number kind tag (shape kind) (off + at) (drop at p) (omega (arith, length-drop at p)) i e
 
     -- the same of an element that was found with the place after it
-    found_size : {r : Found} {v next : ℕ} → r ≡ found.Value v next → as_read at r ≡ scalar_of (shape kind) (drop at p) → (at < next) × (next ≤ length p)
+    found_size : {r : Result Found Refusal} {v next : ℕ} → r ≡ value_at v next → as_read at r ≡ scalar_of (shape kind) (drop at p) → (at < next) × (next ≤ length p)
     found_size {r} {v} {next} is e =
         let k = element_size {v = v} {n = next - at} (sym e ∙ ap (as_read at) is) in
         (omega (arith, k.0), omega (arith, k.0, k.1))
 
-    found_here : {r : Found} {v next : ℕ} → r ≡ found.Value v next → as_read at r ≡ scalar_of (shape kind) (drop at p)
+    found_here : {r : Result Found Refusal} {v next : ℕ} → r ≡ value_at v next → as_read at r ≡ scalar_of (shape kind) (drop at p)
         → content at ≡ (row depth number kind v (off + at) (off + next) tag then content next)
     found_here {r} {v} {next} is e =
         let k = found_size is e in
@@ -198,21 +184,21 @@ module _ (depth number kind tag : ℕ) {p : List ℕ} {off : ℕ} {room₀ : Lis
   from_first : {x : Left} → x ≡ emit room₀ from (contents (shape kind) depth number kind tag (off + 0) (drop 0 p)) → x ≡ all
   from_first e = e ∙ ap (λ (o : ℕ). emit room₀ from (contents (shape kind) depth number kind tag o p)) (add-zero off)
 
-  pub elements_end : length p ≤ at → left (Go to) room ≡ all
+  pub elements_end : length p ≤ at → going to room ≡ all
   elements_end l =
       from_first (ends h.further (ap (contents (shape kind) depth number kind tag (off + at)) (drop_of_length-le p {i = at} l) ∙ contents_none depth number kind tag (shape kind) (off + at)))
 
-  module _ (lt : at < length p) {r : Found} (e : as_read at r ≡ scalar_of (shape kind) (drop at p)) where
-    pub element_refused : {k : ℕ} → is_scalar (shape kind) ≡ true → r ≡ found.Refused k → left (Stop k to tag) room ≡ all
+  module _ (lt : at < length p) {r : Result Found Refusal} (e : as_read at r ≡ scalar_of (shape kind) (drop at p)) where
+    pub element_refused : {k : Refusal} → is_scalar (shape kind) ≡ true → r ≡ Err k → stopped (number_of k) to tag room ≡ all
     element_refused i is = from_first (stops h.further (element_bad p off depth number kind tag lt i (sym e ∙ ap (as_read at) is)))
 
-    pub element_full : {v next : ℕ} → r ≡ found.Value v next → length room - to < stride → left (Stop no_room to tag) room ≡ all
+    pub element_full : {v next : ℕ} → r ≡ value_at v next → length room - to < stride → stopped no_room to tag room ≡ all
     element_full is l = from_first (full h.further (found_here p off depth number kind tag lt is e) l)
 
-    pub element_within : {v next : ℕ} → r ≡ found.Value v next → (at < next) × (next ≤ length p)
+    pub element_within : {v next : ℕ} → r ≡ value_at v next → (at < next) × (next ≤ length p)
     element_within is = found_size p off depth number kind tag lt is e
 
-    pub element_stored : {v next : ℕ} → r ≡ found.Value v next → {room' : List ℕ} {to' : ℕ} → to + stride ≤ length room
+    pub element_stored : {v next : ℕ} → r ≡ value_at v next → {room' : List ℕ} {to' : ℕ} → to + stride ≤ length room
         → room' ≡ placed room to (row depth number kind v (off + at) (off + next) tag) → to' ≡ to + stride
         → Here (contents (shape kind) depth number kind tag) p off room₀ 0 from room' next to'
     element_stored is l put next =
@@ -222,7 +208,7 @@ module _ (depth number kind tag : ℕ) {p : List ℕ} {off : ℕ} {room₀ : Lis
 -- a loop over short ones, each the value that its varint means
 module _ (depth number kind tag : ℕ) {p : List ℕ} {off : ℕ} {room₀ : List ℕ} {from b : ℕ} {room : List ℕ} {at to : ℕ}
     (h : Here (contents (shape kind) depth number kind tag) p off room₀ from b room at to) (lt : at < length p)
-    {r : Short} (e : Shortly (drop at p) r) {v n : ℕ} (is : r ≡ short.Of v n) {m : Meant} (means : m ≡ meant_by (shape kind) v) {w : ℕ} (that : m ≡ meant.Is w) where
+    {r : Option ShortVarint} (e : Shortly (drop at p) r) {v n : ℕ} (is : r ≡ short v n) {m : Option ℕ} (means : m ≡ meant_by (shape kind) v) {w : ℕ} (that : m ≡ Some w) where
   this : scalar_of (shape kind) (drop at p) ≡ Took w n
   this = short_scalar (shape kind) (drop at p) (subst (Shortly (drop at p)) is e) (sym means ∙ that)
 

@@ -9,13 +9,14 @@ ghost use Rattle.spec.specs.Reading.{field};
 ghost use Rattle.schema.specs.Layout.{key_count};
 ghost use Rattle.schema.specs.Tables.{table_says};
 ghost use Rattle.skip.specs.Spans.{span_at};
-ghost use Rattle.read.specs.Answers.{tag_at, quick_tag, length_of, has_length, bodied, from_body, asked, refused_in, resolved};
+ghost use Rattle.read.specs.Answers.{numbered, tag_at, quick_tag, length_of, has_length, bodied, with_body, asked, refused_in, resolved};
 ghost use Rattle.read.specs.Prepared.{prepared};
 
-use crate::scalar::{index, scalar_at, varint_at, wide, wide32};
+use crate::scalar::{scalar_at, varint_at};
 use schema::{layout, says};
 use skip::content::Span;
-use spec::{kinds, limits, refusals, wire_types};
+use spec::refusals::Refusal;
+use spec::{kinds, limits, wire_types};
 use utf8::{is_utf8, utf8_prefix};
 use wire::found::Found;
 use wire::varint::decode::decode_varint32;
@@ -30,7 +31,7 @@ const DEEPEST_HEAD: u32 = limits::MOST_LEVELS - 1;
 
 // A field that gives a record: what the record says, and what is in it, which is the type of a message's fields or the kind of a packed field's
 // elements, else 0.
-#[derive(Clone, Copy)]
+#[derive(Clone, Copy, Debug, PartialEq, Eq)]
 pub struct Row {
     pub number: u64,
     pub kind: u64,
@@ -40,28 +41,24 @@ pub struct Row {
     pub end: usize,
 }
 
-// What a reader has to do: store a record; skip a group, whose fields start at `next`; or refuse, with this number.
-#[derive(Drop)]
+// What a reader has to do: store a record, or skip a group, whose fields start at `next`.
+#[derive(Clone, Copy, Debug, PartialEq, Eq)]
 pub enum Field {
     Of(Row),
     Group { number: u64, next: usize },
-    Bad(u32),
 }
 
 // What a tag says, and the place after it.
-#[derive(Drop)]
-enum Tag {
-    Of {
-        number: u64,
-        kind: u64,
-        inner: u32,
-        next: usize,
-    },
-    Bad(u32),
+#[derive(Clone, Copy)]
+struct TagSaid {
+    number: u64,
+    kind: u64,
+    inner: u32,
+    next: usize,
 }
 
-// What comes after a tag: a value and the range of its record, the fields of a group, or a refusal.
-#[derive(Drop)]
+// What comes after a tag: a value and the range of its record, or the fields of a group.
+#[derive(Clone, Copy)]
 enum Body {
     Is {
         value: u64,
@@ -69,7 +66,6 @@ enum Body {
         end: usize,
     },
     Group,
-    Bad(u32),
 }
 
 // ---- tags
@@ -81,50 +77,38 @@ fn long_tag(
     s: &[u8],
     at: usize,
     ty: u32,
-) -> Tag
-    ensures { result ≡ tag_at (table_says keys.now info.now ty) at (tag (drop at s.now)) }
+) -> Result<TagSaid, Refusal>
+    ensures { numbered result ≡ tag_at (table_says keys.now info.now ty) at (tag (drop at s.now)) }
 {
-    match decode_varint32(s, at) {
-        Found::Value { value, next } => {
-            if value < 8 {
-                return Tag::Bad(refusals::BAD_TAG);
-            }
-            if LAST_WIRE < value % 8 {
-                return Tag::Bad(refusals::BAD_TAG);
-            }
-            let said = says(keys, info, ty, value as u32);
-            let number = value / 8;
-            let kind = said.kind as u64;
-            let inner = said.inner as u32;
-            Tag::Of {
-                number,
-                kind,
-                inner,
-                next,
-            }
-        }
-        Found::Refused(k) => Tag::Bad(k),
+    let Found { value, next } = decode_varint32(s, at)?;
+    if value < 8 || LAST_WIRE < value % 8 {
+        return Err(Refusal::BadTag);
     }
+    let said = says(keys, info, ty, value as u32);
+    Ok(TagSaid {
+        number: value / 8,
+        kind: u64::from(said.kind),
+        inner: u32::from(said.inner),
+        next,
+    })
 }
 
 // What entry i says of a tag of one byte whose key it has.
-fn quick_tag(info: &[u8; layout::INFO], i: usize, c: u64, at: usize) -> Tag
+fn quick_tag(info: &[u8; layout::INFO], i: usize, c: u64, at: usize) -> TagSaid
     requires { (i < key_count) × (at + 1 < 2 ^ 64) }
     ensures { result ≡ quick_tag info.now i c at }
 {
-    let number = c / 8;
-    let kind = wide(info[layout::KINDS_AT + i]);
-    let next = at + 1;
+    let kind = u64::from(info[layout::KINDS_AT + i]);
     let inner = if kind == kinds::MESSAGE {
-        wide32(info[layout::INNERS_AT + i])
+        u32::from(info[layout::INNERS_AT + i])
     } else {
         0
     };
-    Tag::Of {
-        number,
+    TagSaid {
+        number: c / 8,
         kind,
         inner,
-        next,
+        next: at + 1,
     }
 }
 
@@ -135,21 +119,15 @@ fn tag_at(
     s: &[u8],
     at: usize,
     ty: u32,
-) -> Tag
-    ensures { result ≡ tag_at (table_says keys.now info.now ty) at (tag (drop at s.now)) }
+) -> Result<TagSaid, Refusal>
+    ensures { numbered result ≡ tag_at (table_says keys.now info.now ty) at (tag (drop at s.now)) }
 {
-    if at < s.len() {
-        if ty < limits::MOST_TYPES {
-            let c = s[at] as u64;
-            if c < 128 {
-                let i = index(info[ty as usize * layout::GUESSES + c as usize / 8]);
-                if keys[i] == ty as u64 * layout::OWNER_UNIT + c {
-                    if 8 <= c {
-                        if c % 8 < WIRE_TYPES {
-                            return quick_tag(info, i, c, at);
-                        }
-                    }
-                }
+    if at < s.len() && ty < limits::MOST_TYPES {
+        let c = u64::from(s[at]);
+        if c < 128 {
+            let i = usize::from(info[ty as usize * layout::GUESSES + c as usize / 8]);
+            if keys[i] == u64::from(ty) * layout::OWNER_UNIT + c && 8 <= c && c % 8 < WIRE_TYPES {
+                return Ok(quick_tag(info, i, c, at));
             }
         }
     }
@@ -164,36 +142,36 @@ fn is_head(kind: u64) -> bool
     kind == kinds::MESSAGE || kind == kinds::PACKED_HEAD
 }
 
-fn long_span(s: &[u8], at: usize, kind: u64) -> Span
+fn long_span(s: &[u8], at: usize, kind: u64) -> Result<Span, Refusal>
     requires { at ≤ length s.now }
     ensures { result ≡ span_at at (content (length_of kind) (drop at s.now)) }
 {
-    match varint_at(s, at, !is_head(kind)) {
-        Found::Value { value, next } => {
-            if ((s.len() - next) as u64) < value {
-                return Span::Bad(refusals::ENDS_EARLY);
-            }
-            let end = next + value as usize;
-            Span::Of { start: next, end }
-        }
-        Found::Refused(k) => Span::Bad(k),
+    let Found { value, next } = varint_at(s, at, !is_head(kind))?;
+    if ((s.len() - next) as u64) < value {
+        return Err(Refusal::EndsEarly);
     }
+    Ok(Span {
+        start: next,
+        end: next + value as usize,
+    })
 }
 
 // The content of a field with a length, which is a varint64 for messages and packed fields, else a varint32.
-fn span_at(s: &[u8], at: usize, kind: u64) -> Span
+fn span_at(s: &[u8], at: usize, kind: u64) -> Result<Span, Refusal>
     requires { at ≤ length s.now }
     ensures { result ≡ span_at at (content (length_of kind) (drop at s.now)) }
 {
     if at < s.len() {
-        let n = s[at] as usize;
+        let n = usize::from(s[at]);
         if n < 128 {
             let start = at + 1;
             if s.len() - start < n {
-                return Span::Bad(refusals::ENDS_EARLY);
+                return Err(Refusal::EndsEarly);
             }
-            let end = start + n;
-            return Span::Of { start, end };
+            return Ok(Span {
+                start,
+                end: start + n,
+            });
         }
     }
     long_span(s, at, kind)
@@ -204,71 +182,55 @@ fn span_at(s: &[u8], at: usize, kind: u64) -> Span
 fn has_length(kind: u64) -> bool
     ensures { result ≡ has_length kind }
 {
-    if kind == kinds::STRING {
-        return true;
-    }
-    if kind == kinds::MESSAGE {
-        return true;
-    }
-    if kind == kinds::BYTES {
-        return true;
-    }
-    if kind == kinds::PACKED_HEAD {
-        return true;
-    }
-    kind == kinds::UNKNOWN_BYTES
+    kind == kinds::STRING
+        || kind == kinds::MESSAGE
+        || kind == kinds::BYTES
+        || kind == kinds::PACKED_HEAD
+        || kind == kinds::UNKNOWN_BYTES
 }
 
 // A field with a length.
-fn delimited(s: &[u8], at: usize, kind: u64) -> Body
+fn delimited(s: &[u8], at: usize, kind: u64) -> Result<Body, Refusal>
     requires { (at ≤ length s.now) × (has_length kind ≡ true) }
-    ensures { result ≡ bodied (shape kind) 0 at (drop at s.now) }
+    ensures { numbered result ≡ bodied (shape kind) 0 at (drop at s.now) }
 {
-    match span_at(s, at, kind) {
-        Span::Of { start, end } => {
-            if kind == kinds::STRING {
-                if !is_utf8(&s[start..end]) {
-                    return Body::Bad(refusals::NOT_UTF8);
-                }
-            }
-            Body::Is {
-                value: 0,
-                start,
-                end,
-            }
-        }
-        Span::Bad(k) => Body::Bad(k),
+    let Span { start, end } = span_at(s, at, kind)?;
+    if kind == kinds::STRING && !is_utf8(&s[start..end]) {
+        return Err(Refusal::NotUtf8);
     }
+    Ok(Body::Is {
+        value: 0,
+        start,
+        end,
+    })
 }
 
 // A field with no length.
-fn plain(s: &[u8], at: usize, kind: u64) -> Body
+fn plain(s: &[u8], at: usize, kind: u64) -> Result<Body, Refusal>
     requires { (at ≤ length s.now) × (has_length kind ≡ false) }
-    ensures { result ≡ bodied (shape kind) 0 at (drop at s.now) }
+    ensures { numbered result ≡ bodied (shape kind) 0 at (drop at s.now) }
 {
     match kind {
-        kinds::GROUP_START => Body::Group,
-        kinds::GROUP_END => Body::Bad(refusals::NO_GROUP_OPEN),
-        _ => match scalar_at(s, at, kind) {
-            Found::Value { value, next } => Body::Is {
+        kinds::GROUP_START => Ok(Body::Group),
+        kinds::GROUP_END => Err(Refusal::NoGroupOpen),
+        _ => {
+            let Found { value, next } = scalar_at(s, at, kind)?;
+            Ok(Body::Is {
                 value,
                 start: at,
                 end: next,
-            },
-            Found::Refused(k) => Body::Bad(k),
-        },
+            })
+        }
     }
 }
 
-fn body_at(s: &[u8], at: usize, kind: u64, depth: u32) -> Body
+fn body_at(s: &[u8], at: usize, kind: u64, depth: u32) -> Result<Body, Refusal>
     requires { at ≤ length s.now }
-    ensures { result ≡ bodied (shape kind) depth at (drop at s.now) }
+    ensures { numbered result ≡ bodied (shape kind) depth at (drop at s.now) }
 {
     if has_length(kind) {
-        if kind == kinds::MESSAGE {
-            if DEEPEST_HEAD < depth {
-                return Body::Bad(refusals::TOO_DEEP);
-            }
+        if kind == kinds::MESSAGE && DEEPEST_HEAD < depth {
+            return Err(Refusal::TooDeep);
         }
         return delimited(s, at, kind);
     }
@@ -277,20 +239,22 @@ fn body_at(s: &[u8], at: usize, kind: u64, depth: u32) -> Body
 
 // ---- a field
 
-fn with_body(number: u64, kind: u64, inner: u32, next: usize, body: Body) -> Field
-    ensures { result ≡ from_body number kind inner next body }
+fn with_body(tag: TagSaid, body: Body) -> Field
+    ensures { result ≡ with_body tag body }
 {
     match body {
         Body::Is { value, start, end } => Field::Of(Row {
-            number,
-            kind,
-            inner,
+            number: tag.number,
+            kind: tag.kind,
+            inner: tag.inner,
             value,
             start,
             end,
         }),
-        Body::Group => Field::Group { number, next },
-        Body::Bad(k) => Field::Bad(k),
+        Body::Group => Field::Group {
+            number: tag.number,
+            next: tag.next,
+        },
     }
 }
 
@@ -302,33 +266,27 @@ pub fn field_at(
     at: usize,
     ty: u32,
     depth: u32,
-) -> Field
-    ensures { (mode : Mode) → (resolved depth at s.now result ≡ field (prepared mode keys.now info.now) depth ty (drop at s.now))
-        × (result ≡ asked (prepared mode keys.now info.now) depth ty at s.now) }
+) -> Result<Field, Refusal>
+    ensures { (mode : Mode) → (resolved depth at s.now (numbered result) ≡ field (prepared mode keys.now info.now) depth ty (drop at s.now))
+        × (numbered result ≡ asked (prepared mode keys.now info.now) depth ty at s.now) }
 {
-    match tag_at(keys, info, s, at, ty) {
-        Tag::Of {
-            number,
-            kind,
-            inner,
-            next,
-        } => with_body(number, kind, inner, next, body_at(s, next, kind, depth)),
-        Tag::Bad(k) => Field::Bad(k),
-    }
+    let tag = tag_at(keys, info, s, at, ty)?;
+    let body = body_at(s, tag.next, tag.kind, depth)?;
+    Ok(with_body(tag, body))
 }
 
 // Where the field at `at` is refused with this number: at its tag, and a string that is not UTF-8 at the first byte of its broken letter. That byte is looked
-// for again: a place that each field carried with it would slow down the reading of strings.
+// for again: a place that each field carried with it would slow down the reading of strings. It takes a number, and no `Refusal`, as callers may have any.
 pub fn refused_at(s: &[u8], at: usize, number: u32) -> usize
     ensures { result ≡ at + refused_in number (drop at s.now) }
 {
-    if number != refusals::NOT_UTF8 {
+    if number != Refusal::NotUtf8.number() {
         return at;
     }
-    let Found::Value { value: _, next } = decode_varint32(s, at) else {
+    let Ok(Found { value: _, next }) = decode_varint32(s, at) else {
         return at;
     };
-    let Span::Of { start, end } = span_at(s, next, kinds::STRING) else {
+    let Ok(Span { start, end }) = span_at(s, next, kinds::STRING) else {
         return at;
     };
     let n = utf8_prefix(&s[start..end]);

@@ -10,37 +10,27 @@ ghost use Rattle.read.specs.Prepared.{prepared};
 
 use crate::classify::{Field, Row, field_at, refused_at};
 use crate::packed::packed;
-use crate::room::{Spot, Step, put, put_span};
-use crate::scalar::{Meant, Short, index, meaning_of, short_at, wide};
+use crate::room::{Spot, Stop, put, put_span};
+use crate::scalar::{ShortVarint, meaning_of, short_at};
 use schema::layout;
-use skip::field::Past;
 use skip::unknown_or_group::skip_unknown_group;
 use spec::columns::STRIDE;
-use spec::{Mode, kinds, limits, refusals, wire_types};
-
-#[derive(Drop)]
-enum Kind {
-    Of(u64),
-    Other,
-}
+use spec::refusals::Refusal;
+use spec::{Mode, kinds, limits, wire_types};
 
 // The kind of the field whose tag is the one byte c, of the wire type of varints. Number 0 is tested last: no table of a schema has a key for it.
-fn int_kind(keys: &[u64; layout::KEYS], info: &[u8; layout::INFO], c: u8, ty: u32) -> Kind
+fn int_kind(keys: &[u64; layout::KEYS], info: &[u8; layout::INFO], c: u8, ty: u32) -> Option<u64>
     requires { ty < most_types }
     ensures { Tells (table_says keys.now info.now ty) c result }
 {
-    if c % 8 == wire_types::VARINT {
-        if c < 128 {
-            let number = c / 8;
-            let i = index(info[ty as usize * layout::GUESSES + number as usize]);
-            if keys[i] == ty as u64 * layout::OWNER_UNIT + c as u64 {
-                if 0 < number {
-                    return Kind::Of(wide(info[layout::KINDS_AT + i]));
-                }
-            }
+    if c % 8 == wire_types::VARINT && c < 128 {
+        let number = c / 8;
+        let i = usize::from(info[ty as usize * layout::GUESSES + usize::from(number)]);
+        if keys[i] == u64::from(ty) * layout::OWNER_UNIT + u64::from(c) && 0 < number {
+            return Some(u64::from(info[layout::KINDS_AT + i]));
         }
     }
-    Kind::Other
+    None
 }
 
 // Reads on while fields are short varints with a tag of one byte, and there is room. Whatever it leaves, `message` does.
@@ -77,20 +67,30 @@ fn short_ints(
             return Spot { at, to };
         }
         let c = s[at];
-        let Kind::Of(kind) = int_kind(keys, info, c, ty) else {
+        let Some(kind) = int_kind(keys, info, c, ty) else {
             return Spot { at, to };
         };
-        let Short::Of { value, size } = short_at(s, at + 1) else {
+        let Some(ShortVarint { value, size }) = short_at(s, at + 1) else {
             return Spot { at, to };
         };
-        let Meant::Is(v) = meaning_of(kind, value) else {
+        let Some(v) = meaning_of(kind, value) else {
             return Spot { at, to };
         };
         let n = size + 1;
         let tag = here;
         here += n;
         at += n;
-        to = put(room, to, depth, (c / 8) as u64, kind, v, tag + 1, here, tag);
+        to = put(
+            room,
+            to,
+            depth,
+            u64::from(c / 8),
+            kind,
+            v,
+            tag + 1,
+            here,
+            tag,
+        );
     }
     Spot { at, to }
 }
@@ -122,7 +122,7 @@ fn store(
     f: Row,
     room: &mut [u64],
     from: usize,
-) -> Step
+) -> Result<usize, Stop>
     requires { (depth ≤ most_levels) × (off + length s.now < 2 ^ 64) × (from ≤ length room.old) × Held depth at (length s.now) f }
     ensures { left result room.new ≡ emit room.old from
         (records mode (read (prepared mode keys.now info.now) (depth + 1)) depth (off + at) (drop at s.now) (row_field at f)) }
@@ -136,11 +136,11 @@ fn store(
         }
     }
     if room.len() - from < STRIDE {
-        return Step::Stop {
-            number: refusals::NO_ROOM,
+        return Err(Stop {
+            refusal: Refusal::NoRoom,
             to: from,
             place: off + at,
-        };
+        });
     }
     let to = put(
         room,
@@ -173,12 +173,12 @@ fn store(
             off + at,
             depth + 1,
             f.number,
-            f.inner as u64,
+            u64::from(f.inner),
             room,
             to,
         );
     }
-    Step::Go(to)
+    Ok(to)
 }
 
 // Stores the fields of the message s, which is at `off`, after the first `from` numbers of the room.
@@ -193,7 +193,7 @@ pub(crate) fn message(
     mode: Mode,
     room: &mut [u64],
     from: usize,
-) -> Step
+) -> Result<usize, Stop>
     requires { (depth ≤ most_levels) × (off + length s.now < 2 ^ 64) × (from ≤ length room.old) }
     ensures { left result room.new ≡ emit room.old from (read (prepared mode keys.now info.now) depth ty off s.now) }
 {
@@ -205,46 +205,31 @@ pub(crate) fn message(
             at = x.at;
             to = x.to;
             if at == s.len() {
-                return Step::Go(to);
+                return Ok(to);
             }
         }
-        let f = match field_at(keys, info, s, at, ty, depth) {
-            Field::Of(f) => f,
-            Field::Group { number, next } => match skip_unknown_group(s, next, depth) {
-                Past::To(end) => skipped(number, end),
-                Past::Refused(number) => {
-                    return Step::Stop {
-                        number,
-                        to,
-                        place: off + at,
-                    };
-                }
-            },
-            Field::Bad(number) => {
-                return Step::Stop {
-                    number,
-                    to,
-                    place: off + refused_at(s, at, number),
-                };
+        let field = match field_at(keys, info, s, at, ty, depth) {
+            Ok(field) => field,
+            Err(refusal) => {
+                let place = off + refused_at(s, at, refusal.number());
+                return Err(Stop { refusal, to, place });
             }
         };
-        match store(keys, info, s, off, at, depth, mode, f, room, to) {
-            Step::Go(n) => {
-                to = n;
-                at = f.end;
-            }
-            Step::Stop {
-                number,
-                to: n,
-                place,
-            } => {
-                return Step::Stop {
-                    number,
-                    to: n,
-                    place,
-                };
-            }
-        }
+        let f = match field {
+            Field::Of(f) => f,
+            Field::Group { number, next } => match skip_unknown_group(s, next, depth) {
+                Ok(end) => skipped(number, end),
+                Err(refusal) => {
+                    return Err(Stop {
+                        refusal,
+                        to,
+                        place: off + at,
+                    });
+                }
+            },
+        };
+        to = store(keys, info, s, off, at, depth, mode, f, room, to)?;
+        at = f.end;
     }
-    Step::Go(to)
+    Ok(to)
 }

@@ -2,16 +2,18 @@
 ghost use Rattle.std.specs.Prelude.{◌≡◌, ◌+◌, ◌^◌, ◌≤◌, ◌<◌, length, drop, true};
 ghost use Rattle.spec.specs.Kind.{shape, is_scalar};
 ghost use Rattle.spec.specs.Reading.{contents};
-ghost use Rattle.read.specs.Answers.{is_int};
+ghost use Rattle.wire.specs.Answers.{as_read};
+ghost use Rattle.read.specs.Answers.{scalar_of, is_int};
 ghost use Rattle.read.specs.Emit.{left, emit, Further};
 
-use crate::room::{Spot, Step, put};
-use crate::scalar::{Meant, Short, fixed_size, int_at, is_int, meaning_of, scalar_at, short_at};
+use crate::room::{Spot, Stop, put};
+use crate::scalar::{ShortVarint, int_at, is_fixed, is_int, meaning_of, scalar_at, short_at};
 use spec::columns::STRIDE;
-use spec::refusals;
+use spec::refusals::Refusal;
 use wire::found::Found;
 
-// Reads on while elements are short and there is room. Whatever it leaves, `packed_ints` does. `tag` is the place of the field's tag.
+// Reads on while elements are short and there is room. Whatever it leaves, `elements` does. `tag` is the place of the field's tag. `message::short_ints` has its own
+// loop, as a field has a tag too: what both do is called.
 fn short_elements(
     p: &[u8],
     off: usize,
@@ -39,10 +41,10 @@ fn short_elements(
         if most < to {
             return Spot { at, to };
         }
-        let Short::Of { value, size } = short_at(p, at) else {
+        let Some(ShortVarint { value, size }) = short_at(p, at) else {
             return Spot { at, to };
         };
-        let Meant::Is(v) = meaning_of(kind, value) else {
+        let Some(v) = meaning_of(kind, value) else {
             return Spot { at, to };
         };
         let end = start + size;
@@ -53,64 +55,19 @@ fn short_elements(
     Spot { at, to }
 }
 
-// The elements in the content p, which stands at `off`, after the first `from` numbers of the room; `tag` is the place of the field's tag.
-fn packed_ints(
-    p: &[u8],
-    off: usize,
-    tag: usize,
-    depth: u32,
-    number: u64,
-    kind: u64,
-    room: &mut [u64],
-    from: usize,
-) -> Step
-    requires { (is_int (shape kind) ≡ true) × (off + length p.now < 2 ^ 64) × (from ≤ length room.old) }
-    ensures { left result room.new ≡ emit room.old from (contents (shape kind) depth number kind tag off p.now) }
+// An element at a place. `scalar_at` reads any: an integer is read with no look at its kind first.
+fn element_at<const VARINTS: bool>(p: &[u8], at: usize, kind: u64) -> Result<Found, Refusal>
+    requires { VARINTS ≡ is_int (shape kind) }
+    ensures { as_read at result ≡ scalar_of (shape kind) (drop at p.now) }
 {
-    let mut at: usize = 0;
-    let mut to = from;
-    while at < p.len() {
-        let x = short_elements(p, off, tag, depth, number, kind, room, Spot { at, to });
-        at = x.at;
-        to = x.to;
-        if at == p.len() {
-            return Step::Go(to);
-        }
-        match int_at(p, at, kind) {
-            Found::Value { value, next } => {
-                if room.len() - to < STRIDE {
-                    return Step::Stop {
-                        number: refusals::NO_ROOM,
-                        to,
-                        place: tag,
-                    };
-                }
-                to = put(
-                    room,
-                    to,
-                    depth,
-                    number,
-                    kind,
-                    value,
-                    off + at,
-                    off + next,
-                    tag,
-                );
-                at = next;
-            }
-            Found::Refused(k) => {
-                return Step::Stop {
-                    number: k,
-                    to,
-                    place: tag,
-                };
-            }
-        }
+    if VARINTS {
+        return int_at(p, at, kind);
     }
-    Step::Go(to)
+    scalar_at(p, at, kind)
 }
 
-fn packed_fixed(
+// The elements in the content p, which stands at `off`, after the first `from` numbers of the room; `tag` is the place of the field's tag.
+fn elements<const VARINTS: bool>(
     p: &[u8],
     off: usize,
     tag: usize,
@@ -119,21 +76,29 @@ fn packed_fixed(
     kind: u64,
     room: &mut [u64],
     from: usize,
-) -> Step
-    requires { (off + length p.now < 2 ^ 64) × (from ≤ length room.old) × (is_scalar (shape kind) ≡ true) }
+) -> Result<usize, Stop>
+    requires { (VARINTS ≡ is_int (shape kind)) × (is_scalar (shape kind) ≡ true) × (off + length p.now < 2 ^ 64) × (from ≤ length room.old) }
     ensures { left result room.new ≡ emit room.old from (contents (shape kind) depth number kind tag off p.now) }
 {
     let mut at: usize = 0;
     let mut to = from;
     while at < p.len() {
-        match scalar_at(p, at, kind) {
-            Found::Value { value, next } => {
+        if VARINTS {
+            let x = short_elements(p, off, tag, depth, number, kind, room, Spot { at, to });
+            at = x.at;
+            to = x.to;
+            if at == p.len() {
+                return Ok(to);
+            }
+        }
+        match element_at::<VARINTS>(p, at, kind) {
+            Ok(Found { value, next }) => {
                 if room.len() - to < STRIDE {
-                    return Step::Stop {
-                        number: refusals::NO_ROOM,
+                    return Err(Stop {
+                        refusal: Refusal::NoRoom,
                         to,
                         place: tag,
-                    };
+                    });
                 }
                 to = put(
                     room,
@@ -148,16 +113,16 @@ fn packed_fixed(
                 );
                 at = next;
             }
-            Found::Refused(k) => {
-                return Step::Stop {
-                    number: k,
+            Err(refusal) => {
+                return Err(Stop {
+                    refusal,
                     to,
                     place: tag,
-                };
+                });
             }
         }
     }
-    Step::Go(to)
+    Ok(to)
 }
 
 // A kind that is not one number has no elements.
@@ -170,15 +135,15 @@ pub(crate) fn packed(
     kind: u64,
     room: &mut [u64],
     from: usize,
-) -> Step
+) -> Result<usize, Stop>
     requires { (off + length p.now < 2 ^ 64) × (from ≤ length room.old) }
     ensures { left result room.new ≡ emit room.old from (contents (shape kind) depth number kind tag off p.now) }
 {
     if is_int(kind) {
-        return packed_ints(p, off, tag, depth, number, kind, room, from);
+        return elements::<true>(p, off, tag, depth, number, kind, room, from);
     }
-    if 0 < fixed_size(kind) {
-        return packed_fixed(p, off, tag, depth, number, kind, room, from);
+    if is_fixed(kind) {
+        return elements::<false>(p, off, tag, depth, number, kind, room, from);
     }
-    Step::Go(from)
+    Ok(from)
 }

@@ -4,17 +4,16 @@ ghost use Rattle.spec.specs.Record.{row, stride};
 ghost use Rattle.spec.specs.Reading.{span};
 ghost use Rattle.read.specs.Emit.{placed, left, emit};
 
-use spec::{Mode, columns, kinds, refusals};
+use spec::refusals::Refusal;
+use spec::{Mode, columns, kinds};
 
-// How far a reader came: on, with `to` numbers of the room in use; or refused. It counts numbers, and not records, so that no iteration multiplies.
-#[derive(Drop)]
-pub enum Step {
-    Go(usize),
-    Stop {
-        number: u32,
-        to: usize,
-        place: usize,
-    },
+// A reader that was refused, with `to` numbers of the room in use, and the place of the fault. A reader that goes on answers how many numbers are in use.
+// Both count numbers, and not records, so that no iteration multiplies.
+#[derive(Clone, Copy)]
+pub struct Stop {
+    pub refusal: Refusal,
+    pub to: usize,
+    pub place: usize,
 }
 
 // Where a reader is: `at` in the bytes, with `to` numbers of the room in use.
@@ -39,7 +38,7 @@ pub(crate) fn put(
     requires { to + stride ≤ length room.old }
     ensures { (room.new ≡ placed room.old to (row depth number kind value start end tag)) × (result ≡ to + stride) }
 {
-    room[to] = depth as u64;
+    room[to] = u64::from(depth);
     room[to + columns::NUMBER] = number;
     room[to + columns::KIND] = kind;
     room[to + columns::VALUE] = value;
@@ -58,21 +57,20 @@ pub(crate) fn put_span(
     end: usize,
     room: &mut [u64],
     from: usize,
-) -> Step
+) -> Result<usize, Stop>
     requires { (tag ≤ end) × (from ≤ length room.old) }
     ensures { left result room.new ≡ emit room.old from (span mode depth number tag (end - tag)) }
 {
     if mode.dropped {
         if room.len() - from < columns::STRIDE {
-            return Step::Stop {
-                number: refusals::NO_ROOM,
+            return Err(Stop {
+                refusal: Refusal::NoRoom,
                 to: from,
                 place: tag,
-            };
+            });
         }
         let kind = kinds::DROPPED_SPAN;
-        let to = put(room, from, depth, number, kind, 0, tag, end, tag);
-        return Step::Go(to);
+        return Ok(put(room, from, depth, number, kind, 0, tag, end, tag));
     }
-    Step::Go(from)
+    Ok(from)
 }

@@ -1,121 +1,183 @@
 // The verbs on numbers and on bytes alone: varints, zigzag, tags, the size limit, the table of kinds, UTF-8, skipping, the document check.
-use crate::answers::{
-    Answer, BARE, NO, NONE, OK, YES, bad, found, ok_or, one, refused, word, word_one, word_two,
-};
-use crate::signs::{fits32, pattern, pattern32, signed, signed32};
-use crate::sizings::fieldsize;
-use crate::verbs;
-use printing::put_hex;
-use skip::unknown_or_group::{Skipped, read_unknown_or_skip_group, skip_field_for_tag};
-use spec::refusals;
-use wire::put::Put;
+use crate::answers::put_refused;
+use crate::fail::Fail;
+use crate::sizings::signed32;
+use crate::words::Words;
+use printing::Page;
+use skip::unknown_or_group::{read_unknown_or_skip_group, skip_field_for_tag};
+use spec::refusals::Refusal;
+use std::fmt;
+use std::fmt::Write;
+use wire::found::Found;
 use wire::varint::LONGEST;
 use wire::varint::decode::{decode_varint32, decode_varint64};
 use wire::varint::encode::put_varint64;
-use wire::wire_format::{MaybeWireType, Sized, Tag, Tagged, WireType};
+use wire::wire_format::{Tag, WireType, check_message_size};
+use wire::zigzag::{decode_zig_zag_32, decode_zig_zag_64, encode_zig_zag_32, encode_zig_zag_64};
+
+// `vsize V`: how many bytes a varint takes.
+pub fn vsize(words: &mut Words, page: &mut Page) -> Result<(), Fail> {
+    let value = words.last_number()?;
+    write!(page, "{}", sizes::compute_raw_varint64_size(value))?;
+    Ok(())
+}
+
+// `tagsize NUMBER`: how many bytes a tag takes.
+pub fn tagsize(words: &mut Words, page: &mut Page) -> Result<(), Fail> {
+    let number = words.last_number()?;
+    write!(page, "{}", sizes::tag_size(number))?;
+    Ok(())
+}
+
+// `zdec32 N`: the pattern of the number that N stands for.
+pub fn zdec32(words: &mut Words, page: &mut Page) -> Result<(), Fail> {
+    let value = i64::from(decode_zig_zag_32(words.last_number()?));
+    write!(page, "{}", value.cast_unsigned())?;
+    Ok(())
+}
+
+// `zdec64 N`: the pattern of the number that N stands for.
+pub fn zdec64(words: &mut Words, page: &mut Page) -> Result<(), Fail> {
+    let value = decode_zig_zag_64(words.last_number()?);
+    write!(page, "{}", value.cast_unsigned())?;
+    Ok(())
+}
 
 // `zenc32 PATTERN`: what stands for the number of this pattern.
-fn zenc32(value: u64) -> Answer {
-    if !fits32(value) {
-        return bad();
-    }
-    one(wire::zigzag::encode_zig_zag_32(signed32(value)) as u64)
+pub fn zenc32(words: &mut Words, page: &mut Page) -> Result<(), Fail> {
+    let value = signed32(words.last_number()?)?;
+    write!(page, "{}", encode_zig_zag_32(value))?;
+    Ok(())
 }
 
-// `tag V`: `ok NUMBER WIRE` or `refused 3`.
-fn tag(value: u32) -> Answer {
-    match Tag::new(value) {
-        Tagged::Tag(t) => {
-            let wire_type = t.wire_type;
-            word_two(OK, t.field_number as u64, wire_type.number() as u64)
-        }
-        Tagged::BadTag => refused(refusals::BAD_TAG),
-    }
-}
-
-// `maketag NUMBER WIRE`: `ok TAG` or `refused 3`.
-fn maketag(number: u32, wire_type: u32) -> Answer {
-    match Tag::make(number, wire_type) {
-        Tagged::Tag(t) => word_one(OK, t.value()),
-        Tagged::BadTag => refused(refusals::BAD_TAG),
-    }
+// `zenc64 PATTERN`: what stands for the number of this pattern.
+pub fn zenc64(words: &mut Words, page: &mut Page) -> Result<(), Fail> {
+    let pattern: u64 = words.last_number()?;
+    write!(page, "{}", encode_zig_zag_64(pattern.cast_signed()))?;
+    Ok(())
 }
 
 // `msgsize N`: `ok` or `refused 11`.
-fn msgsize(size: u64) -> Answer {
-    match wire::wire_format::check_message_size(size) {
-        Sized::Size(_) => word(OK),
-        Sized::TooLarge => refused(refusals::TOO_LARGE),
+pub fn msgsize(words: &mut Words, page: &mut Page) -> Result<(), Fail> {
+    match check_message_size(words.last_number()?) {
+        Ok(_) => page.put_text(b"ok"),
+        Err(refusal) => put_refused(refusal, page)?,
     }
+    Ok(())
+}
+
+// `tag V`: `ok NUMBER WIRE` or `refused 3`.
+pub fn tag(words: &mut Words, page: &mut Page) -> Result<(), Fail> {
+    match Tag::new(words.last_number()?) {
+        Ok(tag) => write!(page, "ok {} {}", tag.field_number, tag.wire_type.number())?,
+        Err(refusal) => put_refused(refusal, page)?,
+    }
+    Ok(())
+}
+
+// `maketag NUMBER WIRE`: `ok TAG` or `refused 3`.
+pub fn maketag(words: &mut Words, page: &mut Page) -> Result<(), Fail> {
+    let number = words.number()?;
+    let wire_type = words.last_number()?;
+    match Tag::make(number, wire_type) {
+        Ok(tag) => write!(page, "ok {}", tag.value())?,
+        Err(refusal) => put_refused(refusal, page)?,
+    }
+    Ok(())
 }
 
 // `wire KIND`: the wire type of a kind of descriptor.proto, or `none`.
-fn wire(kind: u32) -> Answer {
-    match WireType::for_type(kind) {
-        MaybeWireType::Known(w) => one(w.number() as u64),
-        MaybeWireType::Unknown => word(NONE),
+pub fn wire(words: &mut Words, page: &mut Page) -> Result<(), Fail> {
+    match WireType::for_type(words.last_number()?) {
+        Some(wire_type) => write!(page, "{}", wire_type.number())?,
+        None => page.put_text(b"none"),
+    }
+    Ok(())
+}
+
+// `ok VALUE USED` or `refused N`, of a value that was looked for at 0.
+fn put_found(found: Result<Found, Refusal>, page: &mut Page) -> fmt::Result {
+    match found {
+        Ok(Found { value, next }) => write!(page, "ok {value} {next}"),
+        Err(refusal) => put_refused(refusal, page),
     }
 }
 
-// The verbs on numbers. `vsize V` and `tagsize NUMBER`: how many bytes a varint and a tag take. `zdec32 N`, `zdec64 N`: the pattern of the number that
-// N stands for. `zenc64 PATTERN`: what stands for the number of this pattern.
-pub fn on_numbers(verb: usize, first: u32, second: u32, wide: u64) -> Answer {
-    match verb {
-        verbs::VSIZE => one(sizes::compute_raw_varint64_size(wide)),
-        verbs::ZDEC64 => one(pattern(wire::zigzag::decode_zig_zag_64(wide))),
-        verbs::ZENC32 => zenc32(wide),
-        verbs::ZENC64 => one(wire::zigzag::encode_zig_zag_64(signed(wide))),
-        verbs::MSGSIZE => msgsize(wide),
-        verbs::TAGSIZE => one(sizes::tag_size(first)),
-        verbs::ZDEC32 => one(pattern32(wire::zigzag::decode_zig_zag_32(first))),
-        verbs::TAG => tag(first),
-        verbs::WIRE => wire(first),
-        verbs::MAKETAG => maketag(first, second),
-        verbs::FIELDSIZE => fieldsize(first, second, wide),
-        _ => bad(),
+// `varint64 HEX`.
+pub fn varint64(words: &mut Words, page: &mut Page) -> Result<(), Fail> {
+    let s = words.last_bytes()?;
+    put_found(decode_varint64(&s, 0), page)?;
+    Ok(())
+}
+
+// `varint32 HEX`.
+pub fn varint32(words: &mut Words, page: &mut Page) -> Result<(), Fail> {
+    let s = words.last_bytes()?;
+    put_found(decode_varint32(&s, 0), page)?;
+    Ok(())
+}
+
+// `utf8 HEX`: `ok` or `refused 6`.
+pub fn utf8(words: &mut Words, page: &mut Page) -> Result<(), Fail> {
+    let s = words.last_bytes()?;
+    if utf8::is_utf8(&s) {
+        page.put_text(b"ok");
+    } else {
+        put_refused(Refusal::NotUtf8, page)?;
+    }
+    Ok(())
+}
+
+// `utf8prefix HEX`.
+pub fn utf8prefix(words: &mut Words, page: &mut Page) -> Result<(), Fail> {
+    let s = words.last_bytes()?;
+    write!(page, "{}", utf8::utf8_prefix(&s))?;
+    Ok(())
+}
+
+// `document HEX`: `yes` or `no`.
+pub fn document(words: &mut Words, page: &mut Page) -> Result<(), Fail> {
+    let s = words.last_bytes()?;
+    let said = if skip::document::is_document(&s) {
+        "yes"
+    } else {
+        "no"
+    };
+    write!(page, "{said}")?;
+    Ok(())
+}
+
+// `N USED`: of a refusal the number and 0, and else 0 and how many bytes were used.
+fn put_skipped(skipped: Result<usize, Refusal>, page: &mut Page) -> fmt::Result {
+    match skipped {
+        Ok(used) => write!(page, "0 {used}"),
+        Err(refusal) => write!(page, "{} 0", refusal.number()),
     }
 }
 
-// `N USED`.
-fn skipped(s: Skipped) -> Answer {
-    word_two(BARE, s.number as u64, s.used as u64)
+// `skip LEVEL TAG HEX`.
+pub fn skip(words: &mut Words, page: &mut Page) -> Result<(), Fail> {
+    let level = words.number()?;
+    let tag = words.number()?;
+    let s = words.last_bytes()?;
+    put_skipped(skip_field_for_tag(tag, &s, level), page)?;
+    Ok(())
 }
 
-// `yes` or `no`.
-fn yes_or_no(is: bool) -> Answer {
-    if is {
-        return word(YES);
-    }
-    word(NO)
-}
-
-// The verbs on bytes: `varint64 HEX`, `varint32 HEX`, `utf8 HEX`, `utf8prefix HEX`, `document HEX`, `skip LEVEL TAG HEX`, `group LEVEL TAG HEX`.
-pub fn on_bytes(verb: usize, level: u32, tag: u32, s: &[u8]) -> Answer {
-    match verb {
-        verbs::VARINT64 => found(decode_varint64(s, 0)),
-        verbs::VARINT32 => found(decode_varint32(s, 0)),
-        verbs::UTF8 => ok_or(utf8::is_utf8(s), refusals::NOT_UTF8),
-        verbs::UTF8PREFIX => one(utf8::utf8_prefix(s) as u64),
-        verbs::DOCUMENT => yes_or_no(skip::document::is_document(s)),
-        verbs::SKIP => skipped(skip_field_for_tag(tag, s, level)),
-        verbs::GROUP => skipped(read_unknown_or_skip_group(tag, s, level)),
-        _ => bad(),
-    }
-}
-
-// The first bytes in hexadecimal.
-fn put_front(bytes: &[u8], n: usize, out: &mut [u8]) -> usize {
-    if n <= bytes.len() {
-        return put_hex(&bytes[0..n], 0, out);
-    }
-    0
+// `group LEVEL TAG HEX`.
+pub fn group(words: &mut Words, page: &mut Page) -> Result<(), Fail> {
+    let level = words.number()?;
+    let tag = words.number()?;
+    let s = words.last_bytes()?;
+    put_skipped(read_unknown_or_skip_group(tag, &s, level), page)?;
+    Ok(())
 }
 
 // `encode V`: the shortest varint.
-pub fn encode(value: u64, out: &mut [u8]) -> usize {
+pub fn encode(words: &mut Words, page: &mut Page) -> Result<(), Fail> {
     let mut bytes = [0u8; LONGEST];
-    match put_varint64(value, &mut bytes, 0) {
-        Put::Next(n) => put_front(&bytes, n, out),
-        Put::NoRoom => 0,
-    }
+    let end = put_varint64(words.last_number()?, &mut bytes, 0).ok_or(Fail::BadLine)?;
+    let varint = bytes.get(..end).ok_or(Fail::BadLine)?;
+    page.put_hex(varint);
+    Ok(())
 }

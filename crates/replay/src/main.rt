@@ -1,230 +1,99 @@
 // The program that answers case lines: one answer line for each line of standard input, written before the next line is waited for. docs/CASES.md has the
-// lines. A line is answered in three steps: its verb is found (verbs), its words are parsed (cases), and the call that the verb names is made and its answer printed.
+// lines. The first word of a line names a call: what the call takes is parsed from the other words, the call is made, and its answer is printed.
 #![tactic(auto)]
 
 mod answers;
-mod cases;
+mod fail;
 mod input;
 mod leaves;
 mod pulls;
 mod readings;
 mod schemas;
 mod segments;
-mod signs;
 mod sizings;
-mod verbs;
 mod words;
 mod writings;
 
-use crate::answers::{Answer, bad, put_answer};
-use crate::cases::{Case, case_of};
-use crate::input::{Line, after, next_line};
-use crate::verbs::{shape_of, verb_in};
-use crate::words::{done, past};
-use printing::{put_byte, put_text};
+use crate::fail::Fail;
+use crate::input::next_line;
+use crate::words::Words;
+use printing::Page;
+use std::alloc::Global;
 use std::io;
-use std::io::{Read, Write};
-
-// The most characters of a line.
-const LONGEST: usize = 65536;
-
-// The buffer of the input: two of the longest lines.
-const INPUT: usize = 131072;
-
-// The bytes of a word: a line of the longest has fewer.
-const BYTES: usize = 32768;
-
-// The numbers of a list or of the entries of a schema: a line of the longest has fewer. The room of a reading, at most 4,096 records and the 14 numbers
-// that are watched after them, stands here too.
-const NUMBERS: usize = 32768;
+use std::io::{BufRead, BufReader, Write};
 
 // The longest answer, and its line end.
 const ANSWER: usize = 262145;
 
-// The verbs whose answer is a word and numbers.
-fn plain(verb: usize, c: Case, s: &[u8], list: &[u64], numbers: &[u32]) -> Answer {
-    if verb < verbs::VARINT64 {
-        return leaves::on_numbers(verb, c.first, c.second, c.wide);
-    }
-    if verb < verbs::PACKEDSIZE {
-        return leaves::on_bytes(verb, c.first, c.second, s);
-    }
-    match verb {
-        verbs::PACKEDSIZE => sizings::packedsize(c.first, c.second, list),
-        verbs::SCHEMA => schemas::schema(c.types, numbers),
-        verbs::LOOKUP => schemas::lookup(numbers, c.first, c.second),
-        verbs::SIZE => writings::size(c.types, numbers, list, s),
-        _ => bad(),
-    }
-}
-
-// The verbs that take the first `c.records` numbers of the list.
-fn with_list(
-    verb: usize,
-    c: Case,
-    s: &[u8],
-    list: &[u64],
-    numbers: &[u32],
-    out: &mut [u8],
-) -> usize {
-    let n = c.records;
-    if list.len() < n {
-        return 0;
-    }
-    if verb == verbs::WRITE {
-        return writings::write(c.types, numbers, &list[0..n], s, c.wide, out);
-    }
-    if verb == verbs::SEGWRITE {
-        return segments::write(&list[0..n], s, c.wide, out);
-    }
-    put_answer(plain(verb, c, s, &list[0..n], numbers), out)
-}
-
-// How many characters the answer to a case has; 0 where the line is no case.
-fn answer_to(
-    verb: usize,
-    c: Case,
-    line: &[u8],
-    s: &[u8],
-    list: &mut [u64],
-    numbers: &[u32],
-    out: &mut [u8],
-) -> usize {
-    match verb {
-        verbs::ENCODE => leaves::encode(c.wide, out),
-        verbs::READ => readings::read(false, c.types, numbers, s, c.first, list, out),
-        verbs::READDROPPED => readings::read(true, c.types, numbers, s, c.first, list, out),
-        verbs::RECORDS => readings::records(c.types, numbers, s, list, out),
-        verbs::PULL => pulls::pull(c.first, line, c.steps, s, out),
-        verbs::SEGREAD => segments::read(s, c.first, list, out),
-        _ => with_list(verb, c, s, list, numbers, out),
+// Puts the answer to a line on the page.
+fn answer(alloc: Global, line: &[u8], page: &mut Page) -> Result<(), Fail> {
+    let mut words = Words::of(alloc, str::from_utf8(line)?);
+    match words.word()? {
+        "vsize" => leaves::vsize(&mut words, page),
+        "zdec64" => leaves::zdec64(&mut words, page),
+        "zenc32" => leaves::zenc32(&mut words, page),
+        "zenc64" => leaves::zenc64(&mut words, page),
+        "msgsize" => leaves::msgsize(&mut words, page),
+        "encode" => leaves::encode(&mut words, page),
+        "tagsize" => leaves::tagsize(&mut words, page),
+        "zdec32" => leaves::zdec32(&mut words, page),
+        "tag" => leaves::tag(&mut words, page),
+        "wire" => leaves::wire(&mut words, page),
+        "maketag" => leaves::maketag(&mut words, page),
+        "varint64" => leaves::varint64(&mut words, page),
+        "varint32" => leaves::varint32(&mut words, page),
+        "utf8" => leaves::utf8(&mut words, page),
+        "utf8prefix" => leaves::utf8prefix(&mut words, page),
+        "document" => leaves::document(&mut words, page),
+        "skip" => leaves::skip(&mut words, page),
+        "group" => leaves::group(&mut words, page),
+        "fieldsize" => sizings::fieldsize(&mut words, page),
+        "packedsize" => sizings::packedsize(&mut words, page),
+        "schema" => schemas::schema(&mut words, page),
+        "lookup" => schemas::lookup(&mut words, page),
+        "read" => readings::read(false, &mut words, page),
+        "readdropped" => readings::read(true, &mut words, page),
+        "records" => readings::records(&mut words, page),
+        "size" => writings::size(&mut words, page),
+        "write" => writings::write(&mut words, page),
+        "pull" => pulls::pull(&mut words, page),
+        "segread" => segments::read(&mut words, page),
+        "segwrite" => segments::write(&mut words, page),
+        _ => Err(Fail::BadLine),
     }
 }
 
-// A lookup takes any `repeated`.
-fn clip_for(verb: usize, numbers: &mut [u32]) {
-    if verb == verbs::LOOKUP {
-        schemas::clip(numbers);
-    }
-}
-
-// How many characters the answer to a line has; 0 where the line is no case.
-fn answer(
-    line: &[u8],
-    bytes: &mut [u8],
-    list: &mut [u64],
-    numbers: &mut [u32],
-    out: &mut [u8],
-) -> usize {
-    let v = verb_in(line);
-    let at = past(line, v.next, b' ');
-    let c = case_of(shape_of(v.count), line, at, bytes, list, numbers);
-    if !done(line, c.next) {
-        return 0;
-    }
-    clip_for(v.count, numbers);
-    let size = c.size;
-    let entries = c.entries;
-    answer_to(
-        v.count,
-        c,
-        line,
-        &bytes[0..size],
-        list,
-        &numbers[0..entries],
-        out,
-    )
-}
-
-// The answer and its line end: how many characters they have.
-fn ended(answered: usize, out: &mut [u8]) -> usize {
-    if answered == 0 {
-        let size = put_text(b"bad line", 0, out);
-        return put_byte(b'\n', size, out);
-    }
-    put_byte(b'\n', answered, out)
-}
-
-// The line that stands in the buffer; one that is too long is as an empty one, which is no case either.
-fn line_in<'a>(buf: &'a [u8], l: Line) -> &'a [u8] {
-    let start = l.start;
-    let end = l.end;
-    if !l.long {
-        if start <= end {
-            if end <= buf.len() {
-                if end - start <= LONGEST {
-                    return &buf[start..end];
-                }
-            }
+// Puts the answer to a line on the page, and its line end.
+fn respond(alloc: Global, line: &[u8], page: &mut Page) -> io::Result<()> {
+    match answer(alloc, line, page) {
+        Ok(()) => {}
+        Err(Fail::BadLine) => {
+            page.at = 0;
+            page.put_text(b"bad line");
         }
+        Err(Fail::Host(e)) => return Err(e),
     }
-    &buf[0..0]
-}
-
-// Answers the line that stands in the buffer.
-fn respond(
-    buf: &[u8],
-    l: Line,
-    bytes: &mut [u8],
-    list: &mut [u64],
-    numbers: &mut [u32],
-    out: &mut [u8],
-) -> usize {
-    let line = line_in(buf, l);
-    let answered = answer(line, bytes, list, numbers, out);
-    ended(answered, out)
-}
-
-// Writes the first characters; whether there are as many.
-fn write_front<W: Write>(output: &mut W, out: &[u8], size: usize) -> io::Result<bool> {
-    if out.len() < size {
-        return Ok(false);
-    }
-    output.write_all(&out[0..size])?;
-    output.flush()?;
-    Ok(true)
+    page.put_byte(b'\n');
+    Ok(())
 }
 
 // Answers each line in order.
-fn serve<R: Read, W: Write>(
-    input: &mut R,
-    output: &mut W,
-    buf: &mut [u8],
-    bytes: &mut [u8],
-    list: &mut [u64],
-    numbers: &mut [u32],
-    out: &mut [u8],
-) -> io::Result<()> {
-    let mut from: usize = 0;
-    let mut have: usize = 0;
+fn serve<R: BufRead, W: Write>(alloc: Global, input: &mut R, output: &mut W) -> io::Result<()> {
+    let mut line = Vec::new(alloc);
+    let mut out = vec![in alloc; 0u8; ANSWER]?;
     for _ in 0..u64::MAX {
-        let l = next_line(input, buf, from, have)?;
-        if !l.found {
+        if !next_line(input, &mut line)? {
             return Ok(());
         }
-        let size = respond(buf, l, bytes, list, numbers, out);
-        if !write_front(output, out, size)? {
-            return Ok(());
-        }
-        have = l.have;
-        from = after(l);
+        let mut page = Page::new(&mut out);
+        respond(alloc, &line, &mut page)?;
+        output.write_all(page.written())?;
+        output.flush()?;
     }
     Ok(())
 }
 
 fn main(rt: HostRuntime) -> io::Result<()> {
-    let mut buf = [0u8; INPUT];
-    let mut bytes = [0u8; BYTES];
-    let mut list = [0u64; NUMBERS];
-    let mut numbers = [0u32; NUMBERS];
-    let mut out = [0u8; ANSWER];
-    serve(
-        &mut rt.stdin(),
-        &mut rt.stdout(),
-        &mut buf,
-        &mut bytes,
-        &mut list,
-        &mut numbers,
-        &mut out,
-    )
+    let mut input = BufReader::new(rt.alloc(), rt.stdin())?;
+    serve(rt.alloc(), &mut input, &mut rt.stdout())
 }

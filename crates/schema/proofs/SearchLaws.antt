@@ -14,9 +14,9 @@ use Rattle.spec.specs.Schema.{Schema, bad_schema, place_of}
 use Rattle.spec.proofs.VarintLaws.{lower_or_not}
 use Rattle.spec.proofs.SchemaLaws.{Is, Before, type_before, number_before, at, place_found, valid_rises, valid_found}
 use Rattle.spec.specs.declared.Entry.{Entry}
-use Rattle.schema.specs.Search.{seek}
+use Rattle.schema.specs.Search.{within, seek}
 
-abbrev middle : ℕ → ℕ → ℕ
+abbrev pub middle : ℕ → ℕ → ℕ
 middle lo hi = (lo + hi) / 2
 
 module _ (row : ℕ → ℕ) (lost key : ℕ) where
@@ -97,17 +97,34 @@ module _ (row : ℕ → ℕ) (lost key : ℕ) where
     one_more : Left (hi - lo) lo hi ≡ Left (suc (hi - lo)) lo hi
     one_more = search_enough (hi - lo) (suc (hi - lo)) lo hi (omega arith) (omega arith)
 
-    pub halves_here : row (middle lo hi) ≡ key → Left (hi - lo) lo hi ≡ middle lo hi
-    halves_here e = one_more ∙ step_here (hi - lo) lo hi h e
+    -- the middle as a loop has it, and what stands there
+    module _ {mid here : ℕ} (m : mid ≡ middle lo hi) (is : here ≡ row mid) where
+      here_is : row (middle lo hi) ≡ here
+      here_is = sym (is ∙ ap row m)
 
-    pub halves_above : row (middle lo hi) < key → Left (hi - lo) lo hi ≡ Left (hi - (middle lo hi + 1)) (middle lo hi + 1) hi
-    halves_above l =
-        one_more ∙ step_above (hi - lo) lo hi h l
-        ∙ search_enough (hi - lo) (hi - (middle lo hi + 1)) (middle lo hi + 1) hi (omega arith) (omega arith)
+      pub halves_here : here ≡ key → Left (hi - lo) lo hi ≡ mid
+      halves_here e = one_more ∙ step_here (hi - lo) lo hi h (here_is ∙ e) ∙ sym m
 
-    pub halves_below : key < row (middle lo hi) → Left (hi - lo) lo hi ≡ Left (middle lo hi - lo) lo (middle lo hi)
-    halves_below l =
-        one_more ∙ step_below (hi - lo) lo hi h l ∙ search_enough (hi - lo) (middle lo hi - lo) lo (middle lo hi) (omega arith) (omega arith)
+      pub halves_above : here < key → Left (hi - lo) lo hi ≡ Left (hi - (mid + 1)) (mid + 1) hi
+      halves_above l =
+          let e = here_is in
+          one_more ∙ step_above (hi - lo) lo hi h (omega arith)
+          ∙ search_enough (hi - lo) (hi - (middle lo hi + 1)) (middle lo hi + 1) hi (omega arith) (omega arith)
+          ∙ ap (λ (j : ℕ). Left (hi - (j + 1)) (j + 1) hi) (sym m)
+
+      pub halves_below : key < here → Left (hi - lo) lo hi ≡ Left (mid - lo) lo mid
+      halves_below l =
+          let e = here_is in
+          one_more ∙ step_below (hi - lo) lo hi h (omega arith)
+          ∙ search_enough (hi - lo) (middle lo hi - lo) lo (middle lo hi) (omega arith) (omega arith)
+          ∙ ap (λ (j : ℕ). Left (j - lo) lo j) (sym m)
+
+-- a place below the count, and none
+pub within_some : (count i : ℕ) → i < count → within count i ≡ some i
+within_some count i l = ap (λ (b : Bool). if b then some i else none) (lt-ltb i count l)
+
+pub within_none : (count i : ℕ) → count ≤ i → within count i ≡ none
+within_none count i l = ap (λ (b : Bool). if b then some i else none) (le-ltb i count l)
 
 -- ---- in a valid schema
 

@@ -1,16 +1,18 @@
 -- Laws of the check, entry by entry: which counts are right, when an entry is the next one, and where the check stands before each.
 -- Assumes nothing.
-use Prim.Native.Nat.{ℕ, suc, ◌+◌, ◌-◌, ◌*◌, ◌/◌, ◌%◌, ◌^◌, ◌≤◌, ◌<◌}
+use Prim.Native.Nat.{ℕ, zero, suc, ◌+◌, ◌-◌, ◌*◌, ◌/◌, ◌%◌, ◌^◌, ◌≤◌, ◌<◌}
 use native.Mathlib.Omega.{arith}
 use mathlib.Core.Path.{◌≡◌, refl, sym, ap, ap₂, ◌∙◌}
 use mathlib.Core.Bool.{Bool, true, false, ◌&&◌, ◌||◌, false≢true, and-true, and-false}
 use mathlib.Core.List.{List, [], ◌∷◌}
 use mathlib.Core.Option.{none, some}
 use lib.ListN.{length, drop, get_or}
+use Rattle.std.specs.Simd.{first_chunks}
+use Rattle.std.proofs.lemmas.List.{get_or-take}
 use lib.Seq.{get_or-drop, drop-drop}
 use lib.Dec.{leb, ltb, eqb}
-use borrow.Author.Tests.{ltb-true, ltb-false, lt-ltb, le-ltb, le-leb, lt-leb, leb-true, eqb-true, eqb-false, eq-eqb, ne_eqb}
-use Rattle.spec.specs.Names.{group_kind, largest_number, message_kind, sint64_kind, child_column, double_kind, entry_kind_column, entry_number_column, most_entries, most_types, repeated_column}
+use borrow.Author.Tests.{ltb-true, ltb-false, lt-ltb, le-ltb, le-leb, lt-leb, leb-true, eqb-true, eqb-false, eq-eqb}
+use Rattle.spec.specs.Names.{largest_number, child_column, entry_kind_column, entry_number_column, most_entries, most_types, owner_column, repeated_column}
 use Rattle.std.specs.Prelude.{if◌then◌else◌}
 use Rattle.spec.specs.Base.{between}
 use Rattle.spec.specs.Schema.{Schema, rises, good_entry, bad_entry, bad_schema, no_entry, entry_of, entries_of, schema_of, entry_stride}
@@ -91,18 +93,6 @@ module _ (types : ℕ) (f : Five) where
       lower_or_not f.repeated 2
       (λ h. (h, good_entry_lem types (plain f) (ap (good_entry types) (sym (is_entry f h)) ∙ g)))
       (λ h. absurd (false≢true (sym (repeated_bad types f.owner f.number f.kind f.repeated f.child h) ∙ g)))
-
-  -- and which are bad
-  pub bad_five : ((f.repeated < 2) × Good types (plain f) → ⊥) → false ≡ good_entry types (entry f)
-  bad_five h = by_test (good_entry types (entry f)) (λ p. absurd (h (good_five p))) (λ p. sym p)
-
-  -- the child decides, where all else is right
-  pub child_decides : f.owner < types → 1 ≤ f.number → f.number ≤ largest_number → double_kind ≤ f.kind → f.kind ≤ sint64_kind → (f.kind ≡ group_kind → ⊥) → f.repeated < 2
-      → good_entry types (entry f) ≡ (if eqb f.kind message_kind then ltb f.child types else eqb f.child 0)
-  unfolding good_entry
-  child_decides o n m k l t r =
-      ap (good_entry types) (is_entry f r)
-      ∙ simp (lt-ltb f.owner types o, le-leb 1 f.number n, le-leb f.number largest_number m, le-leb double_kind f.kind k, le-leb f.kind sint64_kind l, ne_eqb f.kind group_kind t)
 
 -- ---- an entry is the next one
 
@@ -187,21 +177,17 @@ module _ (types last : ℕ) (e : Entry) (low : last % 8 ≡ 0) where
 
 -- ---- where the check stands
 
--- before entry e, whose numbers begin at i: the rank of the one before it is `last`, and the rest decides
-pub record Here (types : ℕ) (ns : List ℕ) (i e last : ℕ) : Type 0 where
+-- before entry e: the rank of the one before it is `last`, and the rest decides
+pub record Here (types : ℕ) (ns : List ℕ) (e last : ℕ) : Type 0 where
   pub counts : counted types (length ns) ≡ true
-  pub begins : i ≡ entry_stride * e
-  pub inside : i ≤ length ns
   pub low : last % 8 ≡ 0
   pub rest : bad_schema (schema_of types ns) ≡ bad_entry types (owner_of last) (number_of last) e (entries_of (length ns / entry_stride - e) (drop (entry_stride * e) ns))
 
-pub here_first : (types : ℕ) (ns : List ℕ) → counted types (length ns) ≡ true → Here types ns 0 0 0
+pub here_first : (types : ℕ) (ns : List ℕ) → counted types (length ns) ≡ true → Here types ns 0 0
 here_first types ns h =
     let k : length ns / entry_stride ≡ length ns / entry_stride - 0 = omega arith in
     record {
       counts = h;
-      begins = omega arith;
-      inside = omega arith;
       low = omega arith;
       rest = (counts_right types ns h).1 ∙ ap (λ (n : ℕ). bad_entry types 0 0 0 (entries_of n ns)) k;
     }
@@ -212,72 +198,82 @@ first_five ns i =
     let z : i ≡ i + 0 = omega arith in
     simp get_or-drop (ap (λ (n : ℕ). entry_of (get_or ns n 0) (get_or ns (i + entry_number_column) 0) (get_or ns (i + entry_kind_column) 0) (get_or ns (i + repeated_column) 0) (get_or ns (i + child_column) 0)) z)
 
-module _ {types : ℕ} {ns : List ℕ} {i e last : ℕ} (h : Here types ns i e last) where
+-- the numbers by entries: a chunk has the numbers of its entry
+chunk_has : (k e : ℕ) (ns : List ℕ) (j : ℕ) → e < k → j < entry_stride → get_or (get_or (first_chunks entry_stride k ns) e []) j 0 ≡ get_or ns (entry_stride * e + j) 0
+chunk_has zero e ns j l m = absurd (omega arith)
+chunk_has (suc k) zero ns j l m =
+    let n : j ≡ entry_stride * zero + j = omega arith in
+    get_or-take entry_stride ns j 0 m ∙ ap (λ (i : ℕ). get_or ns i 0) n
+chunk_has (suc k) (suc e) ns j l m =
+    let n : entry_stride + (entry_stride * e + j) ≡ entry_stride * suc e + j = omega arith in
+    chunk_has k e (drop entry_stride ns) j (omega arith) m ∙ get_or-drop entry_stride ns (entry_stride * e + j) 0 ∙ ap (λ (i : ℕ). get_or ns i 0) n
+
+pub chunk_five : (ns : List ℕ) {chunks : List (List ℕ)} {e : ℕ} → chunks ≡ first_chunks entry_stride (length ns / entry_stride) ns → e < length ns / entry_stride
+    → five_at (get_or chunks e []) 0 ≡ five_at ns (entry_stride * e)
+chunk_five ns {chunks} {e} is l =
+    let z : entry_stride * e + 0 ≡ entry_stride * e = omega arith in
+    let has = λ (j : ℕ) (m : j < entry_stride). ap (λ (cs : List (List ℕ)). get_or (get_or cs e []) j 0) is ∙ chunk_has (length ns / entry_stride) e ns j l m in
+    let owner = has owner_column (omega arith) ∙ ap (λ (i : ℕ). get_or ns i 0) z in
+    let number = has entry_number_column (omega arith) in
+    let kind = has entry_kind_column (omega arith) in
+    let repeated = has repeated_column (omega arith) in
+    let child = has child_column (omega arith) in
+    cc
+
+module _ {types : ℕ} {ns : List ℕ} {e last : ℕ} (h : Here types ns e last) where
   whole_entries : length ns % entry_stride ≡ 0
   whole_entries = (counts_right types ns h.counts).2
 
-  pub here_end : length ns ≤ i → bad_schema (schema_of types ns) ≡ none
+  pub here_end : length ns / entry_stride ≤ e → bad_schema (schema_of types ns) ≡ none
   unfolding entries_of bad_entry
   here_end l =
-      let a = h.begins in
-      let z : length ns / entry_stride - e ≡ 0 = omega (arith, h.inside) in
+      let z : length ns / entry_stride - e ≡ 0 = omega arith in
       h.rest ∙ ap (λ (n : ℕ). bad_entry types (owner_of last) (number_of last) e (entries_of n (drop (entry_stride * e) ns))) z
 
-  module _ (l : i < length ns) where
-    pub here_whole : i + child_column < length ns
-    here_whole = omega (arith, h.begins, whole_entries)
+  module _ (l : e < length ns / entry_stride) {f : Five} (at : f ≡ five_at ns (entry_stride * e)) where
+    first : entry f ≡ first_entry (drop (entry_stride * e) ns)
+    first = ap entry at ∙ first_five ns (entry_stride * e)
 
-    module _ {f : Five} (at : f ≡ five_at ns i) where
-      first : entry f ≡ first_entry (drop i ns)
-      first = ap entry at ∙ first_five ns i
+    -- entry e by its place among all
+    pub here_entry : get_or (entries_in ns) e no_entry ≡ entry f
+    here_entry = entry_at (length ns / entry_stride) ns e l ∙ sym first
 
-      -- entry e by its place among all
-      pub here_entry : get_or (entries_in ns) e no_entry ≡ entry f
-      here_entry =
-          let a = h.begins in
-          let w = whole_entries in
-          entry_at (length ns / entry_stride) ns e (omega arith) ∙ ap (λ (n : ℕ). first_entry (drop n ns)) (sym a) ∙ sym first
+    -- and those after it
+    others : List Entry
+    others = entries_of (length ns / entry_stride - (e + 1)) (drop (entry_stride * (e + 1)) ns)
 
-      -- and those after it
-      others : List Entry
-      others = entries_of (length ns / entry_stride - (e + 1)) (drop (entry_stride * (e + 1)) ns)
+    here_cons : entries_of (length ns / entry_stride - e) (drop (entry_stride * e) ns) ≡ entry f ∷ others
+    unfolding others
+    here_cons =
+        let k : length ns / entry_stride - e ≡ suc (length ns / entry_stride - (e + 1)) = omega arith in
+        let d : entry_stride * e + entry_stride ≡ entry_stride * (e + 1) = omega arith in
+        ap (λ (n : ℕ). entries_of n (drop (entry_stride * e) ns)) k
+        ∙ entries_step (length ns / entry_stride - (e + 1)) (drop (entry_stride * e) ns)
+        ∙ ap₂ (λ (x : Entry) (xs : List ℕ). x ∷ entries_of (length ns / entry_stride - (e + 1)) xs)
+        (sym first)
+        (drop-drop entry_stride (entry_stride * e) ns ∙ ap (λ (n : ℕ). drop n ns) d)
 
-      here_cons : entries_of (length ns / entry_stride - e) (drop (entry_stride * e) ns) ≡ entry f ∷ others
+    here_rest : bad_schema (schema_of types ns) ≡ bad_entry types (owner_of last) (number_of last) e (entry f ∷ others)
+    here_rest = h.rest ∙ ap (bad_entry types (owner_of last) (number_of last) e) here_cons
+
+    pub here_bad : next_key types last (entry f) ≡ 0 → bad_schema (schema_of types ns) ≡ some e
+    here_bad z = here_rest ∙ next_bad types last (entry f) h.low e others z
+
+    module _ {key : ℕ} (is : (key ≡ next_key types last (entry f)) × (0 < key)) where
+      there : next_key types last (entry f) ≡ 0 → ⊥
+      there z = omega arith
+
+      pub here_good : (good_entry types (entry f) ≡ true) × (key ≡ rank (entry f))
+      here_good = let g = next_good types last (entry f) h.low there in (g.0, is.0 ∙ g.1)
+
+      pub here_next : Here types ns (e + 1) key
       unfolding others
-      here_cons =
-          let a = h.begins in
-          let w = whole_entries in
-          let k : length ns / entry_stride - e ≡ suc (length ns / entry_stride - (e + 1)) = omega arith in
-          let d : entry_stride * e + entry_stride ≡ entry_stride * (e + 1) = omega arith in
-          ap (λ (n : ℕ). entries_of n (drop (entry_stride * e) ns)) k
-          ∙ entries_step (length ns / entry_stride - (e + 1)) (drop (entry_stride * e) ns)
-          ∙ ap₂ (λ (x : Entry) (xs : List ℕ). x ∷ entries_of (length ns / entry_stride - (e + 1)) xs)
-          (ap (λ (n : ℕ). first_entry (drop n ns)) (sym a) ∙ sym first)
-          (drop-drop entry_stride (entry_stride * e) ns ∙ ap (λ (n : ℕ). drop n ns) d)
-
-      here_rest : bad_schema (schema_of types ns) ≡ bad_entry types (owner_of last) (number_of last) e (entry f ∷ others)
-      here_rest = h.rest ∙ ap (bad_entry types (owner_of last) (number_of last) e) here_cons
-
-      module _ {key : ℕ} (is : key ≡ next_key types last (entry f)) where
-        pub here_bad : key ≡ 0 → bad_schema (schema_of types ns) ≡ some e
-        here_bad z = here_rest ∙ next_bad types last (entry f) h.low e others (sym is ∙ z)
-
-        module _ (there : key ≡ 0 → ⊥) where
-          pub here_good : (good_entry types (entry f) ≡ true) × (key ≡ rank (entry f))
-          here_good = let g = next_good types last (entry f) h.low (λ z. there (is ∙ z)) in (g.0, is ∙ g.1)
-
-          pub here_next : Here types ns (i + entry_stride) (e + 1) key
-          unfolding others
-          here_next =
-              let a = h.begins in
-              let l = here_whole in
-              let k = here_good.1 in
-              record {
-                counts = h.counts;
-                begins = omega arith;
-                inside = omega arith;
-                low = omega arith;
-                rest =
-                    here_rest ∙ next_later types last (entry f) h.low e others (λ z. there (is ∙ z))
-                    ∙ ap (λ (n : ℕ). bad_entry types (owner_of n) (number_of n) (e + 1) others) (sym is);
-              }
+      here_next =
+          let k = here_good.1 in
+          record {
+            counts = h.counts;
+            low = omega arith;
+            rest =
+                here_rest ∙ next_later types last (entry f) h.low e others there
+                ∙ ap (λ (n : ℕ). bad_entry types (owner_of n) (number_of n) (e + 1) others) (sym is.0);
+          }

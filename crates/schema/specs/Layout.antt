@@ -1,4 +1,4 @@
--- How the two tables of a schema are laid out: names for the numbers of specs/Tables. The code has the same names in capitals (src/layout).
+-- How the two tables of a schema are laid out: names for the numbers of specs/Tables. The code has the same names in capitals (src/layout), but for `not_found`.
 --     keys[e]                   entry e: `owner_unit` times its owner, plus 8 times its number, plus its wire type; unused ones are `no_key`
 --     info[guesses * t + n]     a guess at the entry of type t and number n below `guesses`; keys says whether it is right
 --     info[kinds_at + e]        the kind of entry e

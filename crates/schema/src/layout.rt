@@ -5,9 +5,6 @@ use spec::limits::{MOST_ENTRIES, MOST_TYPES};
 // How many keys there are: one for each entry that a schema may have.
 pub const KEYS: usize = MOST_ENTRIES;
 
-// The answer of a search that finds none: the first place after the last key.
-pub const NOT_FOUND: usize = KEYS;
-
 // What an owner is multiplied by in a key.
 pub const OWNER_UNIT: u64 = 0x1_0000_0000;
 

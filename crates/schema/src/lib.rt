@@ -2,23 +2,27 @@
 // An entry is five numbers: owner, number, kind, repeated (0 or 1), child.
 #![tactic(auto)]
 
-ghost use Rattle.std.specs.Prelude.{◌≡◌, ◌+◌, ◌^◌, ◌<◌, eqb, length, set};
+ghost use Rattle.std.specs.Prelude.{ℕ, ◌≡◌, ◌+◌, ◌^◌, ◌<◌, eqb, length, set, MatchOption};
 ghost use Rattle.spec.specs.Names.{child_column, delimited_wire, most_types};
 ghost use Rattle.spec.specs.Schema.{good_entry, bad_schema, schema_of};
-ghost use Rattle.schema.specs.Layout.{key_count, not_found};
-ghost use Rattle.schema.specs.Search.{seek, find_in};
+ghost use Rattle.schema.specs.Layout.{key_count};
+ghost use Rattle.schema.specs.Search.{within, seek, find_in};
 ghost use Rattle.schema.specs.Tables.{counted, next_key, inner_in, noted, sound_of, keys_with, info_with, keys_of, info_of, key_at, entry_for, unknown, typed, table_says};
-ghost use Rattle.schema.specs.Told.{entry, five_at, bad_place, place, said};
+ghost use Rattle.schema.specs.Told.{entry, five_at, bad_place, as_fault, as_stopped, place, said};
 
 pub mod layout;
 
 use crate::layout::{
     GUESSED_TAGS, GUESSES, INFO, INNERS_AT, KEYS, KINDS_AT, MAY_PACK, MOST_NUMBERS, NO_KEY,
-    NOT_FOUND, OWNER_UNIT,
+    OWNER_UNIT,
 };
-use spec::columns::{ENTRY_CHILD, ENTRY_KIND, ENTRY_NUMBER, ENTRY_REPEATED, ENTRY_STRIDE};
+use spec::answers::{Fault, Stopped};
+use spec::columns::{ENTRY_NUMBER, ENTRY_STRIDE};
 use spec::limits::{LARGEST_NUMBER, MOST_TYPES};
+use spec::refusals::Refusal;
 use spec::{kinds, kinds32, wire_types};
+use std::error::Error;
+use std::fmt;
 use wire::wire_format;
 
 // Kinds as numbers of an entry: those that are tested, and the last of descriptor.proto.
@@ -52,22 +56,46 @@ struct Five {
     child: u32,
 }
 
-// Valid, or the place of the first bad entry: 0 where the type count or the entry count is wrong.
-#[derive(Clone, Copy)]
-pub enum Verdict {
-    Valid,
-    Bad(usize),
+// A schema that is not valid: the index of its first bad entry, 0 where the type count or the entry count is wrong.
+#[derive(Clone, Copy, Debug, PartialEq, Eq)]
+pub struct BadEntry {
+    pub index: usize,
 }
 
-// The place of an entry.
-#[derive(Drop)]
-pub enum Place {
-    At(usize),
-    Nothing,
+impl fmt::Display for BadEntry {
+    fn fmt<W: fmt::Write>(&self, f: &mut fmt::Formatter<W>) -> fmt::Result {
+        write!(f, "bad schema: entry {}", self.index)
+    }
+}
+
+impl Error for BadEntry {}
+
+impl From<BadEntry> for Fault {
+    ghost from_gives = { λ bad fault. fault ≡ as_fault bad };
+
+    fn from(bad: BadEntry) -> Fault {
+        Fault {
+            refusal: Refusal::InvalidSchema,
+            index: bad.index,
+        }
+    }
+}
+
+// A reading that a bad schema stops puts nothing into the room.
+impl From<BadEntry> for Stopped {
+    ghost from_gives = { λ bad stopped. stopped ≡ as_stopped bad };
+
+    fn from(bad: BadEntry) -> Stopped {
+        Stopped {
+            refusal: Refusal::InvalidSchema,
+            count: 0,
+            place: bad.index,
+        }
+    }
 }
 
 // What a schema says of a tag: the kind of its field, and the type of a message's fields or the kind of a packed field's elements (else 0).
-#[derive(Drop)]
+#[derive(Clone, Copy, Debug, PartialEq, Eq)]
 pub struct Said {
     pub kind: u8,
     pub inner: u8,
@@ -78,51 +106,37 @@ pub struct Said {
 fn counts_ok(types: u32, count: usize) -> bool
     ensures { result ≡ counted types count }
 {
-    if types == 0 {
-        return false;
-    }
-    if MOST_TYPES < types {
-        return false;
-    }
-    if MOST_NUMBERS < count {
-        return false;
-    }
-    count % ENTRY_STRIDE == 0
+    1 <= types && types <= MOST_TYPES && count <= MOST_NUMBERS && count % ENTRY_STRIDE == 0
 }
 
-// The numbers from place i on.
-fn five_at(numbers: &[u32], i: usize) -> Five
-    requires { i + child_column < length numbers.now }
-    ensures { result ≡ five_at numbers.now i }
-{
-    Five {
-        owner: numbers[i],
-        number: numbers[i + ENTRY_NUMBER],
-        kind: numbers[i + ENTRY_KIND],
-        repeated: numbers[i + ENTRY_REPEATED],
-        child: numbers[i + ENTRY_CHILD],
+impl Five {
+    fn of(numbers: &[u32; ENTRY_STRIDE]) -> Five
+        ensures { result ≡ five_at numbers.now 0 }
+    {
+        let [owner, number, kind, repeated, child] = *numbers;
+        Five {
+            owner,
+            number,
+            kind,
+            repeated,
+            child,
+        }
     }
 }
 
+// Whether the numbers are a good entry, apart from the order of entries. Each `if` ends the test at once: of one expression with `&&` all tests are made, which
+// takes 6 instructions more an entry.
+#[tactic(auto, unfolding(spec::specs::Schema::good_entry, spec::specs::Schema::entry_of))]
 fn entry_ok(types: u32, f: Five) -> bool
     ensures { result ≡ good_entry types (entry f) }
 {
     if types <= f.owner {
         return false;
     }
-    if f.number == 0 {
+    if f.number == 0 || LARGEST_NUMBER < f.number {
         return false;
     }
-    if LARGEST_NUMBER < f.number {
-        return false;
-    }
-    if f.kind == 0 {
-        return false;
-    }
-    if f.kind == ENTRY_GROUP {
-        return false;
-    }
-    if LAST_KIND < f.kind {
+    if f.kind == 0 || f.kind == ENTRY_GROUP || LAST_KIND < f.kind {
         return false;
     }
     if 1 < f.repeated {
@@ -132,65 +146,56 @@ fn entry_ok(types: u32, f: Five) -> bool
     if f.child == 0 {
         return true;
     }
-    if f.kind == ENTRY_MESSAGE {
-        return f.child < types;
-    }
-    false
+    f.kind == ENTRY_MESSAGE && f.child < types
 }
 
-// The key of an entry without its wire type, where it is good and stands after the one whose key is `last`; else 0.
-fn next_key(types: u32, last: u64, f: Five) -> u64
-    ensures { result ≡ next_key types last (entry f) }
+// The key of an entry without its wire type, where it is good and stands after the one whose key is `last`.
+fn next_key(types: u32, last: u64, f: Five) -> Option<u64>
+    ensures { MatchOption result (next_key types last (entry f) ≡ 0) (λ k. (k ≡ next_key types last (entry f)) × (0 < k)) }
 {
     if !entry_ok(types, f) {
-        return 0;
+        return None;
     }
-    let key = f.owner as u64 * OWNER_UNIT + f.number as u64 * 8;
+    let key = u64::from(f.owner) * OWNER_UNIT + u64::from(f.number) * 8;
     if key <= last {
-        return 0;
+        return None;
     }
-    key
+    Some(key)
 }
 
 // Whether a schema is valid.
-pub fn check(types: u32, numbers: &[u32]) -> Verdict
+pub fn check(types: u32, numbers: &[u32]) -> Result<(), BadEntry>
     ensures { bad_place result ≡ bad_schema (schema_of types numbers.now) }
 {
     if !counts_ok(types, numbers.len()) {
-        return Verdict::Bad(0);
+        return Err(BadEntry { index: 0 });
     }
-    let mut i: usize = 0;
-    let mut e: usize = 0;
+    let (entries, _) = numbers.as_chunks::<ENTRY_STRIDE>();
     let mut last: u64 = 0;
-    while i < numbers.len() {
-        let f = five_at(numbers, i);
-        let key = next_key(types, last, f);
-        if key == 0 {
-            return Verdict::Bad(e);
-        }
+    for (e, entry) in entries.iter().enumerate() {
+        let Some(key) = next_key(types, last, Five::of(entry)) else {
+            return Err(BadEntry { index: e });
+        };
         last = key;
-        i += ENTRY_STRIDE;
-        e += 1;
     }
-    Verdict::Valid
+    Ok(())
 }
 
-// ---- an entry by owner and number
+// ---- an entry by its key
 
-// By halves: at most nine entries are looked at where there are 256.
-pub fn find(numbers: &[u32], owner: u32, number: u32) -> Place
-    ensures { place result ≡ find_in numbers.now owner number }
+// The place below `count` where `at` answers `key`, by halves: at most nine are asked for where there are 256. The library's `binary_search_by` does not
+// serve: `find` and `says` promise which place is found in numbers of any order, and its contract says nothing where they do not rise.
+fn search<F: Fn(usize) -> u64>(count: usize, key: u64, at: F) -> Option<usize>
+    requires { (count < 2 ^ 63) × ((i : ℕ) → i < count → F.pre at i) }
+    ensures { (row : ℕ → ℕ) → ((i x : ℕ) → i < count → F.post at i x → x ≡ row i) → place result ≡ within count (seek count row count key 0 count) }
 {
-    let key = owner as u64 * OWNER_UNIT + number as u64;
     let mut lo: usize = 0;
-    let mut hi: usize = numbers.len() / ENTRY_STRIDE;
+    let mut hi: usize = count;
     while lo < hi {
         let mid = (lo + hi) / 2;
-        let o = numbers[mid * ENTRY_STRIDE];
-        let n = numbers[mid * ENTRY_STRIDE + ENTRY_NUMBER];
-        let here = o as u64 * OWNER_UNIT + n as u64;
+        let here = at(mid);
         if here == key {
-            return Place::At(mid);
+            return Some(mid);
         }
         if here < key {
             lo = mid + 1;
@@ -198,10 +203,22 @@ pub fn find(numbers: &[u32], owner: u32, number: u32) -> Place
             hi = mid;
         }
     }
-    Place::Nothing
+    None
 }
 
-// ---- the tables
+// An entry by owner and number.
+#[tactic(auto, unfolding(crate::specs::Search::find_in))]
+pub fn find(numbers: &[u32], owner: u32, number: u32) -> Option<usize>
+    ensures { place result ≡ find_in numbers.now owner number }
+{
+    let key = u64::from(owner) * OWNER_UNIT + u64::from(number);
+    search(numbers.len() / ENTRY_STRIDE, key, |i| {
+        u64::from(numbers[i * ENTRY_STRIDE]) * OWNER_UNIT
+            + u64::from(numbers[i * ENTRY_STRIDE + ENTRY_NUMBER])
+    })
+}
+
+// ---- the tables: two arrays and no struct, since C lends them as two
 
 // What is noted beside the kind: MAY_PACK where the field may be packed, and else the child type, which only kinds of wire type 2 have.
 fn inner_of(w: u8, repeated: u32, child: u32) -> u8
@@ -209,9 +226,10 @@ fn inner_of(w: u8, repeated: u32, child: u32) -> u8
     ensures { result ≡ inner_in w (eqb repeated 1) child }
 {
     if w == wire_types::DELIMITED {
-        return child as u8;
+        child as u8
+    } else {
+        (repeated * PACKED_MARK) as u8
     }
-    (repeated * PACKED_MARK) as u8
 }
 
 // Entry e is noted, whose rank is `key` and whose wire type is w.
@@ -220,7 +238,7 @@ fn note(e: usize, f: Five, key: u64, w: u8, keys: &mut [u64; KEYS], info: &mut [
     ensures { (keys.new ≡ set keys.old e (key + w))
         × (info.new ≡ noted e f.owner f.number f.kind (inner_in w (eqb f.repeated 1) f.child) info.old) }
 {
-    keys[e] = key + w as u64;
+    keys[e] = key + u64::from(w);
     info[KINDS_AT + e] = f.kind as u8;
     info[INNERS_AT + e] = inner_of(w, f.repeated, f.child);
     if f.number < GUESSED_NUMBERS {
@@ -230,39 +248,42 @@ fn note(e: usize, f: Five, key: u64, w: u8, keys: &mut [u64; KEYS], info: &mut [
 
 // Adds the entries of a schema to arrays that the caller has just cleared; those before the first bad one where it is not valid. It leaves all else in
 // the arrays as it is, and is here for the calls of the library that make their arrays. `tables` is the call for users.
+// The loop is that of `check` with a note of each entry. One loop that is passed a closure is no plainer: its contract would tell each step of the
+// closure, as a caller's proof knows nothing else of what a passed closure writes.
 pub fn note_entries(
     types: u32,
     numbers: &[u32],
     keys: &mut [u64; KEYS],
     info: &mut [u8; INFO],
-) -> Verdict
+) -> Result<(), BadEntry>
     ensures { (bad_place result ≡ bad_schema (schema_of types numbers.now))
         × (keys.new ≡ keys_with 0 (sound_of (schema_of types numbers.now)) keys.old)
         × (info.new ≡ info_with 0 (sound_of (schema_of types numbers.now)) info.old) }
 {
     if !counts_ok(types, numbers.len()) {
-        return Verdict::Bad(0);
+        return Err(BadEntry { index: 0 });
     }
     let wires = wire_format::kind_wires();
-    let mut i: usize = 0;
-    let mut e: usize = 0;
+    let (entries, _) = numbers.as_chunks::<ENTRY_STRIDE>();
     let mut last: u64 = 0;
-    while i < numbers.len() {
-        let f = five_at(numbers, i);
-        let key = next_key(types, last, f);
-        if key == 0 {
-            return Verdict::Bad(e);
-        }
-        last = key;
+    for (e, entry) in entries.iter().enumerate() {
+        let f = Five::of(entry);
+        let Some(key) = next_key(types, last, f) else {
+            return Err(BadEntry { index: e });
+        };
         note(e, f, key, wires[f.kind as usize], keys, info);
-        i += ENTRY_STRIDE;
-        e += 1;
+        last = key;
     }
-    Verdict::Valid
+    Ok(())
 }
 
 // The tables of a schema, whatever the arrays held before; of the entries before the first bad one where it is not valid.
-pub fn tables(types: u32, numbers: &[u32], keys: &mut [u64; KEYS], info: &mut [u8; INFO]) -> Verdict
+pub fn tables(
+    types: u32,
+    numbers: &[u32],
+    keys: &mut [u64; KEYS],
+    info: &mut [u8; INFO],
+) -> Result<(), BadEntry>
     ensures { (bad_place result ≡ bad_schema (schema_of types numbers.now))
         × (keys.new ≡ keys_of (schema_of types numbers.now))
         × (info.new ≡ info_of (schema_of types numbers.now)) }
@@ -273,27 +294,6 @@ pub fn tables(types: u32, numbers: &[u32], keys: &mut [u64; KEYS], info: &mut [u
 }
 
 // ---- asking them
-
-// The place of an entry whose key without its wire type is `key`, or NOT_FOUND.
-fn search(keys: &[u64; KEYS], key: u64) -> usize
-    ensures { result ≡ seek key_count (key_at keys.now) not_found key 0 key_count }
-{
-    let mut lo: usize = 0;
-    let mut hi: usize = KEYS;
-    while lo < hi {
-        let mid = (lo + hi) / 2;
-        let here = keys[mid] / 8;
-        if here == key {
-            return mid;
-        }
-        if here < key {
-            lo = mid + 1;
-        } else {
-            hi = mid;
-        }
-    }
-    NOT_FOUND
-}
 
 // The kinds of fields that no schema says, by wire type.
 const UNKNOWN_KINDS: [u8; 8] = [
@@ -310,14 +310,14 @@ const UNKNOWN_KINDS: [u8; 8] = [
 fn unknown(tag: u32) -> Said
     ensures { said result ≡ unknown tag }
 {
-    let w = tag % 8;
     Said {
-        kind: UNKNOWN_KINDS[w as usize],
+        kind: UNKNOWN_KINDS[tag as usize % 8],
         inner: 0,
     }
 }
 
 // What entry i says of a tag that has its number.
+#[tactic(auto, unfolding(crate::specs::Tables::typed))]
 fn typed(keys: &[u64; KEYS], info: &[u8; INFO], i: usize, key: u64, tag: u32) -> Said
     requires { i < key_count }
     ensures { said result ≡ typed keys.now info.now i key tag }
@@ -325,54 +325,42 @@ fn typed(keys: &[u64; KEYS], info: &[u8; INFO], i: usize, key: u64, tag: u32) ->
     let kind = info[KINDS_AT + i];
     let inner = info[INNERS_AT + i];
     if keys[i] == key {
-        if kind == MESSAGE {
-            return Said { kind, inner };
+        let inner = if kind == MESSAGE { inner } else { 0 };
+        Said { kind, inner }
+    } else if tag % 8 == DELIMITED && inner == MAY_PACK {
+        Said {
+            kind: PACKED_HEAD,
+            inner: kind,
         }
-        return Said { kind, inner: 0 };
+    } else {
+        unknown(tag)
     }
-    if tag % 8 == DELIMITED {
-        if inner == MAY_PACK {
-            return Said {
-                kind: PACKED_HEAD,
-                inner: kind,
-            };
-        }
-    }
-    unknown(tag)
 }
 
-// A byte as a place among 256.
-fn index(byte: u8) -> usize
-    ensures { (result ≡ byte) × (result < 256) }
+// The entry of a tag in a message of this type, where there is one: the guess where it is right, and else by search. A guess is right by type and
+// number alone: a packed field has another wire type than its entry, and no search is needed for it.
+#[tactic(auto, unfolding(crate::specs::Tables::entry_for))]
+fn entry_for(keys: &[u64; KEYS], info: &[u8; INFO], ty: u32, tag: u32) -> Option<usize>
+    ensures { place result ≡ within key_count (entry_for keys.now info.now ty tag) }
 {
-    byte as usize
-}
-
-// The entry of a tag in a message of this type, or NOT_FOUND: the guess where it is right, and else by search. A guess is right by type and number
-// alone: a packed field has another wire type than its entry, and no search is needed for it.
-fn entry_for(keys: &[u64; KEYS], info: &[u8; INFO], ty: u32, tag: u32) -> usize
-    ensures { result ≡ entry_for keys.now info.now ty tag }
-{
-    let key = ty as u64 * OWNER_UNIT + tag as u64;
-    if tag < GUESSED_TAGS {
-        if ty < MOST_TYPES {
-            let guess = index(info[ty as usize * GUESSES + tag as usize / 8]);
-            if keys[guess] / 8 == key / 8 {
-                return guess;
-            }
+    let key = (u64::from(ty) * OWNER_UNIT + u64::from(tag)) / 8;
+    if tag < GUESSED_TAGS && ty < MOST_TYPES {
+        let guess = usize::from(info[ty as usize * GUESSES + tag as usize / 8]);
+        if keys[guess] / 8 == key {
+            return Some(guess);
         }
     }
-    search(keys, key / 8)
+    search(KEYS, key, |i| keys[i] / 8)
 }
 
 // What the tables say of a tag in a message of this type.
+#[tactic(auto, unfolding(crate::specs::Tables::table_says))]
 pub fn says(keys: &[u64; KEYS], info: &[u8; INFO], ty: u32, tag: u32) -> Said
     ensures { said result ≡ table_says keys.now info.now ty tag }
 {
-    let i = entry_for(keys, info, ty, tag);
-    if i < KEYS {
-        let key = ty as u64 * OWNER_UNIT + tag as u64;
-        return typed(keys, info, i, key, tag);
-    }
-    unknown(tag)
+    let Some(i) = entry_for(keys, info, ty, tag) else {
+        return unknown(tag);
+    };
+    let key = u64::from(ty) * OWNER_UNIT + u64::from(tag);
+    typed(keys, info, i, key, tag)
 }

@@ -9,13 +9,16 @@ use lib.ListN.{length, drop, set, length-set, length-append, length-drop, drop_o
 use lib.Seq.{set-append_seam, drop-drop}
 use lib.Dec.{leb}
 use borrow.Author.Tests.{le-leb, lt-leb}
-use Rattle.spec.specs.Names.{ends_early, no_room}
-use Rattle.std.specs.Prelude.{if◌then◌else◌}
+use Rattle.spec.specs.Names.{ends_early}
+use Rattle.std.specs.Prelude.{if◌then◌else◌, Result, Ok, Err}
 use Rattle.spec.specs.Base.{Took, No}
 use Rattle.spec.specs.Varint.{varint32}
 use Rattle.spec.specs.Skip.{content, spanned}
-use Rattle.wire.specs.declared.found.Found.TheVariants as found
-use Rattle.wire.specs.Answers.{as_read}
+use Rattle.spec.specs.Told.{number_of, read_number, read_count, read_place}
+use Rattle.spec.specs.declared.answers.Stopped.{Stopped}
+use Rattle.spec.specs.declared.refusals.Refusal.{Refusal}
+use Rattle.spec.specs.declared.refusals.Refusal.TheVariants.{NoRoom}
+use Rattle.wire.specs.Answers.{as_read, value_at}
 use Rattle.wire.proofs.FoundLaws.{Placed, varint_placed}
 use Rattle.segment.specs.Segment.{front_size, range_stride, Range, range, Ranges, Done, Refused, ◌then◌, split, within, number, place, listed, stored, room_after}
 use Rattle.segment.specs.Emit.{left, emit, to_read, Further, Told}
@@ -47,10 +50,12 @@ emit_after (r then q) pre (x ∷ y ∷ rest) h =
     ∙ ap₂ (left (number q) (place q)) (omega arith)
     (append_assoc one (e ∷ []) (room_after q rest) ∙ append_assoc pre (a ∷ []) (e ∷ room_after q rest))
 
--- from the start of the room, which has room for whole ranges only; a is the number, n the count and b the place
-told : (s room : List ℕ) {a n b k p to : ℕ} {room' : List ℕ} → left k p to room' ≡ emit room 0 (to_read s (length room / range_stride * range_stride) front_size 0) → (a ≡ k) × (n ≡ to / range_stride) × (b ≡ p)
-    → Told (within (length room / range_stride) (split front_size (drop front_size s))) room a n b room'
-told s room {a} {n} {b} {k} {p} {to} {room'} e c =
+-- from the start of the room, which has room for whole ranges only, with what an answer tells of it
+told : (s room : List ℕ) (answer : Result ℕ Stopped) {k p to : ℕ} {room' : List ℕ}
+    → left k p to room' ≡ emit room 0 (to_read s (length room / range_stride * range_stride) front_size 0)
+    → (read_number answer ≡ k) × (read_count answer ≡ to / range_stride) × (read_place answer ≡ p)
+    → Told (within (length room / range_stride) (split front_size (drop front_size s))) room answer room'
+told s room answer {k} {p} {to} {room'} e c =
     let q : Ranges = within (length room / range_stride) (split front_size (drop front_size s)) in
     let most : (length room / range_stride * range_stride - 0) / range_stride ≡ length room / range_stride = omega arith in
     let all : left k p to room' ≡ left (number q) (place q) (0 + range_stride * length (listed q)) (room_after q room) =
@@ -66,7 +71,7 @@ told s room {a} {n} {b} {k} {p} {to} {room'} e c =
 
 module _ (s : List ℕ) (at : ℕ) where
   -- its content is there
-  pub message_there : (n next : ℕ) → as_read at (found.Value n next) ≡ varint32 (drop at s) → n ≤ length s - next
+  pub message_there : (n next : ℕ) → as_read at (value_at n next) ≡ varint32 (drop at s) → n ≤ length s - next
       → split at (drop at s) ≡ (range next (next + n) at then split (next + n) (drop (next + n) s))
   unfolding content
   message_there n next p h =
@@ -83,7 +88,7 @@ module _ (s : List ℕ) (at : ℕ) where
       ∙ ap₂ (λ (x y : ℕ). range x y at then split y (drop y s)) start stop
 
   -- it runs past the end
-  pub message_short : (n next : ℕ) → as_read at (found.Value n next) ≡ varint32 (drop at s) → length s - next < n → split at (drop at s) ≡ Refused ends_early at
+  pub message_short : (n next : ℕ) → as_read at (value_at n next) ≡ varint32 (drop at s) → length s - next < n → split at (drop at s) ≡ Refused ends_early at
   unfolding content
   message_short n next p h =
       let i : Placed _ s at n next = varint_placed 4 15 s at p refl in
@@ -95,9 +100,9 @@ module _ (s : List ℕ) (at : ℕ) where
       (omega (arith, i.past, i.inside, length-drop at s))
 
   -- the length is refused
-  pub message_bad : (k : ℕ) → as_read at (found.Refused k) ≡ varint32 (drop at s) → at < length s → split at (drop at s) ≡ Refused k at
+  pub message_bad : (r : Refusal) → as_read at (Err r) ≡ varint32 (drop at s) → at < length s → split at (drop at s) ≡ Refused (number_of r) at
   unfolding content
-  message_bad k p h = split_no at k (drop at s) (ap (spanned (length (drop at s))) (sym p)) (omega (arith, length-drop at s))
+  message_bad r p h = split_no at (number_of r) (drop at s) (ap (spanned (length (drop at s))) (sym p)) (omega (arith, length-drop at s))
 
   -- there is none
   pub message_none : length s ≤ at → split at (drop at s) ≡ Done
@@ -127,18 +132,27 @@ module _ {s : List ℕ} {most : ℕ} {room₀ : List ℕ} {from used : ℕ} {roo
       }
 
 -- the ends of the whole call: nothing is left to read, a refusal, a message that finds no room
-module _ {s room₀ room : List ℕ} {at to : ℕ} (h : Further s (length room₀ / range_stride * range_stride) room₀ front_size 0 room at to) {a n b : ℕ} where
-  pub ends : split at (drop at s) ≡ Done → (a ≡ 0) × (n ≡ to / range_stride) × (b ≡ 0) → Told (within (length room₀ / range_stride) (split front_size (drop front_size s))) room₀ a n b room
+module _ {s room₀ room : List ℕ} {at to : ℕ} (h : Further s (length room₀ / range_stride * range_stride) room₀ front_size 0 room at to) where
+  pub ends : split at (drop at s) ≡ Done → Told (within (length room₀ / range_stride) (split front_size (drop front_size s))) room₀ (Ok (to / range_stride)) room
   unfolding emit within
-  ends e c = told s room₀ (sym (h.same ∙ ap (λ (q : Ranges). emit room to (within ((length room₀ / range_stride * range_stride - to) / range_stride) q)) e)) c
+  ends e =
+      told s room₀ (Ok (to / range_stride))
+      (sym (h.same ∙ ap (λ (q : Ranges). emit room to (within ((length room₀ / range_stride * range_stride - to) / range_stride) q)) e)) (refl, refl, refl)
 
-  pub stops : {k p : ℕ} → split at (drop at s) ≡ Refused k p → (a ≡ k) × (n ≡ to / range_stride) × (b ≡ p) → Told (within (length room₀ / range_stride) (split front_size (drop front_size s))) room₀ a n b room
+  pub stops : {r : Refusal} {p : ℕ} {u : Stopped} → split at (drop at s) ≡ Refused (number_of r) p → u ≡ record { refusal = r; count = to / range_stride; place = p }
+      → Told (within (length room₀ / range_stride) (split front_size (drop front_size s))) room₀ (Err u) room
   unfolding emit within
-  stops e c = told s room₀ (sym (h.same ∙ ap (λ (q : Ranges). emit room to (within ((length room₀ / range_stride * range_stride - to) / range_stride) q)) e)) c
+  stops {r} {p} e is =
+      rw is
+      (told s room₀ (Err (record { refusal = r; count = to / range_stride; place = p }))
+      (sym (h.same ∙ ap (λ (q : Ranges). emit room to (within ((length room₀ / range_stride * range_stride - to) / range_stride) q)) e)) (refl, refl, refl))
 
-  pub full : {r : Range} {q : Ranges} → split at (drop at s) ≡ (r then q) → length room₀ / range_stride * range_stride ≤ to → (a ≡ no_room) × (n ≡ to / range_stride) × (b ≡ r.place)
-      → Told (within (length room₀ / range_stride) (split front_size (drop front_size s))) room₀ a n b room
+  pub full : {r : Range} {q : Ranges} {u : Stopped} → split at (drop at s) ≡ (r then q) → length room₀ / range_stride * range_stride ≤ to
+      → u ≡ record { refusal = NoRoom; count = to / range_stride; place = r.place }
+      → Told (within (length room₀ / range_stride) (split front_size (drop front_size s))) room₀ (Err u) room
   unfolding emit within
-  full e l c =
+  full {r} e l is =
       let none : (length room₀ / range_stride * range_stride - to) / range_stride ≡ 0 = omega arith in
-      told s room₀ (sym (h.same ∙ ap₂ (λ (n : ℕ) (x : Ranges). emit room to (within n x)) none e)) c
+      rw is
+      (told s room₀ (Err (record { refusal = NoRoom; count = to / range_stride; place = r.place }))
+      (sym (h.same ∙ ap₂ (λ (n : ℕ) (x : Ranges). emit room to (within n x)) none e)) (refl, refl, refl))

@@ -1,7 +1,10 @@
 -- What a reader of a segment does with lent room: the two numbers of each range are stored after those before it, and where a loop is in that work.
 -- Assumes nothing: these are definitions. That all of it, from the start of the room, leaves what the definition of the call says is a law
 -- (proofs/EmitLaws). Only inner functions and loops cite it.
-use Rattle.std.specs.Prelude.{ℕ, ◌+◌, ◌-◌, ◌/◌, ◌%◌, ◌≤◌, ◌≡◌, List, length, drop, set}
+use Rattle.std.specs.Prelude.{ℕ, ◌+◌, ◌-◌, ◌/◌, ◌%◌, ◌≤◌, ◌≡◌, List, length, drop, set, Result, Ok, Err}
+use Rattle.spec.specs.Told.{number_of, read_number, read_place, read_count}
+use Rattle.spec.specs.declared.answers.Stopped.{Stopped}
+use Rattle.spec.specs.declared.refusals.Refusal.{Refusal}
 use Rattle.segment.specs.Segment.{Ranges, Done, Refused, ◌then◌, split, within, range_stride, number, place, listed, room_after}
 
 -- how a reading ended: the refusal's number and place, 0 for none; how many numbers of the room are in use; the room
@@ -28,8 +31,13 @@ pub record Further (s : List ℕ) (most : ℕ) (room : List ℕ) (from used : �
   pub kept : length room' ≡ length room
 
 -- the answer of a reading q, and the room before it and after it
-pub record Told (q : Ranges) (room : List ℕ) (k n p : ℕ) (room' : List ℕ) : Type 0 where
-  pub refusal : k ≡ number q
-  pub at : p ≡ place q
-  pub count : n ≡ length (listed q)
+pub record Told (q : Ranges) (room : List ℕ) (answer : Result ℕ Stopped) (room' : List ℕ) : Type 0 where
+  pub refusal : read_number answer ≡ number q
+  pub at : read_place answer ≡ place q
+  pub count : read_count answer ≡ length (listed q)
   pub leaves : room' ≡ room_after q room
+
+-- what is read where the front is refused, or else after it
+abbrev pub after_front : Result (Unit {0}) Refusal → Ranges → Ranges
+after_front (Ok u) q = q
+after_front (Err r) q = Refused (number_of r) 0

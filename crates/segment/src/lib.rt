@@ -4,21 +4,16 @@
 pub mod reading;
 pub mod writing;
 
-pub use self::reading::{Answer, read};
-pub use self::writing::{Written, size, write};
+pub use self::reading::read;
+pub use self::writing::{size, write};
 
-// The letters at the front of a segment.
-const LETTER_W: u8 = b'W';
+// What stands before the first length: the letters, and then the version of the segments that are read and written, its low byte first.
+const FRONT: [u8; FRONT_SIZE] = *b"WFM\x01\x00";
 
-const LETTER_F: u8 = b'F';
-
-const LETTER_M: u8 = b'M';
-
-// The version of the segments that are read and written.
-const VERSION: u8 = 1;
-
-// How many bytes stand before the first length.
 const FRONT_SIZE: usize = 5;
+
+// How many letters there are.
+const MARK_SIZE: usize = 3;
 
 // A range is two numbers: where a message starts, and where it ends.
 pub const RANGE_END: usize = 1;

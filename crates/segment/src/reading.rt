@@ -1,20 +1,14 @@
 // A segment to the ranges of its messages, in lent room.
-ghost use Rattle.std.specs.Prelude.{◌≡◌, ℕ, ◌/◌, ◌%◌, ◌≤◌, length, drop, eqb, if◌then◌else◌};
-ghost use Rattle.segment.specs.Segment.{front_size, range_stride, Refused, split, within, reading, number, place, listed, room_after};
-ghost use Rattle.segment.specs.Emit.{Further, Told};
+ghost use Rattle.std.specs.Prelude.{◌≡◌, ℕ, ◌/◌, ◌%◌, ◌≤◌, length, drop, OnOk};
+ghost use Rattle.spec.specs.Told.{read_number, read_place, read_count};
+ghost use Rattle.segment.specs.Segment.{front_size, range_stride, split, within, reading, number, place, listed, room_after};
+ghost use Rattle.segment.specs.Emit.{Further, Told, after_front};
 
-use super::{FRONT_SIZE, LETTER_F, LETTER_M, LETTER_W, RANGE_END, RANGE_STRIDE, VERSION};
-use spec::{limits, refusals};
-use wire::found::Found;
+use super::{FRONT, FRONT_SIZE, MARK_SIZE, RANGE_END, RANGE_STRIDE};
+use spec::answers::Stopped;
+use spec::limits;
+use spec::refusals::Refusal;
 use wire::varint::decode::decode_varint32;
-
-// The answer of a reading: the refusal's number, 0 for none; how many ranges are in the room; the place of the refusal.
-#[derive(Drop)]
-pub struct Answer {
-    pub number: u32,
-    pub count: usize,
-    pub place: usize,
-}
 
 // Where a reader is: `at` in the bytes, with `to` numbers of the room in use.
 #[derive(Drop)]
@@ -23,42 +17,29 @@ struct Spot {
     to: usize,
 }
 
-// The refusal of what stands at the front, 0 for none.
-fn front_fault(s: &[u8]) -> u32
-    ensures { ((room : ℕ) → reading room s.now
-        ≡ (if eqb result 0 then within room (split front_size (drop front_size s.now)) else Refused result 0))
-        × (result ≡ 0 → front_size ≤ length s.now) }
+// What stands at the front is refused, or it is not.
+fn check_front(s: &[u8]) -> Result<(), Refusal>
+    ensures reads { (room : ℕ) → reading room s.now ≡ after_front result (within room (split front_size (drop front_size s.now))) }
+    ensures long { OnOk result (front_size ≤ length s.now) }
 {
-    if s.len() < FRONT_SIZE {
-        return refusals::BAD_MARK;
+    if s.len() < FRONT_SIZE || !s.starts_with(&FRONT[..MARK_SIZE]) {
+        return Err(Refusal::BadMark);
     }
-    if s[0] != LETTER_W {
-        return refusals::BAD_MARK;
-    }
-    if s[1] != LETTER_F {
-        return refusals::BAD_MARK;
-    }
-    if s[2] != LETTER_M {
-        return refusals::BAD_MARK;
-    }
-    if s[3] != VERSION {
-        return refusals::OTHER_VERSION;
-    }
-    if s[4] != 0 {
-        return refusals::OTHER_VERSION;
+    if !s.starts_with(&FRONT) {
+        return Err(Refusal::OtherVersion);
     }
     if limits::MOST_BYTES < s.len() {
-        return refusals::TOO_LARGE;
+        return Err(Refusal::TooLarge);
     }
-    0
+    Ok(())
 }
 
 // The room's places count numbers; a caller counts ranges.
-fn counted(number: u32, to: usize, place: usize) -> Answer
-    ensures { (result.number ≡ number) × (result.count ≡ to / range_stride) × (result.place ≡ place) }
+fn stopped(refusal: Refusal, to: usize, place: usize) -> Stopped
+    ensures { result ≡ record { refusal = refusal; count = to / range_stride; place = place } }
 {
-    Answer {
-        number,
+    Stopped {
+        refusal,
         count: to / RANGE_STRIDE,
         place,
     }
@@ -107,10 +88,9 @@ fn quick(s: &[u8], room: &mut [u64], most: usize, from: usize, used: usize) -> S
 }
 
 // The messages after the front, one after the other.
-fn messages(s: &[u8], room: &mut [u64]) -> Answer
+fn messages(s: &[u8], room: &mut [u64]) -> Result<usize, Stopped>
     requires { front_size ≤ length s.now }
-    ensures { Told (within (length room.old / range_stride) (split front_size (drop front_size s.now)))
-        room.old result.number result.count result.place room.new }
+    ensures { Told (within (length room.old / range_stride) (split front_size (drop front_size s.now))) room.old result room.new }
 {
     let most = room.len() / RANGE_STRIDE * RANGE_STRIDE;
     let mut at = FRONT_SIZE;
@@ -120,42 +100,37 @@ fn messages(s: &[u8], room: &mut [u64]) -> Answer
         at = q.at;
         to = q.to;
         if s.len() <= at {
-            return counted(0, to, 0);
+            break;
         }
-        let f = decode_varint32(s, at);
-        match f {
-            Found::Refused(number) => {
-                return counted(number, to, at);
-            }
-            Found::Value { value, next } => {
-                let n = value as usize;
-                if s.len() - next < n {
-                    return counted(refusals::ENDS_EARLY, to, at);
-                }
-                if most <= to {
-                    return counted(refusals::NO_ROOM, to, at);
-                }
-                let end = next + n;
-                room[to] = next as u64;
-                room[to + RANGE_END] = end as u64;
-                to += RANGE_STRIDE;
-                at = end;
-            }
+        let f = match decode_varint32(s, at) {
+            Ok(f) => f,
+            Err(refusal) => return Err(stopped(refusal, to, at)),
+        };
+        let n = f.value as usize;
+        if s.len() - f.next < n {
+            return Err(stopped(Refusal::EndsEarly, to, at));
         }
+        if most <= to {
+            return Err(stopped(Refusal::NoRoom, to, at));
+        }
+        let end = f.next + n;
+        room[to] = f.next as u64;
+        room[to + RANGE_END] = end as u64;
+        to += RANGE_STRIDE;
+        at = end;
     }
-    counted(0, to, 0)
+    Ok(to / RANGE_STRIDE)
 }
 
-// Reads a segment to the ranges of its messages, two numbers a range, at the front of the room.
-pub fn read(s: &[u8], room: &mut [u64]) -> Answer
-    ensures { (result.number ≡ number (reading (length room.old / range_stride) s.now))
-        × (result.place ≡ place (reading (length room.old / range_stride) s.now))
-        × (result.count ≡ length (listed (reading (length room.old / range_stride) s.now)))
+// Reads a segment to the ranges of its messages, two numbers a range, at the front of the room. The answer: how many ranges there are.
+pub fn read(s: &[u8], room: &mut [u64]) -> Result<usize, Stopped>
+    ensures { (read_number result ≡ number (reading (length room.old / range_stride) s.now))
+        × (read_place result ≡ place (reading (length room.old / range_stride) s.now))
+        × (read_count result ≡ length (listed (reading (length room.old / range_stride) s.now)))
         × (room.new ≡ room_after (reading (length room.old / range_stride) s.now) room.old) }
 {
-    let fault = front_fault(s);
-    if fault != 0 {
-        return counted(fault, 0, 0);
+    if let Err(refusal) = check_front(s) {
+        return Err(stopped(refusal, 0, 0));
     }
     messages(s, room)
 }

@@ -1,3 +1,4 @@
+pub mod AnswerLaws
 pub mod PackedLaws
 pub mod Sums
 pub mod UnknownLaws

@@ -90,6 +90,14 @@ value_by_wire k v w e = by_wire_lem (shape k) v ∙ ap₂ (λ (u : ℕ) (z : Boo
 pub capped_varint : (v : ℕ) → size v ≡ capped (size v)
 capped_varint v = omega (arith, size_most v)
 
+pub capped_prefixed : (n : ℕ) → capped (size (capped n) + capped n) ≡ capped (prefixed_size n)
+unfolding prefixed_size
+capped_prefixed n =
+    elim (dec_le n limit) [
+      | yes h ↦ let same : capped n ≡ n = omega arith in ap (λ (m : ℕ). capped (size m + m)) same
+      | no h ↦ omega arith
+    ]
+
 pub limited_same : (m n : ℕ) → capped m ≡ capped n → limited m ≡ limited n
 unfolding limited
 limited_same m n e =

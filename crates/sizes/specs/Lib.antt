@@ -1,1 +1,2 @@
 pub mod SizeParts
+pub mod Answers

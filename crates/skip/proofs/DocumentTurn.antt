@@ -1,13 +1,11 @@
 -- One iteration of the two loops of the document check, in plain values. Assumes nothing.
-use Prim.Native.Nat.{ℕ, zero, suc, ◌+◌, ◌-◌, ◌/◌, ◌%◌, ◌≤◌, ◌<◌}
+use Prim.Native.Nat.{ℕ, ◌+◌, ◌-◌, ◌/◌, ◌%◌, ◌≤◌, ◌<◌}
 use native.Mathlib.Omega.{arith}
-use native.Mathlib.Numerals.{add-one}
-use mathlib.Core.Path.{◌≡◌, refl, sym, ap, ap₂, ◌∙◌, subst}
+use mathlib.Core.Path.{◌≡◌, refl, sym, ap, ◌∙◌}
 use mathlib.Core.Bool.{Bool, true, false}
 use native.Mathlib.Decide.{dec_le}
 use mathlib.Core.List.{List, [], ◌∷◌}
-use lib.ListN.{length, drop, get_or, set, length-drop, length-set, drop_of_length-le}
-use lib.Seq.{get_or-set_same, get_or-set_other}
+use lib.ListN.{length, drop, length-drop, drop_of_length-le}
 use lib.Dec.{eqb}
 use borrow.Author.Tests.{le-leb, lt-leb, le-ltb, eq-eqb, ne_eqb, eqb-true, eqb-false}
 use Rattle.spec.specs.Names.{bad_tag, delimited_wire, end_group_wire, fixed32_wire, most_levels, start_group_wire}
@@ -18,35 +16,15 @@ use Rattle.spec.specs.Document.{Step, Go, Stop, passed, step, go_on, is_nil, is_
 use Rattle.spec.proofs.VarintLaws.{top}
 use Rattle.spec.proofs.SkipLaws.{good_tag_lem, bad_wire, bad_number}
 use Rattle.spec.proofs.DocumentLaws.{walk, walk_step, step_start, step_end, step_other, step_none, step_value}
-use Rattle.wire.specs.declared.found.Found.TheVariants.{Value}
+use Rattle.wire.specs.Answers.{value_at}
 use Rattle.wire.proofs.FoundLaws.{Placed, varint_placed}
-use Rattle.skip.specs.declared.field.Past.TheVariants.{To, Refused}
+use Rattle.std.specs.Prelude.{Ok, Err}
+use Rattle.spec.specs.declared.refusals.Refusal.{Refusal}
 use Rattle.skip.specs.Passed.{behind}
-use Rattle.skip.specs.Opened.{opened}
-use Rattle.skip.proofs.PastLaws.{Behind, stands, behind_of, refused_of, tag_refused, tag_good, tag_bad, tag_placed, drop_to}
+use Rattle.std.proofs.lemmas.List.{reverse-append, length-reverse}
+use Rattle.std.specs.Prelude.{reverse, ◌++◌}
+use Rattle.skip.proofs.PastLaws.{Behind, stands, behind_of, Refuses, refuses, refused_of, tag_refused, tag_good, tag_bad, tag_placed, drop_to}
 use Rattle.skip.proofs.GroupTurn.{no_value}
-
--- ---- the open groups
-
-length_opened : (numbers : List ℕ) (n : ℕ) → length (opened numbers n) ≡ n
-unfolding opened
-length_opened numbers zero = refl
-length_opened numbers (suc n) = ap suc (length_opened numbers n)
-
--- a number stored after them is none of them
-opened_set : (numbers : List ℕ) (i v n : ℕ) → n ≤ i → opened (set numbers i v) n ≡ opened numbers n
-unfolding opened
-opened_set numbers i v zero h = refl
-opened_set numbers i v (suc n) h = ap₂ ◌∷◌ (get_or-set_other numbers i n v 0 (λ e. omega arith)) (opened_set numbers i v n (omega arith))
-
-opened_more : (numbers : List ℕ) (v n : ℕ) → n < length numbers → opened (set numbers n v) (n + 1) ≡ v ∷ opened numbers n
-unfolding opened
-opened_more numbers v n h = rw add-one (ap₂ ◌∷◌ (get_or-set_same numbers n v 0 h) (opened_set numbers n v n (omega arith)))
-
-opened_less : (numbers : List ℕ) (n : ℕ) → (n ≡ 0 → ⊥) → opened numbers n ≡ get_or numbers (n - 1) 0 ∷ opened numbers (n - 1)
-unfolding opened
-opened_less numbers zero h = absurd (h refl)
-opened_less numbers (suc n) h = let q : suc n - 1 ≡ n = omega arith in rw q refl
 
 -- ---- one iteration: what is said of all the bytes is what is said from the byte `at` on, with the groups o open
 
@@ -117,7 +95,7 @@ module _ {said : Bool} {s o : List ℕ} {at : ℕ} (h : From said s o at) where
         ∙ ap (λ (u : List ℕ). passed o (longer (next - at) (plain (t % 8) u))) behind_tag_lem
         ∙ ap (λ (y : Read). passed o (longer (next - at) y)) e
 
-    value : (q : ℕ) → To q ≡ behind next (plain (t % 8) (drop next s)) → (next ≤ q) × From said s o q
+    value : (q : ℕ) → Ok q ≡ behind next (plain (t % 8) (drop next s)) → (next ≤ q) × From said s o q
     unfolding passed longer go_on
     value q f = go (plain (t % 8) (drop next s)) refl (behind_of next q _ f)
       where
@@ -136,14 +114,18 @@ module _ {said : Bool} {s o : List ℕ} {at : ℕ} (h : From said s o at) where
             )
         go (No _) e x4 = elim x4 [ ]
 
-    lost : (k : ℕ) → (t % 8 ≡ start_group_wire → ⊥) → (t % 8 ≡ end_group_wire → ⊥) → Refused k ≡ behind next (plain (t % 8) (drop next s)) → false ≡ said
+    lost : (k : Refusal) → (t % 8 ≡ start_group_wire → ⊥) → (t % 8 ≡ end_group_wire → ⊥) → Err k ≡ behind next (plain (t % 8) (drop next s)) → false ≡ said
     unfolding passed longer
-    lost k a b f = stopped (valued (No k) a b (refused_of next k _ f))
+    lost k a b f = go (plain (t % 8) (drop next s)) refl (refused_of next k _ f)
+      where
+        go : (x : Read) → plain (t % 8) (drop next s) ≡ x → Refuses k x → false ≡ said
+        go (No j) e (refuses q) = stopped (valued (No j) a b e)
+        go (Took v n) e x = elim x [ ]
 
   -- a tag as it stands, of which number and wire type are still to be judged
   module _ (t next : ℕ) (r : Took t (next - at) ≡ varint32 (drop at s)) where
     pub bounds : Placed (top 4 15) s at t next
-    bounds = varint_placed 4 15 s at {f = Value t next} r refl
+    bounds = varint_placed 4 15 s at {f = value_at t next} r refl
 
     unfit : good_tag t ≡ false → false ≡ said
     unfit g = let b = bounds in no_tag bad_tag (omega arith) (tag_bad (drop at s) (sym r) g)
@@ -156,14 +138,14 @@ module _ {said : Bool} {s o : List ℕ} {at : ℕ} (h : From said s o at) where
       judged w = sym (tag_good (drop at s) (sym r) (good_tag_lem t w (omega arith)))
 
       -- a wire type above those that there are has no value, and a value that is not found is refused as the tag is
-      pub value_of : (q : ℕ) → To q ≡ behind next (plain (t % 8) (drop next s)) → (next ≤ q) × From said s o q
+      pub value_of : (q : ℕ) → Ok q ≡ behind next (plain (t % 8) (drop next s)) → (next ≤ q) × From said s o q
       value_of q f =
           elim (dec_le (t % 8) fixed32_wire) [
             | yes w ↦ value t next (judged w) q f
             | no w ↦ absurd (no_value next q (t % 8) (drop next s) (omega arith) (λ x. omega arith) f)
           ]
 
-      pub no_value_of : (k : ℕ) → (t % 8 ≡ start_group_wire → ⊥) → (t % 8 ≡ end_group_wire → ⊥) → Refused k ≡ behind next (plain (t % 8) (drop next s)) → false ≡ said
+      pub no_value_of : (k : Refusal) → (t % 8 ≡ start_group_wire → ⊥) → (t % 8 ≡ end_group_wire → ⊥) → Err k ≡ behind next (plain (t % 8) (drop next s)) → false ≡ said
       no_value_of k a b f =
           elim (dec_le (t % 8) fixed32_wire) [
             | yes w ↦ lost t next (judged w) k a b f
@@ -171,69 +153,51 @@ module _ {said : Bool} {s o : List ℕ} {at : ℕ} (h : From said s o at) where
           ]
 
       -- the same where no group is open: an end-group tag is no value either
-      pub none_outside : (k : ℕ) → o ≡ [] → (t % 8 ≡ start_group_wire → ⊥) → Refused k ≡ behind next (plain (t % 8) (drop next s)) → false ≡ said
+      pub none_outside : (k : Refusal) → o ≡ [] → (t % 8 ≡ start_group_wire → ⊥) → Err k ≡ behind next (plain (t % 8) (drop next s)) → false ≡ said
       none_outside k z a f = go (eqb (t % 8) end_group_wire) refl
         where
           go : (b : Bool) → eqb (t % 8) end_group_wire ≡ b → false ≡ said
           go true e = let w : t % 8 ≡ end_group_wire = eqb-true (t % 8) end_group_wire e in none_open t next (judged (omega arith)) w z
           go false e = no_value_of k a (eqb-false (t % 8) end_group_wire e) f
 
--- ---- the loop with groups: the first n of the numbers are those of the open groups
+-- ---- the loop with groups: the numbers are those of the open groups, the last opened last
 
-pub record Here (said : Bool) (s numbers : List ℕ) (n at : ℕ) : Type 0 where
-  pub room : length numbers ≡ most_levels
-  pub few : n ≤ most_levels
-  pub rest : From said s (opened numbers n) at
-
--- one group is open, of the number `first`
-pub start : (s numbers : List ℕ) (from first : ℕ) → length numbers ≡ most_levels → Here (walk (first ∷ []) (drop from s)) s (set numbers 0 first) 1 from
-unfolding opened
-start s numbers from first r = record {
-  room = length-set numbers 0 first ∙ r;
-  few = omega arith;
-  rest = record { says = ap (λ (o : List ℕ). walk o (drop from s)) (sym (opened_more numbers first 0 (omega (arith, r)))) };
-}
-
-module _ {said : Bool} {s numbers : List ℕ} {n at : ℕ} (h : Here said s numbers n at) where
-  pub finish : length s ≤ at → eqb n 0 ≡ said
-  unfolding opened
-  finish l = go n ∙ no_more h.rest l
+module _ {said : Bool} {s : List ℕ} (numbers : List ℕ) {at : ℕ} (h : From said s (reverse numbers) at) where
+  pub finish : length s ≤ at → eqb (length numbers) 0 ≡ said
+  finish l = ap (λ (n : ℕ). eqb n 0) (sym (length-reverse numbers)) ∙ go (reverse numbers) ∙ no_more h l
     where
-      go : (k : ℕ) → eqb k 0 ≡ is_nil (opened numbers k)
-      go zero = refl
-      go (suc k) = ne_eqb (suc k) 0 (λ e. omega arith)
+      go : (o : List ℕ) → eqb (length o) 0 ≡ is_nil o
+      go [] = refl
+      go (x ∷ o) = ne_eqb (length (x ∷ o)) 0 (λ e. omega arith)
 
   module _ (t next : ℕ) (raw : Took t (next - at) ≡ varint32 (drop at s)) (numbered : 8 ≤ t) where
     good : t % 8 ≤ fixed32_wire → Took t (next - at) ≡ tag (drop at s)
-    good = judged h.rest t next raw numbered
+    good = judged h t next raw numbered
 
-    pub stores : t % 8 ≡ start_group_wire → n < most_levels → Here said s (set numbers n (t / 8)) (n + 1) next
-    stores w l = record {
-      room = length-set numbers n (t / 8) ∙ h.room;
-      few = omega arith;
-      rest = subst (λ (o : List ℕ). From said s o next) (sym (opened_more numbers (t / 8) n (omega (arith, h.room))))
-          (opens h.rest t next (good (omega arith)) w (rw (length_opened numbers n) l));
-    }
+    pub stores : t % 8 ≡ start_group_wire → length numbers < most_levels → {more : List ℕ} → more ≡ numbers ++ t / 8 ∷ [] → From said s (reverse more) next
+    stores w l e =
+        rw (e, reverse-append numbers (t / 8 ∷ [])) (opens h t next (good (omega arith)) w (rw length-reverse l))
 
-    pub full : t % 8 ≡ start_group_wire → most_levels ≤ n → false ≡ said
-    full w l = too_many h.rest t next (good (omega arith)) w (rw (length_opened numbers n) l)
+    pub full : t % 8 ≡ start_group_wire → most_levels ≤ length numbers → false ≡ said
+    full w l = too_many h t next (good (omega arith)) w (rw length-reverse l)
 
-    pub nothing_open : t % 8 ≡ end_group_wire → n ≡ 0 → false ≡ said
-    unfolding opened
-    nothing_open w z = none_open h.rest t next (good (omega arith)) w (rw z refl)
+    module _ (w : t % 8 ≡ end_group_wire) where
+      pub nothing_open : length numbers ≡ 0 → false ≡ said
+      nothing_open z = none_open h t next (good (omega arith)) w (none (reverse numbers) (length-reverse numbers ∙ z))
+        where
+          none : (o : List ℕ) → length o ≡ 0 → o ≡ []
+          none [] e = refl
+          none (x ∷ o) e = absurd (omega arith)
 
-    pub takes_off : t % 8 ≡ end_group_wire → (n ≡ 0 → ⊥) → t / 8 ≡ get_or numbers (n - 1) 0 → Here said s numbers (n - 1) next
-    takes_off w l same = record {
-      room = h.room;
-      few = omega (arith, h.few);
-      rest = closes h.rest t next (good (omega arith)) w _ _ (opened_less numbers n l) same;
-    }
+      module _ (y : ℕ) (rest : List ℕ) (e : numbers ≡ rest ++ y ∷ []) where
+        last_first : reverse numbers ≡ y ∷ reverse rest
+        last_first = ap reverse e ∙ reverse-append rest (y ∷ [])
 
-    pub other_stored : t % 8 ≡ end_group_wire → (n ≡ 0 → ⊥) → (t / 8 ≡ get_or numbers (n - 1) 0 → ⊥) → false ≡ said
-    other_stored w l differs = other_number h.rest t next (good (omega arith)) w _ _ (opened_less numbers n l) differs
+        pub takes_off : t / 8 ≡ y → From said s (reverse rest) next
+        takes_off same = closes h t next (good (omega arith)) w y (reverse rest) last_first same
 
-    pub goes_on : (q : ℕ) → To q ≡ behind next (plain (t % 8) (drop next s)) → (next ≤ q) × Here said s numbers n q
-    goes_on q f = let v = value_of h.rest t next raw numbered q f in (v.0, record { room = h.room; few = h.few; rest = v.1 })
+        pub other_stored : (t / 8 ≡ y → ⊥) → false ≡ said
+        other_stored differs = other_number h t next (good (omega arith)) w y (reverse rest) last_first differs
 
 -- ---- the check is the run, of input that is not above the size limit
 

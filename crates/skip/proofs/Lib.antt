@@ -1,3 +1,4 @@
+pub mod KnownLaws
 pub mod PastLaws
 pub mod SpanLaws
 pub mod VarintTurn

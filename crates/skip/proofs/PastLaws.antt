@@ -17,8 +17,12 @@ use Rattle.spec.specs.Skip.{content}
 use Rattle.spec.proofs.Laws.{chosen}
 use Rattle.spec.proofs.VarintLaws.{top, varint_ends, varint_goes_on}
 use Rattle.wire.proofs.FoundLaws.{Placed, varint_placed}
-use Rattle.wire.specs.declared.found.Found.TheVariants.{Value}
-use Rattle.skip.specs.declared.field.Past.TheVariants.{To, Refused}
+use Rattle.wire.specs.Answers.{value_at}
+use Rattle.std.specs.Prelude.{Ok, Err}
+use Rattle.spec.specs.Told.{number_of, refusal_of}
+use Rattle.spec.specs.declared.refusals.Refusal.{Refusal}
+use Rattle.spec.specs.declared.refusals.Refusal.TheVariants.{EndsEarly}
+use Rattle.spec.proofs.ToldLaws.{refusal_of-number}
 use Rattle.skip.specs.Passed.{behind}
 
 -- ---- what was read took n bytes, whatever its value
@@ -26,7 +30,7 @@ use Rattle.skip.specs.Passed.{behind}
 pub data Ends (n : ℕ) : Read → Type 0 where
   ends : {v : ℕ} → Ends n (Took v n)
 
-pub ends_behind : (at n : ℕ) {r : Read} → Ends n r → To (at + n) ≡ behind at r
+pub ends_behind : (at n : ℕ) {r : Read} → Ends n r → Ok (at + n) ≡ behind at r
 unfolding behind
 ends_behind at n ends = refl
 
@@ -36,7 +40,7 @@ ends_digit base b ends = ends
 
 behind_digit : (at base b : ℕ) (r : Read) → behind at (digit base b r) ≡ behind (at + 1) r
 unfolding behind digit
-behind_digit at base b (Took v n) = ap To (omega arith)
+behind_digit at base b (Took v n) = ap Ok (omega arith)
 behind_digit at base b (No k) = refl
 
 -- a varint: its last byte is below 128
@@ -110,32 +114,36 @@ module _ (s : List ℕ) where
 
 -- so the position that is returned with it lies after it and within the bytes, and it is below 2 ^ 32
 pub tag_placed : (s : List ℕ) (at t next : ℕ) → Took t (next - at) ≡ tag (drop at s) → Placed (top 4 15) s at t next
-tag_placed s at t next e = varint_placed 4 15 s at {f = Value t next} (tag_varint (drop at s) e) refl
+tag_placed s at t next e = varint_placed 4 15 s at {f = value_at t next} (tag_varint (drop at s) e) refl
 
 -- ---- positions
 
-pub refused_behind : (at : ℕ) {k : ℕ} {r : Read} → r ≡ No k → Refused k ≡ behind at r
+pub refused_behind : (at : ℕ) {k : Refusal} {r : Read} → r ≡ No (number_of k) → Err k ≡ behind at r
 unfolding behind
-refused_behind at e = rw e refl
+refused_behind at {k} e = rw (e, refusal_of-number k) refl
 
 pub behind_longer : (at n : ℕ) (r : Read) → behind at (longer n r) ≡ behind (at + n) r
 unfolding behind longer
-behind_longer at n (Took v m) = ap To (sym (add_assoc at n m))
+behind_longer at n (Took v m) = ap Ok (sym (add_assoc at n m))
 behind_longer at n (No k) = refl
 
 -- what was read, where the position after it is known
 pub data Behind (at next : ℕ) : Read → Type 0 where
   stands : {v n : ℕ} → at + n ≡ next → Behind at next (Took v n)
 
-pub behind_of : (at next : ℕ) (r : Read) → To next ≡ behind at r → Behind at next r
+pub behind_of : (at next : ℕ) (r : Read) → Ok next ≡ behind at r → Behind at next r
 unfolding behind
 behind_of at next (Took v n) e = stands (let q : next ≡ at + n = cc in sym q)
 behind_of at next (No k) e = let z : ◌≡◌ {A = ℕ} 0 1 = cc in absurd (omega arith)
 
-pub refused_of : (at k : ℕ) (r : Read) → Refused k ≡ behind at r → r ≡ No k
+-- what was refused
+pub data Refuses (k : Refusal) : Read → Type 0 where
+  refuses : {j : ℕ} → refusal_of j ≡ k → Refuses k (No j)
+
+pub refused_of : (at : ℕ) (k : Refusal) (r : Read) → Err k ≡ behind at r → Refuses k r
 unfolding behind
 refused_of at k (Took v n) e = let z : ◌≡◌ {A = ℕ} 0 1 = cc in absurd (omega arith)
-refused_of at k (No j) e = let q : k ≡ j = cc in ap No (sym q)
+refused_of at k (No j) e = refuses (cc)
 
 -- the bytes at a later position
 pub drop_to : (at next : ℕ) (s : List ℕ) → at ≤ next → drop (next - at) (drop at s) ≡ drop next s
@@ -144,13 +152,13 @@ drop_to at next s h = let q : at + (next - at) ≡ next = omega arith in drop-dr
 -- a content whose length is known, and the bytes after it
 module _ (at m next : ℕ) (s : List ℕ) (e : Took m (next - at) ≡ varint32 (drop at s)) where
   pub length_placed : Placed (top 4 15) s at m next
-  length_placed = varint_placed 4 15 s at {f = Value m next} e refl
+  length_placed = varint_placed 4 15 s at {f = value_at m next} e refl
 
-  pub content_behind : next + m ≤ length s → To (next + m) ≡ behind at (content varint32 (drop at s))
+  pub content_behind : next + m ≤ length s → Ok (next + m) ≡ behind at (content varint32 (drop at s))
   content_behind h =
       let b = length_placed in
       let q : at + (next - at + m) ≡ next + m = omega arith in
       rw (← q) (ends_behind at (next - at + m) (content_ends varint32 (drop at s) (sym e) (rw length-drop (omega arith))))
 
-  pub content_cut : length s < next + m → Refused ends_early ≡ behind at (content varint32 (drop at s))
+  pub content_cut : length s < next + m → Err EndsEarly ≡ behind at (content varint32 (drop at s))
   content_cut h = let b = length_placed in refused_behind at (content_short varint32 (drop at s) (sym e) (rw length-drop (omega arith)))

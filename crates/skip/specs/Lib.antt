@@ -1,3 +1,2 @@
-pub mod Opened
 pub mod Passed
 pub mod Spans

@@ -4,9 +4,11 @@ ghost use Rattle.spec.specs.Varint.{varint32};
 ghost use Rattle.spec.specs.Document.{is_run, is_document};
 ghost use Rattle.wire.specs.Answers.{as_read};
 
-use crate::field::{Past, past_plain, quick_value};
+use crate::field::{past_plain, quick_value};
 use crate::wire_types64;
+use arrayvec::ArrayVec;
 use spec::limits;
+use spec::refusals::Refusal;
 use wire::found::Found;
 use wire::varint::decode::decode_varint32;
 
@@ -15,19 +17,21 @@ const MOST_LEVELS: usize = limits::MOST_LEVELS as usize;
 
 // A tag as it stands: neither its number nor its wire type is judged. Most have one byte: those are read in place. The others are read by a function of their
 // own, as the slice is then stored for the call where one is made, and not for every tag.
-fn raw_tag_at(s: &[u8], at: usize) -> Found
+fn raw_tag_at(s: &[u8], at: usize) -> Result<Found, Refusal>
     requires { at < length s.now }
     ensures { as_read at result ≡ varint32 (drop at s.now) }
 {
-    let b = s[at] as u64;
+    let b = u64::from(s[at]);
     if 128 <= b {
         return long_raw_tag(s, at);
     }
-    let next = at + 1;
-    Found::Value { value: b, next }
+    Ok(Found {
+        value: b,
+        next: at + 1,
+    })
 }
 
-fn long_raw_tag(s: &[u8], at: usize) -> Found
+fn long_raw_tag(s: &[u8], at: usize) -> Result<Found, Refusal>
     ensures { as_read at result ≡ varint32 (drop at s.now) }
 {
     decode_varint32(s, at)
@@ -40,80 +44,74 @@ fn long_raw_tag(s: &[u8], at: usize) -> Found
 fn is_rest(s: &[u8], from: usize, first: u32) -> bool
     ensures { result ≡ is_run (length (drop from s.now)) (first ∷ []) (drop from s.now) }
 {
-    let mut numbers: [u32; MOST_LEVELS] = [0; MOST_LEVELS];
-    numbers[0] = first;
-    let mut n: usize = 1;
+    let mut numbers: ArrayVec<u32, MOST_LEVELS> = ArrayVec::new();
+    numbers.push(first);
     let mut at = from;
     while at < s.len() {
-        let Found::Value { value, next } = raw_tag_at(s, at) else {
+        let Ok(Found { value, next }) = raw_tag_at(s, at) else {
             return false;
         };
         if value < 8 {
             return false;
         }
         let w = value % 8;
-        let q = quick_value(s, next, w);
-        if next < q {
-            at = q;
+        if let Some(end) = quick_value(s, next, w) {
+            at = end;
         } else {
             let number = (value / 8) as u32;
             match w {
                 wire_types64::START_GROUP => {
-                    if MOST_LEVELS <= n {
+                    if numbers.is_full() {
                         return false;
                     }
-                    numbers[n] = number;
-                    n = n + 1;
+                    numbers.push(number);
                     at = next;
                 }
                 wire_types64::END_GROUP => {
-                    if n == 0 {
+                    let Some(opened) = numbers.pop() else {
                         return false;
-                    }
-                    n = n - 1;
-                    let opened = numbers[n];
+                    };
                     if opened != number {
                         return false;
                     }
                     at = next;
                 }
                 _ => {
-                    let Past::To(e) = past_plain(s, next, w) else {
+                    let Ok(end) = past_plain(s, next, w) else {
                         return false;
                     };
-                    at = e;
+                    at = end;
                 }
             }
         }
     }
-    n == 0
+    numbers.is_empty()
 }
 
-// Whether the bytes are a run of fields. No number is kept before the first group, so a document without groups does not pay for clearing the array.
+// Whether the bytes are a run of fields. No number is kept before the first group, so a document without groups does not pay for clearing their array.
 fn is_run(s: &[u8]) -> bool
     ensures { result ≡ is_run (length s.now) [] s.now }
 {
     let mut at: usize = 0;
     while at < s.len() {
-        let Found::Value { value, next } = raw_tag_at(s, at) else {
+        let Ok(Found { value, next }) = raw_tag_at(s, at) else {
             return false;
         };
         if value < 8 {
             return false;
         }
         let w = value % 8;
-        let q = quick_value(s, next, w);
-        if next < q {
-            at = q;
+        if let Some(end) = quick_value(s, next, w) {
+            at = end;
         } else {
             if w == wire_types64::START_GROUP {
                 let number = (value / 8) as u32;
                 return is_rest(s, next, number);
             }
-            let Past::To(e) = past_plain(s, next, w) else {
+            let Ok(end) = past_plain(s, next, w) else {
                 return false;
             };
-            at = e;
+            at = end;
         }
     }
     true

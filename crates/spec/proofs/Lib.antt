@@ -24,5 +24,6 @@ pub mod LeastLaws
 pub mod MadeLaws
 pub mod ValidLaws
 pub mod RefusalLaws
+pub mod ToldLaws
 pub mod LetterLaws
 pub mod SpanLaws

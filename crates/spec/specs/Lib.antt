@@ -1,4 +1,5 @@
 pub mod Names
+pub mod Told
 pub mod Base
 pub mod Varint
 pub mod Utf8

@@ -1,4 +1,5 @@
-// The kinds of a record, as numbers of a list. specs/Names has them for the definitions.
+// The kinds of a record, as numbers of a list. specs/Names has them for the definitions. They are no enum: a kind is a number of a list, an entry or a table that C
+// lends, where any number may stand, and public calls take any for a kind.
 
 // Those of descriptor.proto. No schema has a group.
 pub const DOUBLE: u64 = 1;

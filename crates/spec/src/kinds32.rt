@@ -1,4 +1,4 @@
-// The kinds of descriptor.proto at the width of an entry.
+// The kinds of descriptor.proto at the width of an entry: a pattern of a `match` has to be a constant of the type that is matched.
 use crate::kinds;
 
 pub const DOUBLE: u32 = kinds::DOUBLE as u32;

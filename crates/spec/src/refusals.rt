@@ -1,43 +1,57 @@
-// The refusal numbers of the user's rules. specs/Names has them for the definitions.
+// Why a call refuses. specs/Names has the numbers for the definitions, and docs/DEFINITIONS.md says what each means.
+ghost use Rattle.std.specs.Prelude.{◌≡◌};
+ghost use Rattle.spec.specs.Told.{number_of};
 
-// Input or enclosing length ends too soon.
-pub const ENDS_EARLY: u32 = 1;
+use std::error::Error;
+use std::fmt;
 
-// Bad varint.
-pub const BAD_VARINT: u32 = 2;
+// Each refusal has the number of its place here, from 1 on.
+#[derive(Clone, Copy, Debug, PartialEq, Eq, Hash)]
+pub enum Refusal {
+    EndsEarly,
+    BadVarint,
+    BadTag,
+    NoGroupOpen,
+    OutOfRange,
+    NotUtf8,
+    TooDeep,
+    NoRoom,
+    InvalidSchema,
+    InvalidList,
+    TooLarge,
+    OutputShort,
+    BadMark,
+    OtherVersion,
+}
 
-// Bad tag.
-pub const BAD_TAG: u32 = 3;
+impl Refusal {
+    // The number that C sees.
+    pub fn number(self) -> u32
+        ensures { result ≡ number_of self }
+    {
+        self as u32 + 1
+    }
+}
 
-// End-group tag with no group open.
-pub const NO_GROUP_OPEN: u32 = 4;
+impl fmt::Display for Refusal {
+    fn fmt<W: fmt::Write>(&self, f: &mut fmt::Formatter<W>) -> fmt::Result {
+        f.write_str(match self {
+            Refusal::EndsEarly => "the input or an enclosing length ends too soon",
+            Refusal::BadVarint => "bad varint",
+            Refusal::BadTag => "bad tag",
+            Refusal::NoGroupOpen => "end-group tag with no group open",
+            Refusal::OutOfRange => "int32 or enum out of range",
+            Refusal::NotUtf8 => "string not UTF-8",
+            Refusal::TooDeep => "too deep",
+            Refusal::NoRoom => "more records than room",
+            Refusal::InvalidSchema => "bad schema",
+            Refusal::InvalidList => "bad list",
+            Refusal::TooLarge => "above the size limit",
+            Refusal::OutputShort => "output too short",
+            Refusal::BadMark => "no segment",
+            Refusal::OtherVersion => "a segment of another version",
+        })
+    }
+}
 
-// Int32 or enum out of range.
-pub const OUT_OF_RANGE: u32 = 5;
-
-// String not UTF-8.
-pub const NOT_UTF8: u32 = 6;
-
-// Too deep.
-pub const TOO_DEEP: u32 = 7;
-
-// More records than room.
-pub const NO_ROOM: u32 = 8;
-
-// Bad schema.
-pub const INVALID_SCHEMA: u32 = 9;
-
-// Bad list.
-pub const INVALID_LIST: u32 = 10;
-
-// Input, or size to write, above the size limit.
-pub const TOO_LARGE: u32 = 11;
-
-// Output too short.
-pub const OUTPUT_SHORT: u32 = 12;
-
-// No segment: shorter than its front, or another mark.
-pub const BAD_MARK: u32 = 13;
-
-// A segment of another version.
-pub const OTHER_VERSION: u32 = 14;
+impl Error for Refusal {}

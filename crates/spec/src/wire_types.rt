@@ -1,4 +1,4 @@
-// Wire types. specs/Names has them for the definitions.
+// Wire types, as the numbers of tags and tables. specs/Names has them for the definitions; `wire::wire_format::WireType` is the enum of those that a tag may have.
 pub const VARINT: u8 = 0;
 
 pub const FIXED64: u8 = 1;

@@ -1,13 +1,13 @@
 -- What the steps of a copy leave for one another: the bytes at the front of an output, and the records at the front of a room. Assumes nothing.
-use Prim.Native.Nat.{ℕ, ◌-◌, ◌*◌, ◌/◌, ◌≤◌}
+use Prim.Native.Nat.{ℕ, ◌*◌, ◌/◌, ◌≤◌}
 use native.Mathlib.Omega.{arith}
-use mathlib.Core.Path.{◌≡◌, ap, ◌∙◌}
+use mathlib.Core.Path.{◌≡◌, ap, ap₂, ◌∙◌}
 use mathlib.Core.List.{List}
 use mathlib.Core.Option.{Option, none, some}
 use lib.ListN.{length, take, drop}
 use lib.Seq.{take_at}
 use lib.Dec.{ltb}
-use Rattle.spec.specs.Base.{part, limit}
+use Rattle.spec.specs.Base.{limit}
 use Rattle.spec.specs.Schema.{Schema, bad_schema}
 use Rattle.spec.specs.Record.{Record, stride, stored, records_of}
 use Rattle.spec.specs.Reading.{Reading, plainly, looking, read, within, refused_or, called, reading_by, reading_as, reading, listed, room_after}
@@ -16,23 +16,21 @@ use Rattle.spec.proofs.Laws.{either_way}
 use Rattle.spec.proofs.RecordLaws.{within_fits, stored_length, room_kept}
 use Rattle.spec.proofs.FlatLaws.{records_stored}
 use Rattle.spec.proofs.SizeLaws.{writing_answered, Leaves, answered_leaves}
-use Rattle.write.specs.Answers.{answer_of_writing}
-use Rattle.write.specs.declared.Answer.{Answer}
+use Rattle.std.specs.Prelude.{Result}
+use Rattle.std.specs.Result.{result_unwrap_or}
+use Rattle.spec.specs.declared.answers.Unwritten.{Unwritten}
+use Rattle.spec.proofs.ToldLaws.{told_sent}
+use Rattle.sizes.specs.Answers.{Tells}
 use Rattle.trip.specs.Copy.{reads}
-
--- a part that begins at the front
-pub part_front : (k : ℕ) (b : List ℕ) → part 0 k b ≡ take k b
-part_front k b = let all : k - 0 ≡ k = omega arith in ap (λ (n : ℕ). take n b) all
 
 -- ---- an output
 
 pub writing_leaves : (sch : Schema) (payload : List ℕ) (rs : List Record) (out : List ℕ) → Leaves (writing sch (length out) payload rs) out
 writing_leaves sch payload rs out = answered_leaves out (writing_answered sch (length out) payload rs)
 
--- the size that its answer tells
-pub told_size : {a : Answer} (w : Writing) → a ≡ answer_of_writing w → sent_size a.number a.size ≡ sent_size (number w) (size w)
-unfolding answer_of_writing
-told_size w e = ap (λ (x : Answer). sent_size x.number x.size) e
+-- how many bytes of it are read, by its answer
+pub told_size : (w : Writing) (a : Result ℕ Unwritten) → Tells w a → result_unwrap_or a 0 ≡ sent_size (number w) (size w)
+told_size w a e = told_sent a ∙ ap₂ sent_size e.number e.size
 
 -- ---- a room
 

@@ -2,7 +2,7 @@
 -- records: the same depths, numbers, kinds, values and contents. Assumes nothing.
 use Prim.Native.Nat.{ℕ, ◌*◌, ◌/◌, ◌≤◌}
 use native.Mathlib.Omega.{arith}
-use mathlib.Core.Path.{◌≡◌, refl, sym, ap, ap₂, ◌∙◌, subst}
+use mathlib.Core.Path.{◌≡◌, refl, sym, ap₂, ◌∙◌, subst}
 use mathlib.Core.List.{List, map}
 use lib.ListN.{length, take}
 use Rattle.spec.specs.Base.{limit}
@@ -14,10 +14,11 @@ use Rattle.spec.proofs.SizeLaws.{Answered, wrote, short, above, faulty, writing_
 use Rattle.onward.specs.Onward.{seen}
 use Rattle.onward.proofs.OnwardLaws.{there_and_back}
 use Rattle.onward.proofs.RoomLaws.{onward_answer}
-use Rattle.read.specs.declared.Answer as read
 use Rattle.read.proofs.CallLaws as read-laws
-use Rattle.write.specs.Answers.{answer_of_writing}
-use Rattle.write.specs.declared.Answer.{Answer}
+use Rattle.std.specs.Prelude.{Result}
+use Rattle.spec.specs.Told.{read_number, read_count, written_number, written_size}
+use Rattle.spec.specs.declared.answers.Stopped.{Stopped}
+use Rattle.spec.specs.declared.answers.Unwritten.{Unwritten}
 use Rattle.write.proofs.CallLaws as write-laws
 use Rattle.trip.specs.Copy.{writes, reads}
 use Rattle.trip.proofs.CopyLaws.{room_records}
@@ -40,20 +41,20 @@ module _ (sch : Schema) (list payload out room : List ℕ) where
   abbrev rs : List Record
   rs = records_of list
 
-  pub reads_back : {a : Answer} {out' : List ℕ} {b : read.Answer} {room' : List ℕ}
-      → write-laws.Answers (writes sch list payload out) a out out' → a.number ≡ 0
-      → read-laws.Answers (reads sch (take a.size out') room) b room room' → length (records_of list) ≤ length room / stride
-      → (b.number ≡ 0) × (map (seen (take a.size out')) (records_of (take (stride * b.count) room')) ≡ map (seen payload) (records_of list))
-  unfolding answer_of_writing spec.writing reading
-  reads_back {a} {out'} {b} {room'} w zero r enough =
+  pub reads_back : (a : Result ℕ Unwritten) {out' : List ℕ} (b : Result ℕ Stopped) {room' : List ℕ}
+      → write-laws.Answers (writes sch list payload out) a out out' → written_number a ≡ 0
+      → read-laws.Answers (reads sch (take (written_size a) out') room) b room room' → length (records_of list) ≤ length room / stride
+      → (read_number b ≡ 0) × (map (seen (take (written_size a) out')) (records_of (take (stride * read_count b) room')) ≡ map (seen payload) (records_of list))
+  unfolding spec.writing reading
+  reads_back a {out'} b {room'} w zero r enough =
       let s : List ℕ = spec.written payload rs in
-      let is = was_written (writing_answered sch (length out) payload rs) (sym (ap (λ (x : Answer). x.number) w.0) ∙ zero) in
+      let is = was_written (writing_answered sch (length out) payload rs) (sym w.0.number ∙ zero) in
       let f = write-laws.check_fine sch payload rs (was_fine (spec.list_check sch payload rs) (spec.sized (length out) s) is.0) in
       let g = there_and_back plainly sch payload rs (length room / stride) (length out) f.0 f.1 is.1 enough is.2 in
-      let sends : take a.size out' ≡ s = told_front is.0 w.0 out w.1 in
+      let sends : take (written_size a) out' ≡ s = told_front is.0 a w.0 out w.1 in
       let there = subst (λ (x : List ℕ). read-laws.Answers (reads sch x room) b room room') sends r in
       let answer = onward_answer g.0 in
-      let lists : records_of (take (stride * b.count) room') ≡ g.0.list = room_records sch s room there.2 there.3 (stride * b.count) refl ∙ answer.2 in (
+      let lists : records_of (take (stride * read_count b) room') ≡ g.0.list = room_records sch s room there.2 there.3 (stride * read_count b) refl ∙ answer.2 in (
         there.0 ∙ answer.0,
         ap₂ (λ (x : List ℕ) (y : List Record). map (seen x) y) sends lists ∙ g.0.shows ∙ g.1,
       )

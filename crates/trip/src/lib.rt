@@ -1,47 +1,32 @@
 // A message through an older reader: a list is written under the newer schema, read under the older one, and written again.
 #![tactic(auto)]
 
-ghost use Rattle.std.specs.Prelude.{◌≡◌, ◌*◌, ◌^◌, ◌<◌};
-ghost use Rattle.spec.specs.Record.{stride};
+ghost use Rattle.std.specs.Prelude.{◌≡◌};
 ghost use Rattle.spec.specs.Schema.{schema_of};
-ghost use Rattle.spec.specs.Writing.{sent_size};
+ghost use Rattle.spec.specs.Told.{read_count};
 ghost use Rattle.trip.specs.Copy.{PassedOn, Copied, Demanded, Unharmed};
 
 use read::read;
+use spec::answers::{Stopped, Unwritten};
 use spec::columns;
 use write::write;
 
 // What the three steps answered.
-#[derive(Drop)]
+#[derive(Clone, Copy, Debug, PartialEq, Eq)]
 pub struct Trip {
-    pub wrote: write::Answer,
-    pub read: read::Answer,
-    pub again: write::Answer,
+    pub wrote: Result<usize, Unwritten>,
+    pub read: Result<usize, Stopped>,
+    pub again: Result<usize, Unwritten>,
 }
 
-// What the last two of them answered.
-#[derive(Drop)]
-struct Passed {
-    read: read::Answer,
-    again: write::Answer,
-}
-
-// How many bytes stand in the output then: none where the writing was refused.
-fn sent_size(wrote: write::Answer) -> usize
-    ensures { result ≡ sent_size wrote.number wrote.size }
+// How many records stand in the room after a reading: those before the fault where it was refused.
+fn stored(read: Result<usize, Stopped>) -> usize
+    ensures { result ≡ read_count read }
 {
-    if wrote.number == 0 {
-        return wrote.size;
+    match read {
+        Ok(count) => count,
+        Err(stopped) => stopped.count,
     }
-    0
-}
-
-// How many numbers so many records are.
-fn numbers_of(count: usize) -> usize
-    requires { stride * count < 2 ^ 64 }
-    ensures { result ≡ stride * count }
-{
-    count * columns::STRIDE
 }
 
 // Reads a message, and writes again what was read: the records that stand in the room then, with the message for their payload.
@@ -51,18 +36,14 @@ fn pass_on(
     message: &[u8],
     room: &mut [u64],
     again: &mut [u8],
-) -> Passed
+) -> (Result<usize, Stopped>, Result<usize, Unwritten>)
     ensures { PassedOn (schema_of types numbers.now) message.now room.old again.old
-        result.read result.again room.new again.new }
+        result.0 result.1 room.new again.new }
 {
     let got = read(types, numbers, message, room);
-    let count = numbers_of(got.count);
-    let records = &room[0..count];
+    let records = &room[..stored(got) * columns::STRIDE];
     let rewrote = write(types, numbers, records, message, again);
-    Passed {
-        read: got,
-        again: rewrote,
-    }
+    (got, rewrote)
 }
 
 // Writes the list under the newer schema, reads its bytes under the older one, and writes what was read under the older one again. Each schema
@@ -85,14 +66,7 @@ pub fn copy_onward(
         → Unharmed (schema_of older_types older.now) list.now payload.now result bytes.new room.new again.new) }
 {
     let wrote = write(newer_types, newer, list, payload, bytes);
-    let size = sent_size(wrote);
-    let message = &bytes[0..size];
-    let passed = pass_on(older_types, older, message, room, again);
-    let got = passed.read;
-    let rewrote = passed.again;
-    Trip {
-        wrote,
-        read: got,
-        again: rewrote,
-    }
+    let message = &bytes[..wrote.unwrap_or(0)];
+    let (read, again) = pass_on(older_types, older, message, room, again);
+    Trip { wrote, read, again }
 }

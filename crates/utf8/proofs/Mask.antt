@@ -1,22 +1,39 @@
 -- Several bytes tested at once: where the word that they make has no bit in common with 80..80, each is below 128. One law over the width.
 -- Assumes nothing.
-use Prim.Native.Nat.{ℕ, zero, suc, ◌+◌, ◌*◌, ◌/◌, ◌%◌, ◌<◌}
-use mathlib.Core.Path.{◌≡◌, ap, sym, ◌∙◌}
+use Prim.Native.Nat.{ℕ, zero, suc, ◌+◌, ◌-◌, ◌*◌, ◌/◌, ◌%◌, ◌<◌}
+use mathlib.Core.Path.{◌≡◌, refl, ap, sym, ◌∙◌}
 use mathlib.Core.List.{List}
 use native.Mathlib.Omega.{arith}
-use native.Mathlib.Nat.{add-zero, add_assoc, mod-eq_of_lt}
+use native.Mathlib.Nat.{add-zero, zero-add, add_assoc, mod-eq_of_lt}
+use Rattle.std.proofs.lemmas.List.{get_or-take, get_or-drop}
 use lib.Bits.{bit_and, and_block, and_high}
-use lib.ListN.{get_or}
-use Rattle.utf8.specs.Text.{word, Low}
+use lib.ListN.{get_or, take, drop}
+use Rattle.utf8.specs.Text.{Low}
 
--- the word, from its bytes and from its halves
-pub word_four : (s : List ℕ) (i : ℕ) → word 4 s i ≡ get_or s i 0 + get_or s (i + 1) 0 * 256 + get_or s (i + 2) 0 * 0x1_0000 + get_or s (i + 3) 0 * 0x100_0000
-unfolding word
-word_four s i = simp add_assoc (omega arith)
+-- the n bytes from i on as one number, the first lowest
+unfoldable pub word : ℕ → List ℕ → ℕ → ℕ
+word zero s i = 0
+word (suc n) s i = word n s (i + 1) * 256 + get_or s i 0
 
-pub word_eight : (s : List ℕ) (i : ℕ) → word 8 s i ≡ word 4 s i + word 4 s (i + 4) * 0x1_0000_0000
+-- the same bytes at two places make one word
+word_moved : (n i j : ℕ) (s t : List ℕ) → ((k : ℕ) → k < n → get_or s (i + k) 0 ≡ get_or t (j + k) 0) → word n s i ≡ word n t j
 unfolding word
-word_eight s i = simp add_assoc (omega arith)
+word_moved zero i j s t h = refl
+word_moved (suc n) i j s t h =
+    let after : (k : ℕ) → k < n → get_or s (i + 1 + k) 0 ≡ get_or t (j + 1 + k) 0 = λ k l. rw (add_assoc, add_assoc) (h (1 + k) (omega arith)) in
+    rw (word_moved n (i + 1) (j + 1) s t after, at_once (h 0 (omega arith))) refl
+  where
+    at_once : get_or s (i + 0) 0 ≡ get_or t (j + 0) 0 → get_or s i 0 ≡ get_or t j 0
+    at_once e = rw (← add-zero i, ← add-zero j) e
+
+-- the word of eight bytes that were taken from place i on
+pub word_eight : (bytes s : List ℕ) (i : ℕ) → bytes ≡ take (i + 8 - i) (drop i s) →
+    word 8 s i ≡ get_or bytes 0 0 + get_or bytes 1 0 * 256 + get_or bytes 2 0 * 65536 + get_or bytes 3 0 * 16777216 + get_or bytes 4 0 * 4294967296
+    + get_or bytes 5 0 * 1099511627776 + get_or bytes 6 0 * 281474976710656 + get_or bytes 7 0 * 72057594037927936
+unfolding word
+word_eight bytes s i e =
+    let there : (k : ℕ) → k < 8 → get_or s (i + k) 0 ≡ get_or bytes (0 + k) 0 = λ k h. rw zero-add (sym (rw e (get_or-take (i + 8 - i) (drop i s) k 0 (omega arith) ∙ get_or-drop i s k 0))) in
+    word_moved 8 i 0 s bytes there ∙ omega arith
 
 -- the highest bit of each of n bytes
 unfoldable pub highs : ℕ → ℕ

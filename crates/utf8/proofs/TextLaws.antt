@@ -2,39 +2,39 @@
 -- Assumes nothing.
 use Prim.Native.Nat.{ℕ, zero, suc, ◌+◌, ◌-◌, ◌≤◌, ◌<◌}
 use native.Mathlib.Omega.{arith}
+use native.Mathlib.Nat.{add-zero}
 use native.Mathlib.Numerals.{add-one}
 use mathlib.Core.Path.{◌≡◌, refl, sym, ap, ◌∙◌}
-use mathlib.Core.Bool.{Bool, true, false, ◌&&◌, and-true, and-false, and-eq-true_iff}
+use mathlib.Core.Bool.{Bool, true, false, ◌&&◌, and-true, and-false, and-eq-true_iff, false≢true}
 use mathlib.Core.List.{List, [], ◌∷◌}
-use lib.ListN.{length, drop, get_or, length-drop}
-use lib.Seq.{drop-cons, drop-drop, get_or-drop}
-use lib.Dec.{leb}
-use borrow.Author.Tests.{le-leb, lt-leb, ne_eqb, leb-true}
-use Rattle.std.specs.Prelude.{if◌then◌else◌}
+use lib.ListN.{length, drop, take, get_or, length-drop}
+use Rattle.std.proofs.lemmas.List.{get_or-drop}
+use lib.Seq.{take_all, drop-cons, drop-drop}
+use borrow.Author.Tests.{le-leb, lt-leb, ne_eqb}
 use Rattle.spec.specs.Base.{between}
 use Rattle.spec.specs.Utf8.{Follow, NoLead, lead, followers, behind, char, valid_prefix, utf8}
 use Rattle.spec.proofs.Utf8Laws.{char_le, valid_le, prefix_stop, prefix_step, prefix_ascii}
-use Rattle.utf8.specs.Text.{most_followers, lead_of, Low, Passed, Ends}
-
--- the character after a lead byte that three numbers tell of
-by_count : (few : Bool) (n lo hi : ℕ) (s : List ℕ) → behind (if few then Follow n lo hi else NoLead) s ≡ (if few && followers n lo hi s then n + 1 else 0)
-unfolding behind
-by_count true n lo hi s = refl
-by_count false n lo hi s = refl
-
-told : (n lo hi : ℕ) (s : List ℕ) → behind (lead_of n lo hi) s ≡ (if leb n most_followers && followers n lo hi s then n + 1 else 0)
-unfolding lead_of
-told n lo hi s = by_count (leb n most_followers) n lo hi s
+use Rattle.utf8.specs.Text.{Low, Passed, Ends}
 
 -- the bytes end before the followers
-short : (n lo hi : ℕ) (s : List ℕ) → length s < n → followers n lo hi s ≡ false
+pub short : (n lo hi : ℕ) (s : List ℕ) → length s < n → followers n lo hi s ≡ false
 unfolding followers
 short zero lo hi s h = absurd (omega arith)
 short (suc n) lo hi [] h = refl
 short (suc n) lo hi (b ∷ s) h = simp (short n 0x80 0xbf s (omega arith)) (and-false (between lo hi b))
 
-pub short_at : (s : List ℕ) (at n lo hi : ℕ) → length s - at < n → followers n lo hi (drop at s) ≡ false
-short_at s at n lo hi l = short n lo hi (drop at s) (omega (arith, length-drop at s))
+-- the slice from a place on
+pub rest_is : (s : List ℕ) (j : ℕ) → take (length s - j) (drop j s) ≡ drop j s
+rest_is s j = take_all (length s - j) (drop j s) (omega (arith, length-drop j s))
+
+pub rest_long : (s : List ℕ) (j : ℕ) → length (take (length s - j) (drop j s)) ≡ length s - j
+rest_long s j = ap length (rest_is s j) ∙ length-drop j s
+
+pub rest_at : (s : List ℕ) (j k : ℕ) → get_or (take (length s - j) (drop j s)) k 0 ≡ get_or s (j + k) 0
+rest_at s j k = ap (λ (l : List ℕ). get_or l k 0) (rest_is s j) ∙ get_or-drop j s k 0
+
+pub rest_first : (s : List ℕ) (j : ℕ) → get_or (take (length s - j) (drop j s)) 0 0 ≡ get_or s j 0
+rest_first s j = rest_at s j 0 ∙ rw add-zero refl
 
 module _ (s : List ℕ) (at : ℕ) (h : at < length s) where
   front : drop at s ≡ get_or s at 0 ∷ drop (at + 1) s
@@ -57,13 +57,24 @@ module _ (s : List ℕ) (at : ℕ) (h : at < length s) where
   unfolding char
   char_at = rw front
 
-  -- the character at a place, by what is said of its lead byte
-  pub said : (n lo hi : ℕ) → lead_of n lo hi ≡ lead (get_or s at 0) → (if leb n most_followers && followers n lo hi (drop (at + 1) s) then n + 1 else 0) ≡ char (drop at s)
-  said n lo hi e = sym (told n lo hi (drop (at + 1) s)) ∙ rw (char_at, e)
-
   stands : {n lo hi : ℕ} → lead (get_or s at 0) ≡ Follow n lo hi → followers n lo hi (drop (at + 1) s) ≡ true → n + 1 ≡ char (drop at s)
   unfolding behind
   stands e f = rw (char_at, e, f)
+
+-- the third follower, where the first two are right, and where one is not
+module _ (s : List ℕ) (lo hi : ℕ) (h : 3 ≤ length s) where
+  pub third : (between lo hi (get_or s 0 0) && between 0x80 0xbf (get_or s 1 0)) ≡ true → between 0x80 0xbf (get_or s 2 0) ≡ followers 3 lo hi s
+  third e =
+      let (a, b) = (and-eq-true_iff (between lo hi (get_or s 0 0)) (between 0x80 0xbf (get_or s 1 0))).0 e in
+      last s 2 (omega arith) 0x80 0xbf ∙ sym (good s 0 (omega arith) lo hi 2 a ∙ good s 1 (omega arith) 0x80 0xbf 1 b)
+
+  by_two : (a b : Bool) → between lo hi (get_or s 0 0) ≡ a → between 0x80 0xbf (get_or s 1 0) ≡ b → (a && b) ≡ false → followers 3 lo hi s ≡ false
+  by_two true true p q e = absurd (false≢true (sym e))
+  by_two true false p q e = good s 0 (omega arith) lo hi 2 p ∙ bad s 1 (omega arith) 0x80 0xbf 1 q
+  by_two false b p q e = bad s 0 (omega arith) lo hi 2 p
+
+  pub no_third : (between lo hi (get_or s 0 0) && between 0x80 0xbf (get_or s 1 0)) ≡ false → followers 3 lo hi s ≡ false
+  no_third e = by_two _ _ refl refl e
 
 -- the lead bytes of quick runs: of all their followers the bounds are 80 and bf
 lead_pair : (b : ℕ) → 0xc2 ≤ b → b ≤ 0xdf → lead b ≡ Follow 1 0x80 0xbf
@@ -75,22 +86,19 @@ unfolding lead
 lead_triple b l h =
     simp (lt-leb b 0x7f (omega arith), le-leb 0xc2 b (omega arith), lt-leb b 0xdf (omega arith), ne_eqb b 0xe0 (λ x. omega arith), le-leb 0xe1 b l, le-leb b 0xec h)
 
--- a byte that is within its bounds
-bounded : (lo hi b : ℕ) → between lo hi b ≡ true → (lo ≤ b) × (b ≤ hi)
-bounded lo hi b e = let (l, h) = (and-eq-true_iff (leb lo b) (leb b hi)).0 e in (leb-true lo b l, leb-true b hi h)
+-- a follower by its bounds
+bounded : (b : ℕ) → 0x80 ≤ b → b ≤ 0xbf → between 0x80 0xbf b ≡ true
+bounded b l h = simp (le-leb 0x80 b l, le-leb b 0xbf h)
 
--- a run may test its lead bytes by any bounds that lie within the row
-module _ (s : List ℕ) (j lo hi : ℕ) (e : between lo hi (get_or s j 0) ≡ true) (f : between 0x80 0xbf (get_or s (j + 1) 0) ≡ true) where
-  char_pair : 0xc2 ≤ lo → hi ≤ 0xdf → j + 2 ≤ length s → 2 ≡ char (drop j s)
-  char_pair l u h =
-      let (a, b) = bounded lo hi (get_or s j 0) e in
-      stands s j (omega arith) (lead_pair _ (omega arith) (omega arith)) (sym (last s (j + 1) (omega arith) 0x80 0xbf) ∙ f)
+module _ (s : List ℕ) (j : ℕ) (l : 0x80 ≤ get_or s (j + 1) 0) (h : get_or s (j + 1) 0 ≤ 0xbf) where
+  char_pair : 0xc2 ≤ get_or s j 0 → get_or s j 0 ≤ 0xdf → j + 2 ≤ length s → 2 ≡ char (drop j s)
+  char_pair a b room = stands s j (omega arith) (lead_pair _ a b) (sym (last s (j + 1) (omega arith) 0x80 0xbf) ∙ bounded _ l h)
 
-  char_triple : 0xe1 ≤ lo → hi ≤ 0xec → j + 3 ≤ length s → between 0x80 0xbf (get_or s (j + 2) 0) ≡ true → 3 ≡ char (drop j s)
-  char_triple l u h g =
-      let (a, b) = bounded lo hi (get_or s j 0) e in
+  char_triple : 0xe1 ≤ get_or s j 0 → get_or s j 0 ≤ 0xec → 0x80 ≤ get_or s (j + 2) 0 → get_or s (j + 2) 0 ≤ 0xbf → j + 3 ≤ length s → 3 ≡ char (drop j s)
+  char_triple a b c d room =
       let there : get_or s (j + 1 + 1) 0 ≡ get_or s (j + 2) 0 = ap (λ (i : ℕ). get_or s i 0) (omega arith) in
-      stands s j (omega arith) (lead_triple _ (omega arith) (omega arith)) (good s (j + 1) (omega arith) 0x80 0xbf 1 f ∙ sym (last s (j + 1 + 1) (omega arith) 0x80 0xbf) ∙ rw there g)
+      stands s j (omega arith) (lead_triple _ a b)
+      (good s (j + 1) (omega arith) 0x80 0xbf 1 (bounded _ l h) ∙ sym (last s (j + 1 + 1) (omega arith) 0x80 0xbf) ∙ rw there (bounded _ c d))
 
 -- a run that has passed nothing
 pub stay : {s : List ℕ} (i : ℕ) → i ≤ length s → Passed s i i
@@ -115,12 +123,12 @@ module _ {s : List ℕ} {i j : ℕ} (p : Passed s i j) where
   ascii_byte h low = ascii 1 (omega arith) (λ k l. let e : j + k ≡ j = omega arith in rw e low)
 
   -- a character of two bytes more, and of three
-  module _ (lo hi : ℕ) (e : between lo hi (get_or s j 0) ≡ true) (f : between 0x80 0xbf (get_or s (j + 1) 0) ≡ true) where
-    pub pair : 0xc2 ≤ lo → hi ≤ 0xdf → j + 2 ≤ length s → Passed s i (j + 2)
-    pair l u h = character 2 (char_pair s j lo hi e f l u h) (omega arith)
+  pub pair : 0xc2 ≤ get_or s j 0 → get_or s j 0 ≤ 0xdf → 0x80 ≤ get_or s (j + 1) 0 → get_or s (j + 1) 0 ≤ 0xbf → j + 2 ≤ length s → Passed s i (j + 2)
+  pair a b l h room = character 2 (char_pair s j l h a b room) (omega arith)
 
-    pub triple : 0xe1 ≤ lo → hi ≤ 0xec → j + 3 ≤ length s → between 0x80 0xbf (get_or s (j + 2) 0) ≡ true → Passed s i (j + 3)
-    triple l u h g = character 3 (char_triple s j lo hi e f l u h g) (omega arith)
+  pub triple : 0xe1 ≤ get_or s j 0 → get_or s j 0 ≤ 0xec → 0x80 ≤ get_or s (j + 1) 0 → get_or s (j + 1) 0 ≤ 0xbf → 0x80 ≤ get_or s (j + 2) 0 → get_or s (j + 2) 0 ≤ 0xbf
+      → j + 3 ≤ length s → Passed s i (j + 3)
+  triple a b l h c d room = character 3 (char_triple s j l h a b c d room) (omega arith)
 
   -- what is valid from i on ends where it ends from j on; at j, if the bytes end there or no character stands there
   pub ends : {r : ℕ} → Ends s j r → Ends s i r
@@ -131,6 +139,21 @@ module _ {s : List ℕ} {i j : ℕ} (p : Passed s i j) where
 
   pub stopped : 0 ≡ char (drop j s) → Ends s i j
   stopped e = omega (arith, prefix_stop (drop j s) (sym e), p.same)
+
+  -- what is said of the byte at j: no character begins with it, or which followers it has
+  pub no_lead : j < length s → lead (get_or s j 0) ≡ NoLead → Ends s i j
+  unfolding behind
+  no_lead h e = stopped (sym (rw (char_at s j h, e)))
+
+  module _ {n lo hi : ℕ} (h : j < length s) (e : lead (get_or s j 0) ≡ Follow n lo hi) where
+    pub broken : followers n lo hi (take (length s - (j + 1)) (drop (j + 1) s)) ≡ false → Ends s i j
+    unfolding behind
+    broken f = stopped (sym (rw (char_at s j h, e, ← rest_is s (j + 1), f)))
+
+    pub judged : followers n lo hi (take (length s - (j + 1)) (drop (j + 1) s)) ≡ true → Passed s i (j + 1 + n)
+    judged f =
+        let place : j + (n + 1) ≡ j + 1 + n = omega arith in
+        rw place at (character (n + 1) (stands s j h e (ap (followers n lo hi) (sym (rest_is s (j + 1))) ∙ f)) (omega arith))
 
 -- at most eight bytes are left, and the last eight are ASCII
 pub ascii_last : (s : List ℕ) (i : ℕ) → i ≤ length s → length s ≤ i + 8 → Low 8 s (length s - 8) → Passed s i (length s)

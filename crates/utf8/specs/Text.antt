@@ -1,25 +1,18 @@
--- What the promises of `utf8` are stated with: the numbers of a lead byte in the definition's terms, tables of them, bytes taken at once
--- as a number, what a run over valid bytes has passed, and where they end.
+-- What the promises of `utf8` are stated with: what the table of lead bytes says in the definition's terms, bytes of ASCII, what a run over
+-- valid bytes has passed, and where they end.
 -- Assumes nothing: these are definitions. Only inner functions and loops cite it.
-use Rattle.std.specs.Prelude.{ℕ, zero, suc, ◌+◌, ◌*◌, ◌<◌, ◌≤◌, ◌≡◌, List, length, drop, get_or, leb, if◌then◌else◌}
+use Rattle.std.specs.Prelude.{ℕ, ◌+◌, ◌<◌, ◌≤◌, ◌≡◌, List, Option, Some, None, length, drop, get_or}
 use Rattle.spec.specs.Utf8 as spec
+use Rattle.utf8.specs.declared.leads.Lead.{Lead}
 
--- the most bytes that follow a lead byte
-abbrev pub most_followers : ℕ
-most_followers = 3
+-- what an entry of the table says, in the definition's terms: n bytes follow, the first between low and high; where there is none, no character begins with the byte
+unfoldable pub lead_of : Option Lead → spec.Lead
+lead_of (Some lead) = spec.Follow lead.followers lead.lowest lead.highest
+lead_of None = spec.NoLead
 
--- what the three numbers of a lead byte say: n bytes follow, the first between low and high; where n is above the most, no character begins with the byte
-unfoldable pub lead_of : ℕ → ℕ → ℕ → spec.Lead
-lead_of n low high = if leb n most_followers then spec.Follow n low high else spec.NoLead
-
--- three tables say of each byte what the definition's ranges say
-pub record Leads (counts lows highs : List ℕ) : Type 0 where
-  pub right : (b : ℕ) → b < 256 → lead_of (get_or counts b 0) (get_or lows b 0) (get_or highs b 0) ≡ spec.lead b
-
--- the n bytes from i on as one number, the first lowest
-unfoldable pub word : ℕ → List ℕ → ℕ → ℕ
-word zero s i = 0
-word (suc n) s i = word n s (i + 1) * 256 + get_or s i 0
+-- a table says of each byte what the definition's ranges say
+pub record Leads (table : List (Option Lead)) : Type 0 where
+  pub right : (b : ℕ) → b < 256 → lead_of (get_or table b None) ≡ spec.lead b
 
 -- the n bytes from i on are ASCII
 abbrev pub Low : ℕ → List ℕ → ℕ → Type 0

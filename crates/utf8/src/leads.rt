@@ -1,6 +1,5 @@
-// The lead bytes of UTF-8: what each of the 256 bytes says where a character begins, by the table of RFC 3629, section 4.
-// A byte's entry is three numbers, each in an array whose index is the byte: how many bytes follow, and the lowest and the highest that the first of them may be.
-// So after e0 come two bytes, the first from a0 to bf. These are the rows of the RFC, and the bytes that it leaves out:
+// The lead bytes of UTF-8: what each of the 256 bytes says where a character begins, by the table of RFC 3629, section 4. These are the rows of the RFC, and the
+// bytes that it leaves out:
 //
 //     lead byte   followers   first follower   later followers
 //     00..7f      0
@@ -15,145 +14,199 @@
 //     f4          3           80..8f           80..bf
 //     f5..ff      no lead byte
 //
-// Each array has these rows in this order, each row under its range. The formatter gives every number a line of its own; the byte stands beside it.
+// The array has these rows in this order, each row under its range. The formatter gives every entry a line of its own; the byte stands beside it.
 
-// The most bytes that follow a lead byte.
-pub(crate) const MOST_FOLLOWERS: u8 = 3;
+// What a lead byte says: how many bytes follow, and the lowest and the highest that the first of them may be.
+#[derive(Clone, Copy, Debug, PartialEq, Eq)]
+pub(crate) struct Lead {
+    pub(crate) followers: u8,
+    pub(crate) lowest: u8,
+    pub(crate) highest: u8,
+}
 
-// In the place of a number of followers: no character begins with this byte. Its bounds stand for nothing, and those of ASCII too.
-const NO_LEAD: u8 = 0xff;
+// No character begins with such a byte.
+const NO_LEAD: Option<Lead> = None;
 
-// How many bytes follow.
-pub(crate) const FOLLOWERS: [u8; 256] = [
+// No byte follows, so the bounds stand for nothing.
+const ASCII: Option<Lead> = Some(Lead {
+    followers: 0,
+    lowest: 0x80,
+    highest: 0xbf,
+});
+
+const TWO_BYTES: Option<Lead> = Some(Lead {
+    followers: 1,
+    lowest: 0x80,
+    highest: 0xbf,
+});
+
+const THREE_BYTES: Option<Lead> = Some(Lead {
+    followers: 2,
+    lowest: 0x80,
+    highest: 0xbf,
+});
+
+const E0: Option<Lead> = Some(Lead {
+    followers: 2,
+    lowest: 0xa0,
+    highest: 0xbf,
+});
+
+const ED: Option<Lead> = Some(Lead {
+    followers: 2,
+    lowest: 0x80,
+    highest: 0x9f,
+});
+
+const FOUR_BYTES: Option<Lead> = Some(Lead {
+    followers: 3,
+    lowest: 0x80,
+    highest: 0xbf,
+});
+
+const F0: Option<Lead> = Some(Lead {
+    followers: 3,
+    lowest: 0x90,
+    highest: 0xbf,
+});
+
+const F4: Option<Lead> = Some(Lead {
+    followers: 3,
+    lowest: 0x80,
+    highest: 0x8f,
+});
+
+// What each byte says; the index is the byte.
+pub(crate) static LEADS: [Option<Lead>; 256] = [
     // 00..7f
-    0, // 00
-    0, // 01
-    0, // 02
-    0, // 03
-    0, // 04
-    0, // 05
-    0, // 06
-    0, // 07
-    0, // 08
-    0, // 09
-    0, // 0a
-    0, // 0b
-    0, // 0c
-    0, // 0d
-    0, // 0e
-    0, // 0f
-    0, // 10
-    0, // 11
-    0, // 12
-    0, // 13
-    0, // 14
-    0, // 15
-    0, // 16
-    0, // 17
-    0, // 18
-    0, // 19
-    0, // 1a
-    0, // 1b
-    0, // 1c
-    0, // 1d
-    0, // 1e
-    0, // 1f
-    0, // 20
-    0, // 21
-    0, // 22
-    0, // 23
-    0, // 24
-    0, // 25
-    0, // 26
-    0, // 27
-    0, // 28
-    0, // 29
-    0, // 2a
-    0, // 2b
-    0, // 2c
-    0, // 2d
-    0, // 2e
-    0, // 2f
-    0, // 30
-    0, // 31
-    0, // 32
-    0, // 33
-    0, // 34
-    0, // 35
-    0, // 36
-    0, // 37
-    0, // 38
-    0, // 39
-    0, // 3a
-    0, // 3b
-    0, // 3c
-    0, // 3d
-    0, // 3e
-    0, // 3f
-    0, // 40
-    0, // 41
-    0, // 42
-    0, // 43
-    0, // 44
-    0, // 45
-    0, // 46
-    0, // 47
-    0, // 48
-    0, // 49
-    0, // 4a
-    0, // 4b
-    0, // 4c
-    0, // 4d
-    0, // 4e
-    0, // 4f
-    0, // 50
-    0, // 51
-    0, // 52
-    0, // 53
-    0, // 54
-    0, // 55
-    0, // 56
-    0, // 57
-    0, // 58
-    0, // 59
-    0, // 5a
-    0, // 5b
-    0, // 5c
-    0, // 5d
-    0, // 5e
-    0, // 5f
-    0, // 60
-    0, // 61
-    0, // 62
-    0, // 63
-    0, // 64
-    0, // 65
-    0, // 66
-    0, // 67
-    0, // 68
-    0, // 69
-    0, // 6a
-    0, // 6b
-    0, // 6c
-    0, // 6d
-    0, // 6e
-    0, // 6f
-    0, // 70
-    0, // 71
-    0, // 72
-    0, // 73
-    0, // 74
-    0, // 75
-    0, // 76
-    0, // 77
-    0, // 78
-    0, // 79
-    0, // 7a
-    0, // 7b
-    0, // 7c
-    0, // 7d
-    0, // 7e
-    0, // 7f
+    ASCII, // 00
+    ASCII, // 01
+    ASCII, // 02
+    ASCII, // 03
+    ASCII, // 04
+    ASCII, // 05
+    ASCII, // 06
+    ASCII, // 07
+    ASCII, // 08
+    ASCII, // 09
+    ASCII, // 0a
+    ASCII, // 0b
+    ASCII, // 0c
+    ASCII, // 0d
+    ASCII, // 0e
+    ASCII, // 0f
+    ASCII, // 10
+    ASCII, // 11
+    ASCII, // 12
+    ASCII, // 13
+    ASCII, // 14
+    ASCII, // 15
+    ASCII, // 16
+    ASCII, // 17
+    ASCII, // 18
+    ASCII, // 19
+    ASCII, // 1a
+    ASCII, // 1b
+    ASCII, // 1c
+    ASCII, // 1d
+    ASCII, // 1e
+    ASCII, // 1f
+    ASCII, // 20
+    ASCII, // 21
+    ASCII, // 22
+    ASCII, // 23
+    ASCII, // 24
+    ASCII, // 25
+    ASCII, // 26
+    ASCII, // 27
+    ASCII, // 28
+    ASCII, // 29
+    ASCII, // 2a
+    ASCII, // 2b
+    ASCII, // 2c
+    ASCII, // 2d
+    ASCII, // 2e
+    ASCII, // 2f
+    ASCII, // 30
+    ASCII, // 31
+    ASCII, // 32
+    ASCII, // 33
+    ASCII, // 34
+    ASCII, // 35
+    ASCII, // 36
+    ASCII, // 37
+    ASCII, // 38
+    ASCII, // 39
+    ASCII, // 3a
+    ASCII, // 3b
+    ASCII, // 3c
+    ASCII, // 3d
+    ASCII, // 3e
+    ASCII, // 3f
+    ASCII, // 40
+    ASCII, // 41
+    ASCII, // 42
+    ASCII, // 43
+    ASCII, // 44
+    ASCII, // 45
+    ASCII, // 46
+    ASCII, // 47
+    ASCII, // 48
+    ASCII, // 49
+    ASCII, // 4a
+    ASCII, // 4b
+    ASCII, // 4c
+    ASCII, // 4d
+    ASCII, // 4e
+    ASCII, // 4f
+    ASCII, // 50
+    ASCII, // 51
+    ASCII, // 52
+    ASCII, // 53
+    ASCII, // 54
+    ASCII, // 55
+    ASCII, // 56
+    ASCII, // 57
+    ASCII, // 58
+    ASCII, // 59
+    ASCII, // 5a
+    ASCII, // 5b
+    ASCII, // 5c
+    ASCII, // 5d
+    ASCII, // 5e
+    ASCII, // 5f
+    ASCII, // 60
+    ASCII, // 61
+    ASCII, // 62
+    ASCII, // 63
+    ASCII, // 64
+    ASCII, // 65
+    ASCII, // 66
+    ASCII, // 67
+    ASCII, // 68
+    ASCII, // 69
+    ASCII, // 6a
+    ASCII, // 6b
+    ASCII, // 6c
+    ASCII, // 6d
+    ASCII, // 6e
+    ASCII, // 6f
+    ASCII, // 70
+    ASCII, // 71
+    ASCII, // 72
+    ASCII, // 73
+    ASCII, // 74
+    ASCII, // 75
+    ASCII, // 76
+    ASCII, // 77
+    ASCII, // 78
+    ASCII, // 79
+    ASCII, // 7a
+    ASCII, // 7b
+    ASCII, // 7c
+    ASCII, // 7d
+    ASCII, // 7e
+    ASCII, // 7f
     // 80..c1
     NO_LEAD, // 80
     NO_LEAD, // 81
@@ -222,64 +275,64 @@ pub(crate) const FOLLOWERS: [u8; 256] = [
     NO_LEAD, // c0
     NO_LEAD, // c1
     // c2..df
-    1, // c2
-    1, // c3
-    1, // c4
-    1, // c5
-    1, // c6
-    1, // c7
-    1, // c8
-    1, // c9
-    1, // ca
-    1, // cb
-    1, // cc
-    1, // cd
-    1, // ce
-    1, // cf
-    1, // d0
-    1, // d1
-    1, // d2
-    1, // d3
-    1, // d4
-    1, // d5
-    1, // d6
-    1, // d7
-    1, // d8
-    1, // d9
-    1, // da
-    1, // db
-    1, // dc
-    1, // dd
-    1, // de
-    1, // df
+    TWO_BYTES, // c2
+    TWO_BYTES, // c3
+    TWO_BYTES, // c4
+    TWO_BYTES, // c5
+    TWO_BYTES, // c6
+    TWO_BYTES, // c7
+    TWO_BYTES, // c8
+    TWO_BYTES, // c9
+    TWO_BYTES, // ca
+    TWO_BYTES, // cb
+    TWO_BYTES, // cc
+    TWO_BYTES, // cd
+    TWO_BYTES, // ce
+    TWO_BYTES, // cf
+    TWO_BYTES, // d0
+    TWO_BYTES, // d1
+    TWO_BYTES, // d2
+    TWO_BYTES, // d3
+    TWO_BYTES, // d4
+    TWO_BYTES, // d5
+    TWO_BYTES, // d6
+    TWO_BYTES, // d7
+    TWO_BYTES, // d8
+    TWO_BYTES, // d9
+    TWO_BYTES, // da
+    TWO_BYTES, // db
+    TWO_BYTES, // dc
+    TWO_BYTES, // dd
+    TWO_BYTES, // de
+    TWO_BYTES, // df
     // e0
-    2, // e0
+    E0, // e0
     // e1..ec
-    2, // e1
-    2, // e2
-    2, // e3
-    2, // e4
-    2, // e5
-    2, // e6
-    2, // e7
-    2, // e8
-    2, // e9
-    2, // ea
-    2, // eb
-    2, // ec
+    THREE_BYTES, // e1
+    THREE_BYTES, // e2
+    THREE_BYTES, // e3
+    THREE_BYTES, // e4
+    THREE_BYTES, // e5
+    THREE_BYTES, // e6
+    THREE_BYTES, // e7
+    THREE_BYTES, // e8
+    THREE_BYTES, // e9
+    THREE_BYTES, // ea
+    THREE_BYTES, // eb
+    THREE_BYTES, // ec
     // ed
-    2, // ed
+    ED, // ed
     // ee..ef
-    2, // ee
-    2, // ef
+    THREE_BYTES, // ee
+    THREE_BYTES, // ef
     // f0
-    3, // f0
+    F0, // f0
     // f1..f3
-    3, // f1
-    3, // f2
-    3, // f3
+    FOUR_BYTES, // f1
+    FOUR_BYTES, // f2
+    FOUR_BYTES, // f3
     // f4
-    3, // f4
+    F4, // f4
     // f5..ff
     NO_LEAD, // f5
     NO_LEAD, // f6
@@ -292,546 +345,4 @@ pub(crate) const FOLLOWERS: [u8; 256] = [
     NO_LEAD, // fd
     NO_LEAD, // fe
     NO_LEAD, // ff
-];
-
-// The lowest that the first follower may be: 80, but a0 after e0 and 90 after f0.
-pub(crate) const LOWEST: [u8; 256] = [
-    // 00..7f
-    0x80, // 00
-    0x80, // 01
-    0x80, // 02
-    0x80, // 03
-    0x80, // 04
-    0x80, // 05
-    0x80, // 06
-    0x80, // 07
-    0x80, // 08
-    0x80, // 09
-    0x80, // 0a
-    0x80, // 0b
-    0x80, // 0c
-    0x80, // 0d
-    0x80, // 0e
-    0x80, // 0f
-    0x80, // 10
-    0x80, // 11
-    0x80, // 12
-    0x80, // 13
-    0x80, // 14
-    0x80, // 15
-    0x80, // 16
-    0x80, // 17
-    0x80, // 18
-    0x80, // 19
-    0x80, // 1a
-    0x80, // 1b
-    0x80, // 1c
-    0x80, // 1d
-    0x80, // 1e
-    0x80, // 1f
-    0x80, // 20
-    0x80, // 21
-    0x80, // 22
-    0x80, // 23
-    0x80, // 24
-    0x80, // 25
-    0x80, // 26
-    0x80, // 27
-    0x80, // 28
-    0x80, // 29
-    0x80, // 2a
-    0x80, // 2b
-    0x80, // 2c
-    0x80, // 2d
-    0x80, // 2e
-    0x80, // 2f
-    0x80, // 30
-    0x80, // 31
-    0x80, // 32
-    0x80, // 33
-    0x80, // 34
-    0x80, // 35
-    0x80, // 36
-    0x80, // 37
-    0x80, // 38
-    0x80, // 39
-    0x80, // 3a
-    0x80, // 3b
-    0x80, // 3c
-    0x80, // 3d
-    0x80, // 3e
-    0x80, // 3f
-    0x80, // 40
-    0x80, // 41
-    0x80, // 42
-    0x80, // 43
-    0x80, // 44
-    0x80, // 45
-    0x80, // 46
-    0x80, // 47
-    0x80, // 48
-    0x80, // 49
-    0x80, // 4a
-    0x80, // 4b
-    0x80, // 4c
-    0x80, // 4d
-    0x80, // 4e
-    0x80, // 4f
-    0x80, // 50
-    0x80, // 51
-    0x80, // 52
-    0x80, // 53
-    0x80, // 54
-    0x80, // 55
-    0x80, // 56
-    0x80, // 57
-    0x80, // 58
-    0x80, // 59
-    0x80, // 5a
-    0x80, // 5b
-    0x80, // 5c
-    0x80, // 5d
-    0x80, // 5e
-    0x80, // 5f
-    0x80, // 60
-    0x80, // 61
-    0x80, // 62
-    0x80, // 63
-    0x80, // 64
-    0x80, // 65
-    0x80, // 66
-    0x80, // 67
-    0x80, // 68
-    0x80, // 69
-    0x80, // 6a
-    0x80, // 6b
-    0x80, // 6c
-    0x80, // 6d
-    0x80, // 6e
-    0x80, // 6f
-    0x80, // 70
-    0x80, // 71
-    0x80, // 72
-    0x80, // 73
-    0x80, // 74
-    0x80, // 75
-    0x80, // 76
-    0x80, // 77
-    0x80, // 78
-    0x80, // 79
-    0x80, // 7a
-    0x80, // 7b
-    0x80, // 7c
-    0x80, // 7d
-    0x80, // 7e
-    0x80, // 7f
-    // 80..c1
-    0x80, // 80
-    0x80, // 81
-    0x80, // 82
-    0x80, // 83
-    0x80, // 84
-    0x80, // 85
-    0x80, // 86
-    0x80, // 87
-    0x80, // 88
-    0x80, // 89
-    0x80, // 8a
-    0x80, // 8b
-    0x80, // 8c
-    0x80, // 8d
-    0x80, // 8e
-    0x80, // 8f
-    0x80, // 90
-    0x80, // 91
-    0x80, // 92
-    0x80, // 93
-    0x80, // 94
-    0x80, // 95
-    0x80, // 96
-    0x80, // 97
-    0x80, // 98
-    0x80, // 99
-    0x80, // 9a
-    0x80, // 9b
-    0x80, // 9c
-    0x80, // 9d
-    0x80, // 9e
-    0x80, // 9f
-    0x80, // a0
-    0x80, // a1
-    0x80, // a2
-    0x80, // a3
-    0x80, // a4
-    0x80, // a5
-    0x80, // a6
-    0x80, // a7
-    0x80, // a8
-    0x80, // a9
-    0x80, // aa
-    0x80, // ab
-    0x80, // ac
-    0x80, // ad
-    0x80, // ae
-    0x80, // af
-    0x80, // b0
-    0x80, // b1
-    0x80, // b2
-    0x80, // b3
-    0x80, // b4
-    0x80, // b5
-    0x80, // b6
-    0x80, // b7
-    0x80, // b8
-    0x80, // b9
-    0x80, // ba
-    0x80, // bb
-    0x80, // bc
-    0x80, // bd
-    0x80, // be
-    0x80, // bf
-    0x80, // c0
-    0x80, // c1
-    // c2..df
-    0x80, // c2
-    0x80, // c3
-    0x80, // c4
-    0x80, // c5
-    0x80, // c6
-    0x80, // c7
-    0x80, // c8
-    0x80, // c9
-    0x80, // ca
-    0x80, // cb
-    0x80, // cc
-    0x80, // cd
-    0x80, // ce
-    0x80, // cf
-    0x80, // d0
-    0x80, // d1
-    0x80, // d2
-    0x80, // d3
-    0x80, // d4
-    0x80, // d5
-    0x80, // d6
-    0x80, // d7
-    0x80, // d8
-    0x80, // d9
-    0x80, // da
-    0x80, // db
-    0x80, // dc
-    0x80, // dd
-    0x80, // de
-    0x80, // df
-    // e0
-    0xa0, // e0
-    // e1..ec
-    0x80, // e1
-    0x80, // e2
-    0x80, // e3
-    0x80, // e4
-    0x80, // e5
-    0x80, // e6
-    0x80, // e7
-    0x80, // e8
-    0x80, // e9
-    0x80, // ea
-    0x80, // eb
-    0x80, // ec
-    // ed
-    0x80, // ed
-    // ee..ef
-    0x80, // ee
-    0x80, // ef
-    // f0
-    0x90, // f0
-    // f1..f3
-    0x80, // f1
-    0x80, // f2
-    0x80, // f3
-    // f4
-    0x80, // f4
-    // f5..ff
-    0x80, // f5
-    0x80, // f6
-    0x80, // f7
-    0x80, // f8
-    0x80, // f9
-    0x80, // fa
-    0x80, // fb
-    0x80, // fc
-    0x80, // fd
-    0x80, // fe
-    0x80, // ff
-];
-
-// The highest that the first follower may be: bf, but 9f after ed and 8f after f4.
-pub(crate) const HIGHEST: [u8; 256] = [
-    // 00..7f
-    0xbf, // 00
-    0xbf, // 01
-    0xbf, // 02
-    0xbf, // 03
-    0xbf, // 04
-    0xbf, // 05
-    0xbf, // 06
-    0xbf, // 07
-    0xbf, // 08
-    0xbf, // 09
-    0xbf, // 0a
-    0xbf, // 0b
-    0xbf, // 0c
-    0xbf, // 0d
-    0xbf, // 0e
-    0xbf, // 0f
-    0xbf, // 10
-    0xbf, // 11
-    0xbf, // 12
-    0xbf, // 13
-    0xbf, // 14
-    0xbf, // 15
-    0xbf, // 16
-    0xbf, // 17
-    0xbf, // 18
-    0xbf, // 19
-    0xbf, // 1a
-    0xbf, // 1b
-    0xbf, // 1c
-    0xbf, // 1d
-    0xbf, // 1e
-    0xbf, // 1f
-    0xbf, // 20
-    0xbf, // 21
-    0xbf, // 22
-    0xbf, // 23
-    0xbf, // 24
-    0xbf, // 25
-    0xbf, // 26
-    0xbf, // 27
-    0xbf, // 28
-    0xbf, // 29
-    0xbf, // 2a
-    0xbf, // 2b
-    0xbf, // 2c
-    0xbf, // 2d
-    0xbf, // 2e
-    0xbf, // 2f
-    0xbf, // 30
-    0xbf, // 31
-    0xbf, // 32
-    0xbf, // 33
-    0xbf, // 34
-    0xbf, // 35
-    0xbf, // 36
-    0xbf, // 37
-    0xbf, // 38
-    0xbf, // 39
-    0xbf, // 3a
-    0xbf, // 3b
-    0xbf, // 3c
-    0xbf, // 3d
-    0xbf, // 3e
-    0xbf, // 3f
-    0xbf, // 40
-    0xbf, // 41
-    0xbf, // 42
-    0xbf, // 43
-    0xbf, // 44
-    0xbf, // 45
-    0xbf, // 46
-    0xbf, // 47
-    0xbf, // 48
-    0xbf, // 49
-    0xbf, // 4a
-    0xbf, // 4b
-    0xbf, // 4c
-    0xbf, // 4d
-    0xbf, // 4e
-    0xbf, // 4f
-    0xbf, // 50
-    0xbf, // 51
-    0xbf, // 52
-    0xbf, // 53
-    0xbf, // 54
-    0xbf, // 55
-    0xbf, // 56
-    0xbf, // 57
-    0xbf, // 58
-    0xbf, // 59
-    0xbf, // 5a
-    0xbf, // 5b
-    0xbf, // 5c
-    0xbf, // 5d
-    0xbf, // 5e
-    0xbf, // 5f
-    0xbf, // 60
-    0xbf, // 61
-    0xbf, // 62
-    0xbf, // 63
-    0xbf, // 64
-    0xbf, // 65
-    0xbf, // 66
-    0xbf, // 67
-    0xbf, // 68
-    0xbf, // 69
-    0xbf, // 6a
-    0xbf, // 6b
-    0xbf, // 6c
-    0xbf, // 6d
-    0xbf, // 6e
-    0xbf, // 6f
-    0xbf, // 70
-    0xbf, // 71
-    0xbf, // 72
-    0xbf, // 73
-    0xbf, // 74
-    0xbf, // 75
-    0xbf, // 76
-    0xbf, // 77
-    0xbf, // 78
-    0xbf, // 79
-    0xbf, // 7a
-    0xbf, // 7b
-    0xbf, // 7c
-    0xbf, // 7d
-    0xbf, // 7e
-    0xbf, // 7f
-    // 80..c1
-    0xbf, // 80
-    0xbf, // 81
-    0xbf, // 82
-    0xbf, // 83
-    0xbf, // 84
-    0xbf, // 85
-    0xbf, // 86
-    0xbf, // 87
-    0xbf, // 88
-    0xbf, // 89
-    0xbf, // 8a
-    0xbf, // 8b
-    0xbf, // 8c
-    0xbf, // 8d
-    0xbf, // 8e
-    0xbf, // 8f
-    0xbf, // 90
-    0xbf, // 91
-    0xbf, // 92
-    0xbf, // 93
-    0xbf, // 94
-    0xbf, // 95
-    0xbf, // 96
-    0xbf, // 97
-    0xbf, // 98
-    0xbf, // 99
-    0xbf, // 9a
-    0xbf, // 9b
-    0xbf, // 9c
-    0xbf, // 9d
-    0xbf, // 9e
-    0xbf, // 9f
-    0xbf, // a0
-    0xbf, // a1
-    0xbf, // a2
-    0xbf, // a3
-    0xbf, // a4
-    0xbf, // a5
-    0xbf, // a6
-    0xbf, // a7
-    0xbf, // a8
-    0xbf, // a9
-    0xbf, // aa
-    0xbf, // ab
-    0xbf, // ac
-    0xbf, // ad
-    0xbf, // ae
-    0xbf, // af
-    0xbf, // b0
-    0xbf, // b1
-    0xbf, // b2
-    0xbf, // b3
-    0xbf, // b4
-    0xbf, // b5
-    0xbf, // b6
-    0xbf, // b7
-    0xbf, // b8
-    0xbf, // b9
-    0xbf, // ba
-    0xbf, // bb
-    0xbf, // bc
-    0xbf, // bd
-    0xbf, // be
-    0xbf, // bf
-    0xbf, // c0
-    0xbf, // c1
-    // c2..df
-    0xbf, // c2
-    0xbf, // c3
-    0xbf, // c4
-    0xbf, // c5
-    0xbf, // c6
-    0xbf, // c7
-    0xbf, // c8
-    0xbf, // c9
-    0xbf, // ca
-    0xbf, // cb
-    0xbf, // cc
-    0xbf, // cd
-    0xbf, // ce
-    0xbf, // cf
-    0xbf, // d0
-    0xbf, // d1
-    0xbf, // d2
-    0xbf, // d3
-    0xbf, // d4
-    0xbf, // d5
-    0xbf, // d6
-    0xbf, // d7
-    0xbf, // d8
-    0xbf, // d9
-    0xbf, // da
-    0xbf, // db
-    0xbf, // dc
-    0xbf, // dd
-    0xbf, // de
-    0xbf, // df
-    // e0
-    0xbf, // e0
-    // e1..ec
-    0xbf, // e1
-    0xbf, // e2
-    0xbf, // e3
-    0xbf, // e4
-    0xbf, // e5
-    0xbf, // e6
-    0xbf, // e7
-    0xbf, // e8
-    0xbf, // e9
-    0xbf, // ea
-    0xbf, // eb
-    0xbf, // ec
-    // ed
-    0x9f, // ed
-    // ee..ef
-    0xbf, // ee
-    0xbf, // ef
-    // f0
-    0xbf, // f0
-    // f1..f3
-    0xbf, // f1
-    0xbf, // f2
-    0xbf, // f3
-    // f4
-    0x8f, // f4
-    // f5..ff
-    0xbf, // f5
-    0xbf, // f6
-    0xbf, // f7
-    0xbf, // f8
-    0xbf, // f9
-    0xbf, // fa
-    0xbf, // fb
-    0xbf, // fc
-    0xbf, // fd
-    0xbf, // fe
-    0xbf, // ff
 ];

@@ -11,7 +11,8 @@ use Rattle.spec.specs.Names.{ends_early}
 use Rattle.spec.specs.Base.{Took, No, digit, found}
 use Rattle.spec.specs.Varint.{fixed, little}
 use Rattle.wire.specs.Answers.{as_read}
-use Rattle.wire.specs.declared.found.Found.TheVariants.{Refused}
+use Rattle.std.specs.Prelude.{Err}
+use Rattle.spec.specs.declared.refusals.Refusal.TheVariants.{EndsEarly}
 
 pub too_few : (n : ℕ) (s : List ℕ) → length s < n → fixed n s ≡ No ends_early
 unfolding fixed digit
@@ -19,7 +20,7 @@ too_few zero s h = absurd (omega arith)
 too_few (suc n) [] h = refl
 too_few (suc n) (b ∷ s) h = ap (digit 256 b) (too_few n s (omega arith))
 
-pub fixed_short : (n : ℕ) (s : List ℕ) (at : ℕ) → 0 < n → length s < at + n → as_read at (Refused ends_early) ≡ fixed n (drop at s)
+pub fixed_short : (n : ℕ) (s : List ℕ) (at : ℕ) → 0 < n → length s < at + n → as_read at (Err EndsEarly) ≡ fixed n (drop at s)
 fixed_short n s at some h = sym (too_few n (drop at s) (omega (arith, length-drop at s)))
 
 -- a byte at a position; j is the next

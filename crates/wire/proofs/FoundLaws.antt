@@ -17,9 +17,11 @@ use Rattle.spec.specs.Base.{Read, Took, No, digit, refusal, found, taken, filled
 use Rattle.spec.specs.Varint.{varint, encode, fixed}
 use Rattle.spec.proofs.Laws.{Takes, took, chosen, takes_varint, takes_fixed, takes_weaker}
 use Rattle.spec.proofs.VarintLaws.{top}
-use Rattle.wire.specs.Answers.{as_read}
+use Rattle.std.specs.Prelude.{Result, Ok, Err}
+use Rattle.spec.specs.declared.refusals.Refusal.{Refusal}
+use Rattle.spec.proofs.ToldLaws.{same_refusal}
+use Rattle.wire.specs.Answers.{as_read, value_at}
 use Rattle.wire.specs.declared.found.Found.{Found}
-use Rattle.wire.specs.declared.found.Found.TheVariants.{Value, Refused}
 
 -- ---- one answer for each promise
 
@@ -27,19 +29,19 @@ some_taken : {least most v n : ℕ} → Takes least most (Took v n) → (least �
 some_taken (took h j) = (h, j)
 
 -- what takes at least a byte has one answer
-one_finding : (at : ℕ) {most : ℕ} {r : Read} (p q : Found) → Takes 1 most r → as_read at p ≡ r → as_read at q ≡ r → p ≡ q
+one_finding : (at : ℕ) {most : ℕ} {r : Read} (p q : Result Found Refusal) → Takes 1 most r → as_read at p ≡ r → as_read at q ≡ r → p ≡ q
 unfolding refusal found taken
-one_finding at (Value v n) (Value u m) t e f =
-    let d : Took v (n - at) ≡ Took u (m - at) = e ∙ sym f in
-    ap₂ Value (ap found d) (omega (arith, ap taken d, some_taken (rw (← e) at t), some_taken (rw (← f) at t)))
-one_finding at (Value v n) (Refused k) t e f = let z : ◌≡◌ {A = ℕ} 0 1 = cc in absurd (omega arith)
-one_finding at (Refused j) (Value u m) t e f = let z : ◌≡◌ {A = ℕ} 0 1 = cc in absurd (omega arith)
-one_finding at (Refused j) (Refused k) t e f = ap Refused (ap refusal (e ∙ sym f))
+one_finding at (Ok f) (Ok g) t e d =
+    let h : Took f.value (f.next - at) ≡ Took g.value (g.next - at) = e ∙ sym d in
+    ap₂ value_at (ap found h) (omega (arith, ap taken h, some_taken (rw (← e) at t), some_taken (rw (← d) at t)))
+one_finding at (Ok f) (Err k) t e d = let z : ◌≡◌ {A = ℕ} 0 1 = cc in absurd (omega arith)
+one_finding at (Err j) (Ok g) t e d = let z : ◌≡◌ {A = ℕ} 0 1 = cc in absurd (omega arith)
+one_finding at (Err j) (Err k) t e d = ap Err (same_refusal (ap refusal (e ∙ sym d)))
 
-pub one_varint : (k last : ℕ) (s : List ℕ) (at : ℕ) (p q : Found) → as_read at p ≡ varint k last (drop at s) → as_read at q ≡ varint k last (drop at s) → p ≡ q
+pub one_varint : (k last : ℕ) (s : List ℕ) (at : ℕ) (p q : Result Found Refusal) → as_read at p ≡ varint k last (drop at s) → as_read at q ≡ varint k last (drop at s) → p ≡ q
 one_varint k last s at p q e f = one_finding at p q (takes_varint k last (drop at s)) e f
 
-pub one_fixed : (n : ℕ) (s : List ℕ) (at : ℕ) (p q : Found) → as_read at p ≡ fixed (suc n) (drop at s) → as_read at q ≡ fixed (suc n) (drop at s) → p ≡ q
+pub one_fixed : (n : ℕ) (s : List ℕ) (at : ℕ) (p q : Result Found Refusal) → as_read at p ≡ fixed (suc n) (drop at s) → as_read at q ≡ fixed (suc n) (drop at s) → p ≡ q
 one_fixed n s at p q e f = one_finding at {most = length (drop at s)} p q (takes_weaker (omega arith) (omega arith) (takes_fixed (suc n) (drop at s))) e f
 
 -- the promises that name their answer: zigzag on patterns, `extend32`, the size
@@ -96,7 +98,7 @@ pub record Placed (most : ℕ) (s : List ℕ) (at v next : ℕ) : Type 0 where
   pub inside : next ≤ length s
   pub small : v < most
 
-placed : {most at v next : ℕ} (s : List ℕ) {f : Found} {r : Read} → Takes 1 (length (drop at s)) r → Below most r → as_read at f ≡ r → f ≡ Value v next
+placed : {most at v next : ℕ} (s : List ℕ) {f : Result Found Refusal} {r : Read} → Takes 1 (length (drop at s)) r → Below most r → as_read at f ≡ r → f ≡ value_at v next
     → Placed most s at v next
 placed {at = at} {v} {next} s t b p e =
     let q : Took v (next - at) ≡ _ = ap (as_read at) (sym e) ∙ p in
@@ -107,13 +109,13 @@ placed {at = at} {v} {next} s t b p e =
     lower (low h) = h
 
 -- a varint's, below 2 ^ 64 for 9 and 1, and below 2 ^ 32 for 4 and 15
-pub varint_placed : (k last : ℕ) (s : List ℕ) (at : ℕ) {f : Found} {v next : ℕ} → as_read at f ≡ varint k last (drop at s) → f ≡ Value v next
+pub varint_placed : (k last : ℕ) (s : List ℕ) (at : ℕ) {f : Result Found Refusal} {v next : ℕ} → as_read at f ≡ varint k last (drop at s) → f ≡ value_at v next
     → Placed (top k last) s at v next
 varint_placed k last s at p e = placed s (takes_varint k last (drop at s)) (varint_below k last (drop at s)) p e
 
 -- a fixed value's, of a slice of bytes
-pub fixed_placed : (n : ℕ) (s : List ℕ) (at : ℕ) → ((i : ℕ) → Fits w8 (get_or s i 0)) → {f : Found} {v next : ℕ} → as_read at f ≡ fixed (suc n) (drop at s)
-    → f ≡ Value v next → Placed (256 ^ suc n) s at v next
+pub fixed_placed : (n : ℕ) (s : List ℕ) (at : ℕ) → ((i : ℕ) → Fits w8 (get_or s i 0)) → {f : Result Found Refusal} {v next : ℕ} → as_read at f ≡ fixed (suc n) (drop at s)
+    → f ≡ value_at v next → Placed (256 ^ suc n) s at v next
 fixed_placed n s at h p e =
     placed s (takes_weaker (omega arith) (omega arith) (takes_fixed (suc n) (drop at s)))
     (fixed_below (suc n) (drop at s) (λ i. rw get_or-drop (h (at + i)))) p e

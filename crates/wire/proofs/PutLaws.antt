@@ -9,20 +9,19 @@ use lib.Seq.{sets, sets-eq}
 use borrow.Author.Tests.{le-leb, lt-leb}
 use Rattle.spec.specs.Base.{filled}
 use Rattle.wire.specs.Answers.{Stored}
-use Rattle.wire.specs.declared.put.Put.{Put}
-use Rattle.wire.specs.declared.put.Put.TheVariants.{Next, NoRoom}
+use Rattle.std.specs.Prelude.{Option, Some, None}
 
-pub no_room : {before : List ℕ} {at : ℕ} {bytes : List ℕ} → length before < at + length bytes → Stored before at bytes before NoRoom
+pub no_room : {before : List ℕ} {at : ℕ} {bytes : List ℕ} → length before < at + length bytes → Stored before at bytes before None
 no_room h = let no' = lt-leb _ _ h in record { says = simp no'; leaves = simp no' }
 
 pub in_place : {before after bytes : List ℕ} {at next : ℕ} → at + length bytes ≤ length before → next ≡ at + length bytes
-    → after ≡ sets before at bytes → Stored before at bytes after (Next next)
+    → after ≡ sets before at bytes → Stored before at bytes after (Some next)
 in_place {before} {bytes = bytes} {at} h e s =
     let yes' = le-leb _ _ h in
-    record { says = simp yes' (ap Next e); leaves = simp yes' (s ∙ sets-eq bytes before at h) }
+    record { says = simp yes' (ap Some e); leaves = simp yes' (s ∙ sets-eq bytes before at h) }
 
 -- any two answers that the promise allows are equal, and so are the slices
-pub one_storing : {before bytes x y : List ℕ} {at : ℕ} {p q : Put} → Stored before at bytes x p → Stored before at bytes y q → (p ≡ q) × (x ≡ y)
+pub one_storing : {before bytes x y : List ℕ} {at : ℕ} {p q : Option ℕ} → Stored before at bytes x p → Stored before at bytes y q → (p ≡ q) × (x ≡ y)
 one_storing s t = (s.says ∙ sym t.says, s.leaves ∙ sym t.leaves)
 
 -- storing at the front

@@ -10,13 +10,13 @@ use mathlib.Core.List.{List}
 use lib.ListN.{length, get_or, drop, drop_of_length-le}
 use lib.Seq.{drop-cons}
 use borrow.Author.Tests.{le-leb, lt-leb}
-use Rattle.spec.specs.Names.{bad_varint, ends_early}
 use Rattle.spec.specs.Base.{Read, Took, No, digit, meaning, longer}
 use Rattle.spec.specs.Varint.{varint}
 use Rattle.spec.proofs.VarintLaws.{varint_ends, varint_goes_on}
 use Rattle.wire.specs.Reached.{Reached, varint_of}
-use Rattle.wire.specs.Answers.{as_read}
-use Rattle.wire.specs.declared.found.Found.TheVariants.{Value, Refused}
+use Rattle.std.specs.Prelude.{Err}
+use Rattle.spec.specs.declared.refusals.Refusal.TheVariants.{EndsEarly, BadVarint}
+use Rattle.wire.specs.Answers.{as_read, value_at}
 
 -- a digit after n bytes, and what is read after it
 passed : (n value d : ℕ) (r : Read)
@@ -44,14 +44,14 @@ begin more last s at =
 
 module _ {more last : ℕ} {s : List ℕ} {at n value : ℕ} where
   -- the bytes end
-  pub ended : {left : ℕ} → Reached more last s at n left value → length s ≤ at + n → as_read at (Refused ends_early) ≡ varint more last (drop at s)
+  pub ended : {left : ℕ} → Reached more last s at n left value → length s ≤ at + n → as_read at (Err EndsEarly) ≡ varint more last (drop at s)
   unfolding varint longer meaning
   ended h out = sym (h.same ∙ simp (drop_of_length-le s out))
 
   module _ (inside : at + n < length s) where
     -- a byte that ends the varint, where another might follow
     pub stopped : {left : ℕ} → Reached more last s at n (suc left) value → get_or s (at + n) 0 < 128
-        → as_read at (Value (value + get_or s (at + n) 0 % 128 * 128 ^ n) (at + (n + 1))) ≡ varint more last (drop at s)
+        → as_read at (value_at (value + get_or s (at + n) 0 % 128 * 128 ^ n) (at + (n + 1))) ≡ varint more last (drop at s)
     unfolding longer meaning
     stopped {left} h small =
         let b = get_or s (at + n) 0 in
@@ -75,17 +75,17 @@ module _ {more last : ℕ} {s : List ℕ} {at n value : ℕ} where
 
     -- the byte after which none may come
     pub took_last : Reached more last s at n 0 value → get_or s (at + n) 0 ≤ last
-        → as_read at (Value (value + get_or s (at + n) 0 * 128 ^ n) (at + (n + 1))) ≡ varint more last (drop at s)
+        → as_read at (value_at (value + get_or s (at + n) 0 * 128 ^ n) (at + (n + 1))) ≡ varint more last (drop at s)
     unfolding varint longer meaning
     took_last h small = sym (h.same ∙ simp (drop-cons s (at + n) 0 inside, le-leb (get_or s (at + n) 0) last small) (ap₂ Took refl (omega arith)))
 
-    pub refused_last : Reached more last s at n 0 value → last < get_or s (at + n) 0 → as_read at (Refused bad_varint) ≡ varint more last (drop at s)
+    pub refused_last : Reached more last s at n 0 value → last < get_or s (at + n) 0 → as_read at (Err BadVarint) ≡ varint more last (drop at s)
     unfolding varint longer meaning
     refused_last h large = sym (h.same ∙ simp (drop-cons s (at + n) 0 inside, lt-leb (get_or s (at + n) 0) last large))
 
 -- the first byte
 module _ (more last : ℕ) (s : List ℕ) (at : ℕ) (inside : at < length s) where
-  pub one_byte : get_or s at 0 < 128 → as_read at (Value (get_or s at 0) (at + 1)) ≡ varint (suc more) last (drop at s)
+  pub one_byte : get_or s at 0 < 128 → as_read at (value_at (get_or s at 0) (at + 1)) ≡ varint (suc more) last (drop at s)
   one_byte small =
       let next : at + 1 - at ≡ 1 = omega arith in
       rw (drop-cons s at 0 inside, next) (sym (varint_ends more last (get_or s at 0) (drop (suc at) s) small))

@@ -1,4 +1,5 @@
-// Fixed values: four or eight bytes, the lowest first. Four bytes that are summed up, or stored side by side, are one load or store of the machine.
+// Fixed values: four or eight bytes, the lowest first. Four bytes that are summed up, or stored side by side, are one load or store of the machine. Each width has
+// public names and promises of its own: one function over the width would be no plainer.
 ghost use Rattle.std.specs.Prelude.{◌≡◌, ◌+◌, ◌^◌, ◌≤◌, ◌<◌, length, drop};
 ghost use Rattle.std.proofs.lemmas.List.Edits.{sets};
 ghost use Rattle.spec.specs.Base.{Took};
@@ -7,8 +8,7 @@ ghost use Rattle.spec.specs.Kind.{extend};
 ghost use Rattle.wire.specs.Answers.{as_read, Stored};
 
 use crate::found::Found;
-use crate::put::Put;
-use spec::refusals;
+use spec::refusals::Refusal;
 
 // The number of four bytes.
 fn four(s: &[u8], at: usize) -> u64
@@ -22,34 +22,38 @@ fn four(s: &[u8], at: usize) -> u64
     b0 + b1 * 256 + b2 * 0x1_0000 + b3 * 0x100_0000
 }
 
-pub fn decode_fixed32(s: &[u8], at: usize) -> Found
+pub fn decode_fixed32(s: &[u8], at: usize) -> Result<Found, Refusal>
     ensures { as_read at result ≡ fixed 4 (drop at s.now) }
 {
     if s.len() < at {
-        return Found::Refused(refusals::ENDS_EARLY);
+        return Err(Refusal::EndsEarly);
     }
     if s.len() - at < 4 {
-        return Found::Refused(refusals::ENDS_EARLY);
+        return Err(Refusal::EndsEarly);
     }
     let value = four(s, at);
-    let next = at + 4;
-    Found::Value { value, next }
+    Ok(Found {
+        value,
+        next: at + 4,
+    })
 }
 
-pub fn decode_fixed64(s: &[u8], at: usize) -> Found
+pub fn decode_fixed64(s: &[u8], at: usize) -> Result<Found, Refusal>
     ensures { as_read at result ≡ fixed 8 (drop at s.now) }
 {
     if s.len() < at {
-        return Found::Refused(refusals::ENDS_EARLY);
+        return Err(Refusal::EndsEarly);
     }
     if s.len() - at < 8 {
-        return Found::Refused(refusals::ENDS_EARLY);
+        return Err(Refusal::EndsEarly);
     }
     let low = four(s, at);
     let high = four(s, at + 4);
     let value = low + high * 0x1_0000_0000;
-    let next = at + 8;
-    Found::Value { value, next }
+    Ok(Found {
+        value,
+        next: at + 8,
+    })
 }
 
 // The 64-bit pattern of a signed number of 32 bits.
@@ -76,31 +80,29 @@ fn store_four(value: u64, out: &mut [u8], at: usize)
     out[at + 3] = (v3 % 256) as u8;
 }
 
-pub fn put_fixed32(value: u32, out: &mut [u8], at: usize) -> Put
+pub fn put_fixed32(value: u32, out: &mut [u8], at: usize) -> Option<usize>
     ensures { Stored out.old at (little 4 value) out.new result }
 {
     if out.len() < at {
-        return Put::NoRoom;
+        return None;
     }
     if out.len() - at < 4 {
-        return Put::NoRoom;
+        return None;
     }
     store_four(value as u64, out, at);
-    let next = at + 4;
-    Put::Next(next)
+    Some(at + 4)
 }
 
-pub fn put_fixed64(value: u64, out: &mut [u8], at: usize) -> Put
+pub fn put_fixed64(value: u64, out: &mut [u8], at: usize) -> Option<usize>
     ensures { Stored out.old at (little 8 value) out.new result }
 {
     if out.len() < at {
-        return Put::NoRoom;
+        return None;
     }
     if out.len() - at < 8 {
-        return Put::NoRoom;
+        return None;
     }
     store_four(value, out, at);
     store_four(value / 0x1_0000_0000, out, at + 4);
-    let next = at + 8;
-    Put::Next(next)
+    Some(at + 8)
 }

@@ -6,6 +6,7 @@ ghost use Rattle.spec.specs.Varint.{good_tag, make_tag};
 ghost use Rattle.spec.specs.Kind.{kind_wires, wires, wire};
 ghost use Rattle.wire.specs.FormatTold.{wire_number, wire_told, tag_value, tag_told, size_told};
 
+use spec::refusals::Refusal;
 use spec::{kinds, limits, wire_types};
 
 // The largest field number, and the most bytes of a message.
@@ -122,7 +123,7 @@ pub fn wire_of(kind: u32) -> u8
 }
 
 // All wire types that a tag may have.
-#[derive(Clone, Copy)]
+#[derive(Clone, Copy, Debug, PartialEq, Eq)]
 pub enum WireType {
     Varint,
     Fixed64,
@@ -132,106 +133,83 @@ pub enum WireType {
     Fixed32,
 }
 
-// A wire type, or none.
-#[derive(Drop)]
-pub enum MaybeWireType {
-    Known(WireType),
-    Unknown,
-}
-
 impl WireType {
     // The wire type of this number, if there is one.
-    pub fn new(n: u32) -> MaybeWireType
+    pub fn new(n: u32) -> Option<WireType>
         ensures { wire_told result ≡ (if leb n fixed32_wire then n else no_wire) }
     {
         match n {
-            VARINT => MaybeWireType::Known(WireType::Varint),
-            FIXED64 => MaybeWireType::Known(WireType::Fixed64),
-            DELIMITED => MaybeWireType::Known(WireType::LengthDelimited),
-            START_GROUP => MaybeWireType::Known(WireType::StartGroup),
-            END_GROUP => MaybeWireType::Known(WireType::EndGroup),
-            FIXED32 => MaybeWireType::Known(WireType::Fixed32),
-            _ => MaybeWireType::Unknown,
+            VARINT => Some(WireType::Varint),
+            FIXED64 => Some(WireType::Fixed64),
+            DELIMITED => Some(WireType::LengthDelimited),
+            START_GROUP => Some(WireType::StartGroup),
+            END_GROUP => Some(WireType::EndGroup),
+            FIXED32 => Some(WireType::Fixed32),
+            _ => None,
         }
     }
 
     // The wire type of a kind of descriptor.proto, if there is such a kind.
-    pub fn for_type(kind: u32) -> MaybeWireType
+    pub fn for_type(kind: u32) -> Option<WireType>
         ensures { wire_told result ≡ get_or kind_wires kind no_wire }
     {
         if kind < OWN_KINDS {
             let n = KIND_WIRES[kind as usize];
             return WireType::new(n as u32);
         }
-        MaybeWireType::Unknown
+        None
     }
 
     // The number of a wire type.
     pub fn number(self) -> u32
         ensures { result ≡ wire_number self }
     {
-        match self {
-            WireType::Varint => VARINT,
-            WireType::Fixed64 => FIXED64,
-            WireType::LengthDelimited => DELIMITED,
-            WireType::StartGroup => START_GROUP,
-            WireType::EndGroup => END_GROUP,
-            WireType::Fixed32 => FIXED32,
-        }
+        self as u32
     }
 }
 
 // A field's number and wire type.
-#[derive(Clone, Copy)]
+#[derive(Clone, Copy, Debug, PartialEq, Eq)]
 pub struct Tag {
     pub field_number: u32,
     pub wire_type: WireType,
 }
 
-// A tag, or the refusal of a bad one.
-#[derive(Drop)]
-pub enum Tagged {
-    Tag(Tag),
-    BadTag,
-}
-
 impl Tag {
     // The tag that an integer is.
-    pub fn new(value: u32) -> Tagged
+    pub fn new(value: u32) -> Result<Tag, Refusal>
         ensures { tag_told result ≡ require bad_tag good_tag (Took value 0) }
     {
-        match WireType::new(value % 8) {
-            MaybeWireType::Known(wire_type) => {
-                let field_number = value / 8;
-                if field_number == 0 {
-                    return Tagged::BadTag;
-                }
-                Tagged::Tag(Tag {
-                    field_number,
-                    wire_type,
-                })
-            }
-            MaybeWireType::Unknown => Tagged::BadTag,
+        let Some(wire_type) = WireType::new(value % 8) else {
+            return Err(Refusal::BadTag);
+        };
+        let field_number = value / 8;
+        if field_number == 0 {
+            return Err(Refusal::BadTag);
         }
+        Ok(Tag {
+            field_number,
+            wire_type,
+        })
     }
 
     // The tag of a field number and a wire type's number.
-    pub fn make(number: u32, wire_type: u32) -> Tagged
+    pub fn make(number: u32, wire_type: u32) -> Result<Tag, Refusal>
         ensures { tag_told result ≡ make_tag number wire_type }
     {
         if number == 0 {
-            return Tagged::BadTag;
+            return Err(Refusal::BadTag);
         }
         if FIELD_NUMBER_MAX < number {
-            return Tagged::BadTag;
+            return Err(Refusal::BadTag);
         }
-        match WireType::new(wire_type) {
-            MaybeWireType::Known(known) => Tagged::Tag(Tag {
-                field_number: number,
-                wire_type: known,
-            }),
-            MaybeWireType::Unknown => Tagged::BadTag,
-        }
+        let Some(known) = WireType::new(wire_type) else {
+            return Err(Refusal::BadTag);
+        };
+        Ok(Tag {
+            field_number: number,
+            wire_type: known,
+        })
     }
 
     // The integer that a tag is written as. Of a field number that no tag has it can be above 32 bits.
@@ -255,20 +233,13 @@ impl Tag {
     }
 }
 
-// A size in bytes, or the refusal of one above the limit.
-#[derive(Drop)]
-pub enum Sized {
-    Size(u64),
-    TooLarge,
-}
-
 // A size that may be read or written.
-pub fn check_message_size(size: u64) -> Sized
+pub fn check_message_size(size: u64) -> Result<u64, Refusal>
     ensures { size_told result ≡ limited size }
 {
     if size <= MAX_MESSAGE_SIZE {
-        Sized::Size(size)
+        Ok(size)
     } else {
-        Sized::TooLarge
+        Err(Refusal::TooLarge)
     }
 }

@@ -1,4 +1,5 @@
-// Zigzag: 0, -1, 1, -2 .. are 0, 1, 2, 3 ... On the signed types, and on 64-bit patterns, in which a record holds a signed number.
+// Zigzag: 0, -1, 1, -2 .. are 0, 1, 2, 3 ... On the signed types, and on 64-bit patterns, in which a record holds a signed number. Each width has a name of its own,
+// as in the crate: one function over the type would be no plainer.
 ghost use Rattle.std.specs.Prelude.{◌≡◌};
 ghost use Rattle.std.specs.Int.{w64};
 ghost use Rattle.std.proofs.Common.{of_z};

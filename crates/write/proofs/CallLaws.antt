@@ -1,49 +1,52 @@
 -- Laws of the two calls: what the check says of a list, what the answer for a list without fault is by its size, and what a caller may rely on.
 -- Assumes nothing.
-use Prim.Native.Nat.{ℕ, ◌≤◌, ◌<◌}
+use Prim.Native.Nat.{ℕ, ◌≤◌}
 use native.Mathlib.Omega.{arith}
 use mathlib.Core.Path.{◌≡◌, refl, sym, ap, ◌∙◌}
-use mathlib.Core.Logic.{◌≢◌}
 use mathlib.Core.Option.{none}
 use mathlib.Core.Bool.{true}
 use mathlib.Core.List.{List, [], ◌∷◌}
 use lib.ListN.{length}
-use Rattle.spec.specs.Names.{output_short, too_large}
+use Rattle.std.specs.Prelude.{Result, Ok, Err}
+use Rattle.spec.specs.Told.{number_of, unwritten_of, written_number, written_size}
+use Rattle.spec.specs.declared.answers.Fault.{Fault}
+use Rattle.spec.specs.declared.answers.Unwritten.{Unwritten}
 use Rattle.spec.specs.Base.{filled, limit}
 use Rattle.spec.specs.Schema.{Schema, bad_schema}
 use Rattle.spec.specs.Record.{Record, records_of}
 use Rattle.spec.specs.Sizes.{size_of}
 use Rattle.spec.specs.Writing.{Fields, written, Verdict, Fine, Faulty, list_fault, list_check, Writing, Failed, number, size, index, output, judged, sized, writing, sizing}
+use Rattle.spec.proofs.ToldLaws.{refused, same_written}
 use Rattle.spec.proofs.VarintLaws.{lower_or_not}
 use Rattle.spec.proofs.SizeLaws.{Held, size_bytes, fine_held, Answered, wrote, short, above, faulty, sized_above, sized_short, sized_fits, writing_answered, output_refused}
 use Rattle.spec.proofs.ListLaws.{accepted}
 use Rattle.spec.proofs.RunLaws.{fine_passed}
 use Rattle.sizes.specs.SizeParts.{capped}
-use Rattle.write.specs.Answers.{answer_of_writing}
+use Rattle.sizes.specs.Answers.{Tells}
+use Rattle.sizes.proofs.AnswerLaws.{tells_as}
 use Rattle.write.specs.Backward.{Given}
-use Rattle.write.specs.declared.Answer.{Answer}
 
 -- ---- what a caller may rely on
 
 -- the answer and the output that a writing leaves
-abbrev pub Answers : Writing → Answer → (out out' : List ℕ) → Type 0
-Answers w a out out' = (a ≡ answer_of_writing w) × (out' ≡ output w out)
+abbrev pub Answers : Writing → Result ℕ Unwritten → (out out' : List ℕ) → Type 0
+Answers w a out out' = Tells w a × (out' ≡ output w out)
 
 -- any two answers to a call, and any two outputs, are equal
-pub one_answer : (w : Writing) (a b : Answer) (out x y : List ℕ) → Answers w a out x → Answers w b out y → (a ≡ b) × (x ≡ y)
-one_answer w a b out x y h g = (h.0 ∙ sym g.0, h.1 ∙ sym g.1)
+pub one_answer : (w : Writing) (a b : Result ℕ Unwritten) (out x y : List ℕ) → Answers w a out x → Answers w b out y → (a ≡ b) × (x ≡ y)
+one_answer w a b out x y h g = (same_written a b (h.0.number ∙ sym g.0.number) (h.0.size ∙ sym g.0.size) (h.0.index ∙ sym g.0.index), h.1 ∙ sym g.1)
 
 -- where nothing is refused, the bytes of the list are at the front of the output, the size is how many they are, and what is after them stays
-pub told_written : (sch : Schema) (room : ℕ) (payload : List ℕ) (rs : List Record) (out : List ℕ) → (answer_of_writing (writing sch room payload rs)).number ≡ 0
-    → ((answer_of_writing (writing sch room payload rs)).size ≡ length (written payload rs)) × (output (writing sch room payload rs) out ≡ filled (written payload rs) out)
-unfolding answer_of_writing number size output
-told_written sch room payload rs out e = go (writing_answered sch room payload rs) e
+pub told_written : (sch : Schema) (room : ℕ) (payload : List ℕ) (rs : List Record) (out : List ℕ) {r : Result ℕ Unwritten} → Tells (writing sch room payload rs) r → written_number r ≡ 0
+    → (written_size r ≡ length (written payload rs)) × (output (writing sch room payload rs) out ≡ filled (written payload rs) out)
+unfolding number size output
+told_written sch room payload rs out t z = go (writing_answered sch room payload rs) t z
   where
-    go : {w : Writing} → Answered room (written payload rs) w → number w ≡ 0 → (size w ≡ length (written payload rs)) × (output w out ≡ filled (written payload rs) out)
-    go (wrote h j) e = (refl, refl)
-    go (short h j) e = absurd (omega arith)
-    go (above h) e = absurd (omega arith)
-    go (faulty h j) e = absurd (omega arith)
+    go : {w : Writing} {r : Result ℕ Unwritten} → Answered room (written payload rs) w → Tells w r → written_number r ≡ 0 → (written_size r ≡ length (written payload rs)) × (output w out ≡ filled (written payload rs) out)
+    go (wrote h j) t z = (t.size, refl)
+    go (short h j) t z = absurd (omega (arith, t.number))
+    go (above h) t z = absurd (omega (arith, t.number))
+    go (faulty h j) t z = absurd (omega (arith, t.number))
 
 -- ---- what the check says
 
@@ -67,9 +70,9 @@ module _ (sch : Schema) (room : ℕ) (payload : List ℕ) (rs : List Record) whe
   unfolding writing judged
   writing_faulty e = ap (λ (v : Verdict). judged v (sized room (written payload rs))) e
 
-  pub told_faulty : {k i : ℕ} → list_check sch payload rs ≡ Faulty k i → answer_of_writing (writing sch room payload rs) ≡ record { number = k; size = 0; index = i }
-  unfolding answer_of_writing number size index
-  told_faulty e = ap answer_of_writing (writing_faulty e)
+  pub told_faulty : (f : Fault) → list_check sch payload rs ≡ Faulty (number_of f.refusal) f.index → Tells (writing sch room payload rs) (Err (unwritten_of f))
+  unfolding number size index
+  told_faulty f e = tells_as (writing_faulty e) (record { number = refl; size = refl; index = refl })
 
   pub output_faulty : {k i : ℕ} (out : List ℕ) → list_check sch payload rs ≡ Faulty k i → output (writing sch room payload rs) out ≡ out
   unfolding output
@@ -78,51 +81,33 @@ module _ (sch : Schema) (room : ℕ) (payload : List ℕ) (rs : List Record) whe
 -- ---- by its size
 
 module _ (room : ℕ) (b : List ℕ) where
-  -- the answer, from their size n, which is cut off above the limit
-  module _ (n : ℕ) (is : n ≡ capped (length b)) where
-    pub told_above : limit < n → record { number = too_large; size = 0; index = 0 } ≡ answer_of_writing (sized room b)
-    unfolding answer_of_writing number size index
-    told_above h = sym (ap answer_of_writing (sized_above room b (omega arith)))
-
-    pub told_short : n ≤ limit → room < n → record { number = output_short; size = n; index = 0 } ≡ answer_of_writing (sized room b)
-    unfolding answer_of_writing number size index
-    told_short h m = let same : n ≡ length b = omega arith in sym (rw same (ap answer_of_writing (sized_short room b (omega arith) (omega arith))))
-
-    pub told_fits : n ≤ limit → n ≤ room → record { number = 0; size = n; index = 0 } ≡ answer_of_writing (sized room b)
-    unfolding answer_of_writing number size index
-    told_fits h m = let same : n ≡ length b = omega arith in sym (rw same (ap answer_of_writing (sized_fits room b (omega arith) (omega arith))))
-
   -- what the answer says of the output then
-  pub sized_zero : {r : Answer} (out : List ℕ) → r ≡ answer_of_writing (sized room b) → r.number ≡ 0
-      → (r.size ≡ length b) × (length b ≤ room) × (output (sized room b) out ≡ filled b out)
-  unfolding answer_of_writing number size output
-  sized_zero {r} out e z =
-      let tells : number (sized room b) ≡ 0 = sym (ap (λ (a : Answer). a.number) e) ∙ z in
+  pub sized_ok : {n : ℕ} (out : List ℕ) → Tells (sized room b) (Ok n) → (n ≡ length b) × (length b ≤ room) × (output (sized room b) out ≡ filled b out)
+  unfolding number size output
+  sized_ok out t =
       lower_or_not limit (length b)
-      (λ l. absurd (omega (arith, sym (ap number (sized_above room b l)) ∙ tells)))
+      (λ l. absurd (omega (arith, t.number ∙ ap number (sized_above room b l))))
       (λ l. lower_or_not room (length b)
-      (λ m. absurd (omega (arith, sym (ap number (sized_short room b l m)) ∙ tells)))
-      (λ m. (ap (λ (a : Answer). a.size) e ∙ ap size (sized_fits room b l m), m, ap (λ (w : Writing). output w out) (sized_fits room b l m))))
+      (λ m. absurd (omega (arith, t.number ∙ ap number (sized_short room b l m))))
+      (λ m. (t.size ∙ ap size (sized_fits room b l m), m, ap (λ (w : Writing). output w out) (sized_fits room b l m))))
 
-  pub sized_refused : {r : Answer} (out : List ℕ) → r ≡ answer_of_writing (sized room b) → r.number ≢ 0 → output (sized room b) out ≡ out
-  unfolding answer_of_writing
-  sized_refused out e n = output_refused (sized room b) out (λ z. n (ap (λ (a : Answer). a.number) e ∙ z))
+  pub sized_err : {e : Unwritten} (out : List ℕ) → Tells (sized room b) (Err e) → output (sized room b) out ≡ out
+  sized_err {e} out t = output_refused (sized room b) out (λ z. let none : number_of e.refusal ≡ 0 = t.number ∙ z in absurd (omega (arith, refused e.refusal, none)))
 
 -- the answer from the size of a list whose contents lie in the payload, which is how many bytes it is written as
-pub by_written : (room : ℕ) (payload : List ℕ) (rs : List Record) {r : Answer} {n : ℕ} → Held payload rs
-    → ((s : List ℕ) → n ≡ capped (length s) → r ≡ answer_of_writing (sized room s)) → n ≡ capped (size_of rs) → r ≡ answer_of_writing (sized room (written payload rs))
+pub by_written : (room : ℕ) (payload : List ℕ) (rs : List Record) {r : Result ℕ Unwritten} {n : ℕ} → Held payload rs
+    → ((s : List ℕ) → n ≡ capped (length s) → Tells (sized room s) r) → n ≡ capped (size_of rs) → Tells (sized room (written payload rs)) r
 unfolding size_of written
 by_written room payload rs h told is = told (written payload rs) (is ∙ ap capped (size_bytes (length rs) true payload rs h))
 
 -- ---- the size call
 
 module _ (sch : Schema) (payload : List ℕ) (rs : List Record) where
-  pub size_faulty : {k i : ℕ} → list_check sch payload rs ≡ Faulty k i → record { number = k; size = 0; index = i } ≡ answer_of_writing (sizing sch payload rs)
+  pub size_faulty : (f : Fault) → list_check sch payload rs ≡ Faulty (number_of f.refusal) f.index → Tells (sizing sch payload rs) (Err (unwritten_of f))
   unfolding sizing
-  size_faulty e = sym (told_faulty sch limit payload rs e)
+  size_faulty f e = told_faulty sch limit payload rs f e
 
-  pub size_fine : {r : Answer} {n : ℕ} → list_check sch payload rs ≡ Fine → ((s : List ℕ) → n ≡ capped (length s) → r ≡ answer_of_writing (sized limit s)) → n ≡ capped (size_of rs) → r ≡ answer_of_writing (sizing sch payload rs)
+  pub size_fine : {r : Result ℕ Unwritten} {n : ℕ} → list_check sch payload rs ≡ Fine → ((s : List ℕ) → n ≡ capped (length s) → Tells (sized limit s) r) → n ≡ capped (size_of rs) → Tells (sizing sch payload rs) r
   unfolding sizing
   size_fine e is cut =
-      by_written limit payload rs (fine_held sch payload 0 (Fields 0 ∷ []) rs (check_fine sch payload rs e).1) is cut
-      ∙ sym (ap answer_of_writing (writing_fine sch limit payload rs e))
+      tells_as (writing_fine sch limit payload rs e) (by_written limit payload rs (fine_held sch payload 0 (Fields 0 ∷ []) rs (check_fine sch payload rs e).1) is cut)

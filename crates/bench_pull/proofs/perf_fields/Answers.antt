@@ -3,10 +3,10 @@ use mathlib.Core.Path.{sym, ap, ◌∙◌}
 use Rattle.bench_pull.specs.Fields.{total, fields}
 use Rattle.bench_pull.proofs.perf_fields.Goals as goal
 
-pub returns-in-All : goal.returns-in-All
+pub returns-in-Ok : goal.returns-in-Ok
 unfolding total fields
-returns-in-All c = ap total (sym c.in-All.is ∙ c.root.ensures)
+returns-in-Ok c = ap total (sym c.in-Ok.is ∙ c.root.ensures)
 
-pub returns-in-Part : goal.returns-in-Part
+pub returns-in-Err : goal.returns-in-Err
 unfolding total fields
-returns-in-Part c = ap total (sym c.in-Part.is ∙ c.root.ensures)
+returns-in-Err c = ap total (sym c.in-Err.is ∙ c.root.ensures)

@@ -1,25 +1,18 @@
 -- `entries::check_numbers` meets its contract. Assumes nothing.
 use Prim.Native.Nat.{ℕ}
-use mathlib.Core.Path.{ap, ap₂, ◌∙◌}
+use mathlib.Core.Path.{ap₂, ◌∙◌}
 use mathlib.Core.List.{List}
 use Rattle.spec.specs.Record.{records_of}
-use Rattle.spec.specs.Schema.{entries_of}
 use Rattle.spec.specs.Writing.{Verdict, list_check}
 use Rattle.spec.specs.declared.Entry.{Entry}
 use Rattle.entries.proofs.LentLaws.{alike_check}
-use Rattle.entries.proofs.NumbersLaws.{count_fits, made_alike}
+use Rattle.entries.proofs.NumbersLaws.{made_alike}
 use Rattle.entries.proofs.check_numbers.Goals as goal
-
-pub entries_from-entries-requires : goal.entries_from-entries-requires
-entries_from-entries-requires c = rw c.entry_count-count.ensures (count_fits _)
-
-pub lend_check-requires : goal.lend_check-requires
-lend_check-requires c = rw c.entry_count-count.ensures (count_fits _).0
 
 pub returns : goal.returns
 returns c =
     let a = c.args in
     let under : ℕ → List Entry → Verdict = λ types es. list_check (record { types = types; entries = es }) a.payload.now (records_of a.list.now) in
-    c.lend_check.ensures
-    ∙ ap₂ under c.type_count-known.ensures (c.entries_from-entries.ensures ∙ ap (λ (k : ℕ). entries_of k a.numbers.now) c.entry_count-count.ensures)
+    c.check.ensures
+    ∙ ap₂ under c.type_count.ensures c.made-entries.ensures
     ∙ alike_check (made_alike a.types a.numbers.now) a.payload.now (records_of a.list.now)

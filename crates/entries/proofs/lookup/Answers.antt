@@ -1,13 +1,12 @@
--- `entries::lookup` meets its contract: the place that is found so far, or else among the entries from i on, is the place that is found in all.
--- Assumes nothing.
-use Rattle.entries.proofs.LookupLaws.{starts, more, ends}
+-- `entries::lookup` meets its contract: the search goes over the entries from the first on. Assumes nothing.
+use Rattle.std.proofs.Common.{rules, tests}
+use Rattle.std.proofs.lemmas.Iterator.{YieldsList-from_slice}
+use Rattle.std.proofs.lemmas.Iterator.Search.{position_from_yields_List}
+use Rattle.entries.proofs.LookupLaws.{wanted, first_place}
 use Rattle.entries.proofs.lookup.Goals as goal
 
-pub loop-i-init : goal.loop-i-init
-loop-i-init c = starts c.args.entries.now c.args.owner c.args.number _ c.nothing-found.ensures
-
-pub loop-i-preserved : goal.loop-i-preserved
-loop-i-preserved c = more c.args.entries.now c.args.owner c.args.number c.loop-i.found c.seen-found.result c.loop-i.i c.loop-i-test.true c.loop-i.invariant c.seen-found.ensures
-
 pub returns : goal.returns
-returns c = ends c.args.entries.now c.args.owner c.args.number c.loop-i.found c.loop-i.i c.loop-i-test.false c.loop-i.invariant
+returns c =
+    let a = c.args in
+    first_place a.entries.now a.owner a.number _
+    (position_from_yields_List (wanted a.owner a.number) _ _ c.position.result c.position.ensures.ran (YieldsList-from_slice _ c.iter.ensures.rest) (λ x b q k. search (rules, tests)))

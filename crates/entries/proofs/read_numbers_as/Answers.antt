@@ -4,25 +4,18 @@ use mathlib.Core.Path.{ap, ap₂, ◌∙◌}
 use mathlib.Core.List.{List}
 use lib.ListN.{length}
 use Rattle.spec.specs.Record.{stride}
-use Rattle.spec.specs.Schema.{entries_of}
 use Rattle.spec.specs.Reading.{Reading, number, place, listed, room_after, reading_as}
 use Rattle.spec.specs.declared.Entry.{Entry}
 use Rattle.entries.proofs.LentLaws.{alike_reading}
-use Rattle.entries.proofs.NumbersLaws.{count_fits, made_alike}
+use Rattle.entries.proofs.NumbersLaws.{made_alike}
 use Rattle.entries.proofs.read_numbers_as.Goals as goal
-
-pub entries_from-entries-requires : goal.entries_from-entries-requires
-entries_from-entries-requires c = rw c.entry_count-count.ensures (count_fits _)
-
-pub lend_read-requires : goal.lend_read-requires
-lend_read-requires c = rw c.entry_count-count.ensures (count_fits _).0
 
 pub returns : goal.returns
 returns c =
     let a = c.args in
-    let h = c.lend_read.ensures in
+    let h = c.read_as.ensures in
     let under : ℕ → List Entry → Reading = λ types es. reading_as a.mode (record { types = types; entries = es }) (length a.room.now / stride) a.s.now in
     let same =
-    ap₂ under c.type_count-known.ensures (c.entries_from-entries.ensures ∙ ap (λ (k : ℕ). entries_of k a.numbers.now) c.entry_count-count.ensures)
+    ap₂ under c.type_count.ensures c.made-entries.ensures
     ∙ alike_reading (made_alike a.types a.numbers.now) a.mode (length a.room.now / stride) a.s.now in
     (h.0 ∙ ap number same, h.1 ∙ ap place same, h.2 ∙ ap (λ (q : Reading). length (listed q)) same, h.3 ∙ ap (λ (q : Reading). room_after q a.room.now) same)

@@ -1,26 +1,21 @@
 -- `schema::check` meets its contract. The loop's invariant: the entries passed are good and rise, so that the rest decides. Assumes nothing.
-use mathlib.Core.Path.{sym, ◌∙◌}
-use Rattle.schema.proofs.ValidLaws.{counts_wrong, here_first, here_end, here_whole, here_bad, here_next}
+use Rattle.std.proofs.Common.{arith, sym, ◌∙◌}
+use Rattle.schema.proofs.ValidLaws.{counts_wrong, chunk_five, here_first, here_end, here_bad, here_next}
 use Rattle.schema.proofs.check.Goals as goal
 
 pub returns-then-not-counts_ok : goal.returns-then-not-counts_ok
-returns-then-not-counts_ok c =
-    let a = c.args in
-    sym (counts_wrong a.types a.numbers.now (sym c.counts_ok.ensures ∙ c.if-not-counts_ok.true))
+returns-then-not-counts_ok c = sym (counts_wrong c.args.types c.args.numbers.now (sym c.counts_ok.ensures ∙ c.if-not-counts_ok.true))
 
-pub loop-i-init : goal.loop-i-init
-loop-i-init c =
-    let a = c.args in
-    here_first a.types a.numbers.now (sym c.counts_ok.ensures ∙ c.if-not-counts_ok.false)
+pub loop-e-init : goal.loop-e-init
+loop-e-init c = here_first c.args.types c.args.numbers.now (sym c.counts_ok.ensures ∙ c.if-not-counts_ok.false)
 
-pub five_at-f-requires : goal.five_at-f-requires
-five_at-f-requires c = here_whole c.loop-i.invariant c.loop-i-test.true
+pub returns-in_default : goal.returns-in_default
+returns-in_default c =
+    sym (here_bad c.loop-e.invariant (omega arith) (c.of.ensures ∙ chunk_five c.args.numbers.now c.as_chunks.ensures.front (omega arith)) c.in_default.ensures)
 
-pub returns-then-key-eq0 : goal.returns-then-key-eq0
-returns-then-key-eq0 c = sym (here_bad c.loop-i.invariant c.loop-i-test.true c.five_at-f.ensures c.next_key-key.ensures c.if-key-eq0.true)
-
-pub loop-i-preserved : goal.loop-i-preserved
-loop-i-preserved c = here_next c.loop-i.invariant c.loop-i-test.true c.five_at-f.ensures c.next_key-key.ensures c.if-key-eq0.false
+pub loop-e-preserved : goal.loop-e-preserved
+loop-e-preserved c =
+    here_next c.loop-e.invariant (omega arith) (c.of.ensures ∙ chunk_five c.args.numbers.now c.as_chunks.ensures.front (omega arith)) c.in-Some.ensures
 
 pub returns : goal.returns
-returns c = sym (here_end c.loop-i.invariant c.loop-i-test.false)
+returns c = sym (here_end c.loop-e.invariant (omega arith))

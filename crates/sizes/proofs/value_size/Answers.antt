@@ -5,7 +5,7 @@ use native.Mathlib.Omega.{arith}
 use borrow.Author.Tests.{ne_eqb}
 use Rattle.spec.specs.Names.{delimited_wire, fixed32_wire, fixed64_wire, varint_wire}
 use Rattle.spec.specs.Varint.{size}
-use Rattle.sizes.specs.SizeParts.{capped}
+use Rattle.sizes.specs.SizeParts.{capped, coded}
 use Rattle.sizes.proofs.ValueSizes.{value_by_wire, capped_varint}
 use Rattle.sizes.proofs.value_size.Goals as goal
 
@@ -13,7 +13,7 @@ pub returns-in-0 : goal.returns-in-0
 returns-in-0 c =
     let k : ℕ = c.args.kind in
     let v : ℕ = c.args.value in
-    c.compute_raw_varint64_size.ensures ∙ ap size c.coded_of.ensures ∙ capped_varint _
+    c.compute_raw_varint64_size.ensures ∙ ap size (c.coded_of.ensures ∙ ap (λ (n : ℕ). coded n v) c.from.ensures) ∙ capped_varint _
     ∙ ap capped (sym (value_by_wire k v varint_wire (sym c.in-0.is ∙ c.wire_of.ensures)))
 
 pub returns-in-1 : goal.returns-in-1

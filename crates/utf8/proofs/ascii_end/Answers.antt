@@ -3,9 +3,6 @@
 use Rattle.utf8.proofs.TextLaws.{stay, ascii_last}
 use Rattle.utf8.proofs.ascii_end.Goals as goal
 
-pub returns-then-s-lt8 : goal.returns-then-s-lt8
-returns-then-s-lt8 c = stay _ c.requires.0
-
 pub returns-then-ascii8 : goal.returns-then-ascii8
 returns-then-ascii8 c = ascii_last c.args.s.now c.args.i c.requires.0 c.requires.1 (c.ascii8.ensures c.if-ascii8.true)
 

@@ -2,8 +2,10 @@
 -- Assumes nothing.
 use native.Mathlib.Omega.{arith}
 use native.Mathlib.Nat.{add_assoc}
+use Rattle.utf8.specs.Text.{Passed}
 use Rattle.utf8.proofs.TextLaws.{stay, onward, ascii}
 use Rattle.utf8.proofs.ascii_words.Goals as goal
+use Rattle.utf8.proofs.ascii_words.Goals.{then-s-j-ge8+else-not-ascii8-3, else-s-j-ge8}
 
 pub loop-j-init : goal.loop-j-init
 loop-j-init c = stay _ c.requires
@@ -23,8 +25,10 @@ loop-j-preserved c =
 pub returns-then-not-ascii8-3 : goal.returns-then-not-ascii8-3
 returns-then-not-ascii8-3 c = c.loop-j.invariant
 
-pub returns-then-s-j-ge8 : goal.returns-then-s-j-ge8
-returns-then-s-j-ge8 c = onward (ascii c.loop-j.invariant 8 (omega arith) (c.ascii8-then-s-j-ge8.ensures c.if-not-ascii8-3.false)) c.ascii_end.ensures
-
 pub returns : goal.returns
-returns c = onward c.loop-j.invariant c.ascii_end-2.ensures
+returns c =
+    let near : Passed c.args.s.now c.args.i c.if-s-j-ge8.j = (elim c.if-s-j-ge8.branch [
+      | then-s-j-ge8+else-not-ascii8-3 w ↦ rw w.j-is (ascii c.loop-j.invariant 8 (omega arith) (w.ascii8-then-s-j-ge8.ensures w.if-not-ascii8-3.false))
+      | else-s-j-ge8 w ↦ rw w.j-is c.loop-j.invariant
+    ]) in
+    onward near c.ascii_end.ensures

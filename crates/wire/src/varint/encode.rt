@@ -6,7 +6,6 @@ ghost use Rattle.spec.specs.Varint.{encode, size};
 ghost use Rattle.wire.specs.Answers.{Stored};
 
 use super::LONGEST;
-use crate::put::Put;
 
 // The most bytes of a varint of 32 bits.
 const LONGEST_OF_32: usize = 5;
@@ -136,33 +135,31 @@ pub fn encode_varint32(value: u32, buf: &mut [u8; LONGEST_OF_32]) -> usize
 }
 
 // A varint of two or more bytes. Where ten bytes are left its size is not computed.
-fn put_long(value: u64, out: &mut [u8], at: usize) -> Put
+fn put_long(value: u64, out: &mut [u8], at: usize) -> Option<usize>
     ensures { Stored out.old at (encode value) out.new result }
 {
     if out.len() < at {
-        return Put::NoRoom;
+        return None;
     }
     let left = out.len() - at;
     if left < LONGEST {
         if left < encoded_varint64_len(value) {
-            return Put::NoRoom;
+            return None;
         }
     }
-    let next = store(value, out, at);
-    Put::Next(next)
+    Some(store(value, out, at))
 }
 
 // Stores it from `at` on, or leaves `out` as it was where there is no room.
-pub fn put_varint64(value: u64, out: &mut [u8], at: usize) -> Put
+pub fn put_varint64(value: u64, out: &mut [u8], at: usize) -> Option<usize>
     ensures { Stored out.old at (encode value) out.new result }
 {
     if value < 128 {
         if at < out.len() {
             out[at] = value as u8;
-            let next = at + 1;
-            return Put::Next(next);
+            return Some(at + 1);
         }
-        return Put::NoRoom;
+        return None;
     }
     put_long(value, out, at)
 }

@@ -2,31 +2,29 @@
 use native.Mathlib.Omega.{arith}
 use mathlib.Core.Path.{sym, ◌∙◌}
 use lib.ListN.{length}
+use Rattle.std.proofs.lemmas.Result.{err_from_is_err_and}
 use Rattle.spec.specs.Record.{records_of}
 use Rattle.spec.specs.Writing.{written}
-use Rattle.write.proofs.CallLaws.{by_written, sized_zero, sized_refused}
+use Rattle.write.proofs.CallLaws.{by_written, sized_ok, sized_err}
 use Rattle.write.proofs.write_checked.Goals as goal
+
+pub returns-in_err-size : goal.returns-in_err-size
+returns-in_err-size c =
+    let a = c.args in
+    let p = err_from_is_err_and c.from_residual.result c.from_residual.ensures.1 in
+    let t = by_written (length a.out.now) a.payload.now (records_of a.list.now) c.requires.held c.in_err-size.ensures c.list_size.ensures in
+    rw (p.1, p.2) (record { answer = t; output = sym (sized_err (length a.out.now) (written a.payload.now (records_of a.list.now)) a.out.now t) })
 
 pub put_list-requires : goal.put_list-requires
 put_list-requires c =
-    let out = c.args.out.now in
-    let payload = c.args.payload.now in
-    let rs = records_of c.args.list.now in
-    let h = sized_zero (length out) (written payload rs) out (by_written (length out) payload rs c.requires.held c.by_size-r.ensures c.list_size.ensures) (omega (arith, c.if-r-eq0.true)) in
-    (c.record_wires-table.ensures, c.requires, h.0, omega (arith, h.0, h.1))
+    let a = c.args in
+    let t = by_written (length a.out.now) a.payload.now (records_of a.list.now) c.requires.held c.in_ok-size.ensures c.list_size.ensures in
+    let h = sized_ok (length a.out.now) (written a.payload.now (records_of a.list.now)) a.out.now t in
+    (c.record_wires.ensures, c.requires, h.0, omega (arith, h.0, h.1))
 
-pub returns-then-r-eq0 : goal.returns-then-r-eq0
-returns-then-r-eq0 c =
-    let out = c.args.out.now in
-    let payload = c.args.payload.now in
-    let rs = records_of c.args.list.now in
-    let is = by_written (length out) payload rs c.requires.held c.by_size-r.ensures c.list_size.ensures in
-    (is, c.put_list.ensures ∙ sym (sized_zero (length out) (written payload rs) out is (omega (arith, c.if-r-eq0.true))).2)
-
-pub returns-else-r-eq0 : goal.returns-else-r-eq0
-returns-else-r-eq0 c =
-    let out = c.args.out.now in
-    let payload = c.args.payload.now in
-    let rs = records_of c.args.list.now in
-    let is = by_written (length out) payload rs c.requires.held c.by_size-r.ensures c.list_size.ensures in
-    (is, sym (sized_refused (length out) (written payload rs) out is (λ z. c.if-r-eq0.false (omega (arith, z)))))
+pub returns : goal.returns
+returns c =
+    let a = c.args in
+    let t = by_written (length a.out.now) a.payload.now (records_of a.list.now) c.requires.held c.in_ok-size.ensures c.list_size.ensures in
+    let h = sized_ok (length a.out.now) (written a.payload.now (records_of a.list.now)) a.out.now t in
+    record { answer = t; output = c.put_list.ensures ∙ sym h.2 }

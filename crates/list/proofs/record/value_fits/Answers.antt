@@ -19,5 +19,5 @@ returns-then-is_signed32 c = λ x e. fits_signed32 _ _ x e (omega arith) c.if-ki
 pub returns-then-is_unsigned32 : goal.returns-then-is_unsigned32
 returns-then-is_unsigned32 c = λ x e. fits_unsigned32 _ _ x e (omega arith) c.if-kind-eq-BOOL.false (sym c.is_signed32.ensures ∙ c.if-is_signed32.false) (sym c.is_unsigned32.ensures ∙ c.if-is_unsigned32.true)
 
-pub returns : goal.returns
-returns c = λ x e. fits_wide _ _ x e (omega arith) c.if-kind-eq-BOOL.false (sym c.is_signed32.ensures ∙ c.if-is_signed32.false) (sym c.is_unsigned32.ensures ∙ c.if-is_unsigned32.false)
+pub returns-else-is_unsigned32 : goal.returns-else-is_unsigned32
+returns-else-is_unsigned32 c = λ x e. fits_wide _ _ x e (omega arith) c.if-kind-eq-BOOL.false (sym c.is_signed32.ensures ∙ c.if-is_signed32.false) (sym c.is_unsigned32.ensures ∙ c.if-is_unsigned32.false)

@@ -1,6 +1,7 @@
 -- `list::run::elements` meets its contract. Assumes nothing.
 use Rattle.list.proofs.ElementTurn.{ahead, elements_end, elements_left, elements_other, elements_value, elements_turn}
 use Rattle.list.proofs.run.elements.Goals as goal
+use Rattle.list.proofs.run.elements.Goals.{then-list-at-2-via-then-list-at-2, then-list-at-2-via-else-list-at-2+then-list-at-3}
 
 -- the loop's fact and test, at each place in it
 pub loop-at-init : goal.loop-at-init
@@ -13,10 +14,9 @@ pub returns-then-list-at : goal.returns-then-list-at
 returns-then-list-at c = elements_left c.loop-at.invariant c.loop-at-test.true c.if-list-at.true
 
 pub returns-then-list-at-2 : goal.returns-then-list-at-2
-returns-then-list-at-2 c = elements_other c.loop-at.invariant c.loop-at-test.true c.if-list-at.false (λ n k. c.if-list-at-2.true n)
-
-pub returns-then-list-at-3 : goal.returns-then-list-at-3
-returns-then-list-at-3 c = elements_other c.loop-at.invariant c.loop-at-test.true c.if-list-at.false (λ n k. c.if-list-at-3.true k)
+returns-then-list-at-2 c =
+    elements_other c.loop-at.invariant c.loop-at-test.true c.if-list-at.false
+    (λ n k. elim c.then-list-at-2.branch [ then-list-at-2-via-then-list-at-2 w ↦ w.if-list-at-2.true n | then-list-at-2-via-else-list-at-2+then-list-at-3 w ↦ w.if-list-at-3.true k ])
 
 pub returns-then-not-value_fits : goal.returns-then-not-value_fits
 returns-then-not-value_fits c = elements_value c.loop-at.invariant c.loop-at-test.true c.if-list-at.false c.if-list-at-2.false c.if-list-at-3.false c.value_fits.ensures c.if-not-value_fits.true

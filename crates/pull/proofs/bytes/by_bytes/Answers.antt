@@ -1,5 +1,4 @@
 -- `pull::bytes::by_bytes` meets its contract, at any width. The loop's invariant: n bytes are passed, and `scale` is what the next one counts.
--- The measure is what is left of `more`.
 -- Assumes nothing.
 use Prim.Native.Nat.{ℕ, suc, ◌-◌, ◌+◌, ◌^◌}
 use native.Mathlib.Nat.{pow-suc}
@@ -7,8 +6,10 @@ use native.Mathlib.Numerals.{add-one}
 use native.Mathlib.Omega.{arith}
 use mathlib.Core.Path.{◌≡◌, refl, sym, ap, ◌∙◌}
 use lib.ListN.{get_or}
-use Rattle.wire.proofs.VarintSteps.{begin, ended, stopped, turned, took_last, refused_last, scale_below, digit_below, last_below}
+use Rattle.wire.specs.Reached.{Reached}
+use Rattle.wire.proofs.VarintSteps.{begin, ended, stopped, turned, took_last, refused_last, scale_below, digit_below}
 use Rattle.pull.proofs.bytes.by_bytes.Goals as goal
+use Rattle.pull.proofs.bytes.by_bytes.Goals.{After-loop-n}
 
 pub loop-n-init : goal.loop-n-init
 loop-n-init c =
@@ -33,7 +34,7 @@ pub returns-then-b-lt128 : goal.returns-then-b-lt128
 returns-then-b-lt128 c =
     let inv = c.loop-n.invariant in
     let more_left : c.args.more - c.loop-n.n ≡ suc (c.args.more - (c.loop-n.n + 1)) = omega arith in
-    rw inv.scaled (stopped (omega arith) (rw more_left at inv.reached) (omega (arith, c.if-b-lt128.true)))
+    rw inv.scaled (stopped (omega arith) (rw more_left at inv.reached) c.if-b-lt128.true)
 
 pub overflow_mul-scale : goal.overflow_mul-scale
 overflow_mul-scale c = rw c.loop-n.invariant.scaled (omega (arith, scale_below c.loop-n-test.true, c.requires.0))
@@ -45,32 +46,27 @@ loop-n-preserved c =
     record {
       some = omega arith;
       scaled = rw inv.scaled (sym (ap (λ (x : ℕ). 128 ^ x) (add-one _) ∙ pow-suc 128 _));
-      reached = rw inv.scaled (turned (omega arith) (rw more_left at inv.reached) (omega (arith, c.if-b-lt128.false)));
+      reached = rw inv.scaled (turned (omega arith) (rw more_left at inv.reached) c.if-b-lt128.false);
     }
 
-pub returns-then-size-n-2 : goal.returns-then-size-n-2
-returns-then-size-n-2 c = ended c.loop-n.invariant.reached (omega arith)
+pub returns-then-size-more : goal.returns-then-size-more
+returns-then-size-more c = ended c.loop-n.invariant.reached (omega arith)
 
 pub overflow_cast-b-2 : goal.overflow_cast-b-2
-overflow_cast-b-2 c = omega (arith, c.type_inv.s (c.args.at + c.loop-n.n))
+overflow_cast-b-2 c = omega (arith, c.type_inv.s (c.args.at + c.args.more))
 
 -- all bytes but the last are passed
-pub returns-then-last-b : goal.returns-then-last-b
-returns-then-last-b c =
-    let none_left : c.args.more - c.loop-n.n ≡ 0 = omega arith in
-    refused_last (omega arith) (rw none_left at c.loop-n.invariant.reached) c.if-last-b.true
-
-pub overflow_add-whole : goal.overflow_add-whole
-overflow_add-whole c =
-    let inv = c.loop-n.invariant in
+last-left : (c : After-loop-n) → Reached c.args.more c.args.last c.args.s.now c.args.at c.args.more 0 c.loop-n.value
+last-left c =
     let full : c.loop-n.n ≡ c.args.more = omega arith in
-    rw inv.scaled (omega (arith, last_below full inv.reached.low c.if-last-b.false, c.requires.1))
+    let none : c.args.more - c.args.more ≡ 0 = omega arith in
+    rw none at (rw full at c.loop-n.invariant.reached)
 
-pub overflow_mul-high : goal.overflow_mul-high
-overflow_mul-high c = omega (arith, overflow_add-whole c)
+pub returns-then-last-b : goal.returns-then-last-b
+returns-then-last-b c = refused_last (omega arith) (last-left (goal.at.returns-then-last-b c).After-loop-n) c.if-last-b.true
 
 pub returns : goal.returns
 returns c =
     let inv = c.loop-n.invariant in
-    let none_left : c.args.more - c.loop-n.n ≡ 0 = omega arith in
-    rw inv.scaled (took_last (omega arith) (rw none_left at inv.reached) c.if-last-b.false)
+    let full : c.loop-n.n ≡ c.args.more = omega arith in
+    rw (inv.scaled, full) (took_last (omega arith) (last-left (goal.at.returns c).After-loop-n) c.if-last-b.false)

@@ -3,4 +3,4 @@ use Rattle.pull.proofs.ReaderLaws.{open_says}
 use Rattle.pull.proofs.reader.open.Goals as goal
 
 pub returns : goal.returns
-returns c = open_says c.args.s.now c.open_number-number.result c.first_part-p.result c.open_number-number.ensures c.first_part-p.ensures
+returns c = open_says c.args.s.now c.open_number.result c.first_part.result c.open_number.ensures c.first_part.ensures

@@ -9,12 +9,12 @@ returns-then-level-ge-MOST_LEVELS c =
     let a = c.args in
     rw c.shut.ensures (deep_gated a.s.now a.at a.level (omega (arith, c.if-level-ge-MOST_LEVELS.true)))
 
-pub returns-in-Of : goal.returns-in-Of
-returns-in-Of c =
+pub returns-in-Ok : goal.returns-in-Ok
+returns-in-Ok c =
     let a = c.args in
-    content_gated a.s.now a.at a.level (omega (arith, c.if-level-ge-MOST_LEVELS.false)) (sym c.in-Of.is ∙ c.span_at.ensures)
+    content_gated a.s.now a.at a.level (omega (arith, c.if-level-ge-MOST_LEVELS.false)) (sym c.in-Ok.is ∙ c.span_at.ensures)
 
-pub returns-in-Bad : goal.returns-in-Bad
-returns-in-Bad c =
+pub returns-in-Err : goal.returns-in-Err
+returns-in-Err c =
     let a = c.args in
-    rw c.shut-in-Bad.ensures (bad_gated a.s.now a.at a.level (omega (arith, c.if-level-ge-MOST_LEVELS.false)) (sym c.in-Bad.is ∙ c.span_at.ensures))
+    rw c.shut-in-Err.ensures (bad_gated a.s.now a.at a.level (omega (arith, c.if-level-ge-MOST_LEVELS.false)) (sym c.in-Err.is ∙ c.span_at.ensures))

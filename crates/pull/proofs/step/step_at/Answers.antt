@@ -1,4 +1,5 @@
 -- `pull::step::step_at` meets its contract: each case of what is asked calls the step that does it. Assumes nothing.
+use Rattle.std.proofs.Common.{inl, inr}
 use Rattle.spec.specs.Pull.{step_at}
 use Rattle.pull.proofs.step.step_at.Goals as goal
 
@@ -6,61 +7,21 @@ pub returns-in-RawTag : goal.returns-in-RawTag
 unfolding step_at
 returns-in-RawTag c = rw c.in-RawTag.is c.tag_at.ensures
 
-pub returns-in-Double : goal.returns-in-Double
-unfolding step_at
-returns-in-Double c = rw c.in-Double.is c.fixed64_at.ensures
-
-pub returns-in-Float : goal.returns-in-Float
-unfolding step_at
-returns-in-Float c = rw c.in-Float.is c.fixed32_at.ensures
-
-pub returns-in-Int64 : goal.returns-in-Int64
-unfolding step_at
-returns-in-Int64 c = rw c.in-Int64.is c.uint64_at.ensures
-
-pub returns-in-Uint64 : goal.returns-in-Uint64
-unfolding step_at
-returns-in-Uint64 c = rw c.in-Uint64.is c.uint64_at-in-Uint64.ensures
-
 pub returns-in-Int32 : goal.returns-in-Int32
 unfolding step_at
-returns-in-Int32 c = rw c.in-Int32.is c.int32_at.ensures
-
-pub returns-in-Fixed64 : goal.returns-in-Fixed64
-unfolding step_at
-returns-in-Fixed64 c = rw c.in-Fixed64.is c.fixed64_at-in-Fixed64.ensures
-
-pub returns-in-Fixed32 : goal.returns-in-Fixed32
-unfolding step_at
-returns-in-Fixed32 c = rw c.in-Fixed32.is c.fixed32_at-in-Fixed32.ensures
-
-pub returns-in-Bool : goal.returns-in-Bool
-unfolding step_at
-returns-in-Bool c = rw c.in-Bool.is c.bool_at.ensures
-
-pub returns-in-String : goal.returns-in-String
-unfolding step_at
-returns-in-String c = rw c.in-String.is c.string_at.ensures
-
-pub returns-in-Bytes : goal.returns-in-Bytes
-unfolding step_at
-returns-in-Bytes c = rw c.in-Bytes.is c.bytes_at.ensures
+returns-in-Int32 c = elim c.in-Int32.is [ inl e ↦ rw e c.int32_at.ensures | inr e ↦ rw e c.int32_at.ensures ]
 
 pub returns-in-Uint32 : goal.returns-in-Uint32
 unfolding step_at
 returns-in-Uint32 c = rw c.in-Uint32.is c.uint32_at.ensures
 
-pub returns-in-Enum : goal.returns-in-Enum
+pub returns-in-Int64 : goal.returns-in-Int64
 unfolding step_at
-returns-in-Enum c = rw c.in-Enum.is c.int32_at-in-Enum.ensures
+returns-in-Int64 c = elim c.in-Int64.is [ inl e ↦ rw e c.uint64_at.ensures | inr e ↦ rw e c.uint64_at.ensures ]
 
-pub returns-in-Sfixed32 : goal.returns-in-Sfixed32
+pub returns-in-Bool : goal.returns-in-Bool
 unfolding step_at
-returns-in-Sfixed32 c = rw c.in-Sfixed32.is c.sfixed32_at.ensures
-
-pub returns-in-Sfixed64 : goal.returns-in-Sfixed64
-unfolding step_at
-returns-in-Sfixed64 c = rw c.in-Sfixed64.is c.fixed64_at-in-Sfixed64.ensures
+returns-in-Bool c = rw c.in-Bool.is c.bool_at.ensures
 
 pub returns-in-Sint32 : goal.returns-in-Sint32
 unfolding step_at
@@ -70,6 +31,25 @@ pub returns-in-Sint64 : goal.returns-in-Sint64
 unfolding step_at
 returns-in-Sint64 c = rw c.in-Sint64.is c.sint64_at.ensures
 
-pub returns-in-Skip : goal.returns-in-Skip
+pub returns-in-Float : goal.returns-in-Float
 unfolding step_at
-returns-in-Skip c = rw c.in-Skip.is c.skip_at.ensures
+returns-in-Float c = elim c.in-Float.is [ inl e ↦ rw e c.fixed32_at.ensures | inr e ↦ rw e c.fixed32_at.ensures ]
+
+pub returns-in-Sfixed32 : goal.returns-in-Sfixed32
+unfolding step_at
+returns-in-Sfixed32 c = rw c.in-Sfixed32.is c.sfixed32_at.ensures
+
+pub returns-in-Double : goal.returns-in-Double
+unfolding step_at
+returns-in-Double c = elim c.in-Double.is [
+  | inl e ↦ rw e c.fixed64_at.ensures
+  | inr d ↦ elim d [ inl e ↦ rw e c.fixed64_at.ensures | inr e ↦ rw e c.fixed64_at.ensures ]
+]
+
+pub returns-in-String : goal.returns-in-String
+unfolding step_at
+returns-in-String c = rw c.in-String.is c.string_at.ensures
+
+pub returns-in-Bytes : goal.returns-in-Bytes
+unfolding step_at
+returns-in-Bytes c = rw c.in-Bytes.is c.bytes_at.ensures

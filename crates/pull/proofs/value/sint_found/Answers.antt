@@ -1,11 +1,15 @@
 -- `pull::value::sint_found` meets its contract: the varint, and zigzag undone. Assumes nothing.
+use Rattle.std.proofs.Common.{refl}
+use Rattle.std.proofs.lemmas.Result.{err_from_is_err_and}
 use Rattle.spec.specs.Base.{meaning}
 use Rattle.pull.proofs.value.sint_found.Goals as goal
 
-pub returns-in-Value : goal.returns-in-Value
+pub returns-in_err-value : goal.returns-in_err-value
 unfolding meaning
-returns-in-Value c = rw (← c.varint_found.ensures, c.in-Value.is, c.unzigzag-v.ensures)
+returns-in_err-value c =
+    let p = err_from_is_err_and c.from_residual.result c.from_residual.ensures.1 in
+    rw (p.1, p.2, ← c.in_err-value.ensures) refl
 
-pub returns-in-Refused : goal.returns-in-Refused
+pub returns : goal.returns
 unfolding meaning
-returns-in-Refused c = rw (← c.varint_found.ensures, c.in-Refused.is)
+returns c = rw (← c.in_ok-value.ensures, c.unzigzag.ensures) refl

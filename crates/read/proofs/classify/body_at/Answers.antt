@@ -1,5 +1,5 @@
 -- `read::classify::body_at` meets its contract: with a length, or with none. Assumes nothing.
-use Rattle.read.proofs.classify.body_at.Goals.{then-kind-eq-MESSAGE+else-depth-gt-DEEPEST_HEAD, else-kind-eq-MESSAGE}
+use Rattle.read.proofs.classify.body_at.Goals.{else-kind-eq-MESSAGE-via-then-kind-eq-MESSAGE+else-depth-gt-DEEPEST_HEAD, else-kind-eq-MESSAGE-via-else-kind-eq-MESSAGE}
 use native.Mathlib.Omega.{arith}
 use mathlib.Core.Path.{◌≡◌, refl, sym, ◌∙◌}
 use mathlib.Core.Bool.{false, false≢true}
@@ -13,19 +13,13 @@ returns-then-depth-gt-DEEPEST_HEAD c =
     let a = c.args in
     rw c.if-kind-eq-MESSAGE.true (deep_body a.depth a.at (drop a.at a.s.now) (omega arith))
 
-pub delimited-requires : goal.delimited-requires
-delimited-requires c = (c.requires, sym c.has_length.ensures ∙ c.if-has_length.true)
-
 -- a message's head stands above the greatest depth: it was asked
 pub returns-then-has_length : goal.returns-then-has_length
 returns-then-has_length c =
     let a = c.args in
     c.delimited.ensures
     ∙ shallow_body a.depth a.at (drop a.at a.s.now) a.kind
-    (λ e. elim c.if-kind-eq-MESSAGE.branch [ then-kind-eq-MESSAGE+else-depth-gt-DEEPEST_HEAD w ↦ omega (arith, w.if-depth-gt-DEEPEST_HEAD.false) | else-kind-eq-MESSAGE w ↦ absurd (w.if-kind-eq-MESSAGE.false e) ])
-
-pub plain-requires : goal.plain-requires
-plain-requires c = (c.requires, sym c.has_length.ensures ∙ c.if-has_length.false)
+    (λ e. elim c.else-kind-eq-MESSAGE.branch [ else-kind-eq-MESSAGE-via-then-kind-eq-MESSAGE+else-depth-gt-DEEPEST_HEAD w ↦ omega (arith, w.if-depth-gt-DEEPEST_HEAD.false) | else-kind-eq-MESSAGE-via-else-kind-eq-MESSAGE w ↦ absurd (w.if-kind-eq-MESSAGE.false e) ])
 
 pub returns : goal.returns
 returns c =

@@ -1,11 +1,11 @@
 -- `read::classify::plain` meets its contract: the ends of a group, or a number. Assumes nothing.
 use native.Mathlib.Omega.{arith}
-use mathlib.Core.Path.{◌≡◌, sym, ap, ◌∙◌}
+use mathlib.Core.Path.{◌≡◌, ◌∙◌}
 use lib.ListN.{drop}
 use borrow.Author.Tests.{ne_eqb}
 use Rattle.spec.specs.Names.{group_end, group_start}
 use Rattle.spec.specs.Kind.{shape, shapes}
-use Rattle.wire.specs.Answers.{as_read}
+use Rattle.std.proofs.lemmas.Result.{err_from_is_err_and}
 use Rattle.read.specs.Answers.{bodied}
 use Rattle.read.proofs.KindTests.{sort_of, sort_kind}
 use Rattle.read.proofs.ClassifyLaws.{value_body, refused_body}
@@ -26,12 +26,13 @@ number c =
     let k = c.args.kind in
     sort_kind k ∙ rw (c.requires.1, ne_eqb k group_start (λ e. omega arith), ne_eqb k group_end (λ e. omega arith))
 
-pub returns-in-Value : goal.returns-in-Value
-returns-in-Value c =
+pub returns-in_ok-value-in_default : goal.returns-in_ok-value-in_default
+returns-in_ok-value-in_default c =
     let a = c.args in
-    value_body (shape a.kind) a.at (drop a.at a.s.now) (number (goal.at.returns-in-Value c).After-scalar_at) (ap (as_read a.at) (sym c.in-Value.is) ∙ c.scalar_at.ensures)
+    value_body (shape a.kind) a.at (drop a.at a.s.now) (number (goal.at.returns-in_ok-value-in_default c).After-scalar_at) (let z = c.in_ok-value-in_default in z.ensures)
 
-pub returns-in-Refused : goal.returns-in-Refused
-returns-in-Refused c =
+pub returns-in_err-value-in_default : goal.returns-in_err-value-in_default
+returns-in_err-value-in_default c =
     let a = c.args in
-    refused_body (shape a.kind) a.at (drop a.at a.s.now) (number (goal.at.returns-in-Refused c).After-scalar_at) (ap (as_read a.at) (sym c.in-Refused.is) ∙ c.scalar_at.ensures)
+    let p = err_from_is_err_and c.from_residual.result c.from_residual.ensures.1 in
+    rw (p.1, p.2) (refused_body (shape a.kind) a.at (drop a.at a.s.now) (number (goal.at.returns-in_err-value-in_default c).After-scalar_at) (let z = c.in_err-value-in_default in z.ensures))

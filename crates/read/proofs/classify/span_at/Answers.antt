@@ -8,17 +8,14 @@ use Rattle.skip.proofs.SpanLaws.{span_short, span_of}
 use Rattle.read.proofs.ClassifyLaws.{short_length}
 use Rattle.read.proofs.classify.span_at.Goals as goal
 
-pub overflow_cast-n : goal.overflow_cast-n
-overflow_cast-n c = omega (arith, c.type_inv.s c.args.at)
-
 pub returns-then-s-start : goal.returns-then-s-start
 returns-then-s-start c =
     let a = c.args in
-    let e = short_length (not (head_kind a.kind)) a.at a.s.now c.if-at-s.true c.if-n-lt128.true in
-    span_short (length_of a.kind) a.at a.s.now e (omega arith) (omega arith)
+    let e = short_length (not (head_kind a.kind)) a.at a.s.now c.if-at-s.true (rw c.from-n.ensures at c.if-n-lt128.true) in
+    span_short (length_of a.kind) a.at a.s.now e (omega arith) (omega (arith, c.from-n.ensures))
 
 pub returns-then-n-lt128 : goal.returns-then-n-lt128
 returns-then-n-lt128 c =
     let a = c.args in
-    let e = short_length (not (head_kind a.kind)) a.at a.s.now c.if-at-s.true c.if-n-lt128.true in
-    span_of (length_of a.kind) a.at a.s.now e (omega arith) refl refl
+    let e = short_length (not (head_kind a.kind)) a.at a.s.now c.if-at-s.true (rw c.from-n.ensures at c.if-n-lt128.true) in
+    span_of (length_of a.kind) a.at a.s.now e (omega (arith, c.from-n.ensures)) refl (omega (arith, c.from-n.ensures))

@@ -35,31 +35,28 @@ pub returns-in_default-meaning_of : goal.returns-in_default-meaning_of
 returns-in_default-meaning_of c = λ mode. (c.loop-at.invariant.0 mode).further
 
 pub overflow_add-n : goal.overflow_add-n
-overflow_add-n c = omega (arith, c.requires, int_within _ _ _ (c.loop-at.invariant.0 plainly) (omega (arith, c.loop-at-test.true)) c.int_kind.ensures c.in-Of.is c.short_at.ensures c.in-Of-short_at.is c.meaning_of.ensures c.in-Is.is)
+overflow_add-n c = omega (arith, c.requires, int_within _ _ _ (c.loop-at.invariant.0 plainly) (omega (arith, c.loop-at-test.true)) c.int_kind.ensures c.in-Some.is c.short_at.ensures c.in-Some-short_at.is c.meaning_of.ensures c.in-Some-meaning_of.is)
 
 pub overflow_add-here-in-loop-at : goal.overflow_add-here-in-loop-at
-overflow_add-here-in-loop-at c = omega (arith, c.requires, c.loop-at.invariant.1, int_within _ _ _ (c.loop-at.invariant.0 plainly) (omega (arith, c.loop-at-test.true)) c.int_kind.ensures c.in-Of.is c.short_at.ensures c.in-Of-short_at.is c.meaning_of.ensures c.in-Is.is)
+overflow_add-here-in-loop-at c = omega (arith, c.requires, c.loop-at.invariant.1, int_within _ _ _ (c.loop-at.invariant.0 plainly) (omega (arith, c.loop-at-test.true)) c.int_kind.ensures c.in-Some.is c.short_at.ensures c.in-Some-short_at.is c.meaning_of.ensures c.in-Some-meaning_of.is)
 
 pub overflow_add-at-in-loop-at : goal.overflow_add-at-in-loop-at
-overflow_add-at-in-loop-at c = omega (arith, c.requires, int_within _ _ _ (c.loop-at.invariant.0 plainly) (omega (arith, c.loop-at-test.true)) c.int_kind.ensures c.in-Of.is c.short_at.ensures c.in-Of-short_at.is c.meaning_of.ensures c.in-Is.is)
-
-pub overflow_cast-c : goal.overflow_cast-c
-overflow_cast-c c = omega (arith, c.requires, int_within _ _ _ (c.loop-at.invariant.0 plainly) (omega (arith, c.loop-at-test.true)) c.int_kind.ensures c.in-Of.is c.short_at.ensures c.in-Of-short_at.is c.meaning_of.ensures c.in-Is.is)
+overflow_add-at-in-loop-at c = omega (arith, c.requires, int_within _ _ _ (c.loop-at.invariant.0 plainly) (omega (arith, c.loop-at-test.true)) c.int_kind.ensures c.in-Some.is c.short_at.ensures c.in-Some-short_at.is c.meaning_of.ensures c.in-Some-meaning_of.is)
 
 pub overflow_add-tag : goal.overflow_add-tag
-overflow_add-tag c = omega (arith, c.requires, c.loop-at.invariant.1, int_within _ _ _ (c.loop-at.invariant.0 plainly) (omega (arith, c.loop-at-test.true)) c.int_kind.ensures c.in-Of.is c.short_at.ensures c.in-Of-short_at.is c.meaning_of.ensures c.in-Is.is)
+overflow_add-tag c = omega (arith, c.requires, c.loop-at.invariant.1, int_within _ _ _ (c.loop-at.invariant.0 plainly) (omega (arith, c.loop-at-test.true)) c.int_kind.ensures c.in-Some.is c.short_at.ensures c.in-Some-short_at.is c.meaning_of.ensures c.in-Some-meaning_of.is)
 
 pub put-to-requires : goal.put-to-requires
 put-to-requires c = omega (arith, c.if-most-to.false, c.if-room-lt-STRIDE.false, (c.loop-at.invariant.0 plainly).further.kept)
 
 pub loop-at-smaller : goal.loop-at-smaller
-loop-at-smaller c = omega (arith, c.requires, int_within _ _ _ (c.loop-at.invariant.0 plainly) (omega (arith, c.loop-at-test.true)) c.int_kind.ensures c.in-Of.is c.short_at.ensures c.in-Of-short_at.is c.meaning_of.ensures c.in-Is.is)
+loop-at-smaller c = omega (arith, c.requires, int_within _ _ _ (c.loop-at.invariant.0 plainly) (omega (arith, c.loop-at-test.true)) c.int_kind.ensures c.in-Some.is c.short_at.ensures c.in-Some-short_at.is c.meaning_of.ensures c.in-Some-meaning_of.is)
 
 pub loop-at-preserved : goal.loop-at-preserved
 loop-at-preserved c = (
   (λ mode.
-      int_stored _ _ _ (c.loop-at.invariant.0 mode) (omega (arith, c.loop-at-test.true)) c.int_kind.ensures c.in-Of.is c.short_at.ensures c.in-Of-short_at.is c.meaning_of.ensures c.in-Is.is
-      c.loop-at.invariant.1 (omega (arith, c.if-most-to.false, c.if-room-lt-STRIDE.false, (c.loop-at.invariant.0 plainly).further.kept)) c.put-to.ensures.0 c.put-to.ensures.1),
+      int_stored _ _ _ (c.loop-at.invariant.0 mode) (omega (arith, c.loop-at-test.true)) c.int_kind.ensures c.in-Some.is c.short_at.ensures c.in-Some-short_at.is c.meaning_of.ensures c.in-Some-meaning_of.is
+      c.loop-at.invariant.1 (omega (arith, c.if-most-to.false, c.if-room-lt-STRIDE.false, (c.loop-at.invariant.0 plainly).further.kept)) (rw c.from.ensures at c.put-to.ensures.0) c.put-to.ensures.1),
   omega (arith, c.loop-at.invariant.1),
 )
 

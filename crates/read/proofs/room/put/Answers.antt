@@ -38,4 +38,4 @@ columns room b d n k v a e t =
     (sym (add-zero b))
 
 pub returns : goal.returns
-returns c = (columns _ _ _ _ _ _ _ _ _, refl)
+returns c = (rw c.from.ensures (columns _ _ _ _ _ _ _ _ _), refl)

@@ -6,11 +6,11 @@ use Rattle.read.proofs.room.put_span.Goals as goal
 pub returns-then-room-from-lt-STRIDE : goal.returns-then-room-from-lt-STRIDE
 returns-then-room-from-lt-STRIDE c = span_full _ _ _ _ _ _ _ c.if-mode.true (omega arith) c.if-room-from-lt-STRIDE.true
 
-pub put-to-requires : goal.put-to-requires
-put-to-requires c = omega (arith, c.if-room-from-lt-STRIDE.false)
+pub put-requires : goal.put-requires
+put-requires c = omega (arith, c.if-room-from-lt-STRIDE.false)
 
 pub returns-then-mode : goal.returns-then-mode
-returns-then-mode c = span_stored _ _ _ _ _ _ _ c.if-mode.true (omega arith) (omega (arith, c.if-room-from-lt-STRIDE.false)) c.put-to.ensures.0 c.put-to.ensures.1
+returns-then-mode c = span_stored _ _ _ _ _ _ _ c.if-mode.true (omega arith) (omega (arith, c.if-room-from-lt-STRIDE.false)) c.put.ensures.0 c.put.ensures.1
 
 pub returns : goal.returns
 returns c = span_passed _ _ _ _ _ _ _ c.if-mode.false

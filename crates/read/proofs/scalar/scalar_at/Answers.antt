@@ -6,7 +6,7 @@ use borrow.Author.Rules.{rules}
 use lib.ListN.{drop}
 use Rattle.spec.specs.Kind.{shape, shapes, scalar}
 use Rattle.read.specs.Answers.{scalar_of}
-use Rattle.read.proofs.KindTests.{size_none, no_size}
+use Rattle.read.proofs.KindTests.{not_fixed, int_or_nothing}
 use Rattle.read.proofs.scalar.scalar_at.Goals as goal
 
 pub returns-in-1 : goal.returns-in-1
@@ -28,5 +28,5 @@ returns-in-15 c = rw c.in-15.is c.sfixed32_at.ensures
 pub returns-in_default : goal.returns-in_default
 returns-in_default c =
     let a = c.args in
-    let none = size_none a.kind (search rules) (λ e. search rules) (λ e. search rules) (λ e. omega arith) (λ e. search rules) in
-    c.int_or_none.ensures ∙ sym (no_size (shape a.kind) (drop a.at a.s.now) none)
+    let none = not_fixed a.kind (λ e. search rules) (λ e. search rules) (λ e. search rules) (λ e. search rules) (λ e. search rules) (λ e. search rules) (λ e. omega arith) (λ e. search rules) in
+    c.int_or_none.ensures ∙ sym (int_or_nothing (shape a.kind) (drop a.at a.s.now) none)

@@ -1,5 +1,7 @@
 -- `read::scalar::sfixed32_at` meets its contract: four bytes, and their sign. Assumes nothing.
 use native.Mathlib.Omega.{arith}
+use mathlib.Core.Path.{refl}
+use Rattle.std.proofs.lemmas.Result.{err_from_is_err_and}
 use Rattle.spec.specs.Base.{meaning}
 use Rattle.wire.proofs.FoundLaws.{fixed_placed}
 use Rattle.read.proofs.scalar.sfixed32_at.Goals as goal
@@ -7,13 +9,15 @@ use Rattle.read.proofs.scalar.sfixed32_at.Goals as goal
 pub overflow_cast-value : goal.overflow_cast-value
 overflow_cast-value c =
     let a = c.args in
-    let p = fixed_placed 3 a.s.now a.at c.type_inv.s c.decode_fixed32.ensures c.in-Value.is in
+    let p = fixed_placed 3 a.s.now a.at c.type_inv.s c.in_ok-value.ensures refl in
     omega (arith, p.small)
 
-pub returns-in-Value : goal.returns-in-Value
+pub returns : goal.returns
 unfolding meaning
-returns-in-Value c = rw (← c.decode_fixed32.ensures, c.in-Value.is, c.extend32-v.ensures)
+returns c = rw (← c.in_ok-value.ensures, c.extend32.ensures) refl
 
-pub returns-in-Refused : goal.returns-in-Refused
+pub returns-in_err-value : goal.returns-in_err-value
 unfolding meaning
-returns-in-Refused c = rw (← c.decode_fixed32.ensures, c.in-Refused.is)
+returns-in_err-value c =
+    let p = err_from_is_err_and c.from_residual.result c.from_residual.ensures.1 in
+    rw (p.1, p.2, ← c.in_err-value.ensures) refl

@@ -1,45 +1,45 @@
 -- `segment::reading::messages` meets its contract. Assumes nothing.
 use native.Mathlib.Omega.{arith}
-use mathlib.Core.Path.{sym, ap, ◌∙◌}
+use mathlib.Core.Path.{refl}
 use lib.ListN.{length-set}
-use Rattle.wire.specs.Answers.{as_read}
+use Rattle.wire.specs.Answers.{value_at}
 use Rattle.wire.proofs.FoundLaws.{varint_placed}
 use Rattle.segment.proofs.EmitLaws.{message_there, message_short, message_bad, message_none, on_by, ends, stops, full, stores}
 use Rattle.segment.proofs.reading.messages.Goals as goal
+use Rattle.segment.proofs.reading.messages.Goals.{else-loop-at-test, then-loop-at-test+then-s-at}
 
-pub returns-then-s-at : goal.returns-then-s-at
-returns-then-s-at c = ends (on_by c.loop-at.invariant c.quick-q.ensures) (message_none _ _ c.if-s-at.true) c.counted.ensures
-
-pub returns-in-Refused : goal.returns-in-Refused
-returns-in-Refused c =
-    let h = on_by c.loop-at.invariant c.quick-q.ensures in
-    stops h (message_bad _ _ _ (ap (as_read _) (sym c.in-Refused.is) ∙ c.decode_varint32-f.ensures) c.if-s-at.false) c.counted-in-Refused.ensures
+pub returns-in-Err : goal.returns-in-Err
+returns-in-Err c = stops (on_by c.loop-at.invariant c.quick-q.ensures) (message_bad _ _ _ c.in-Err.ensures c.if-s-at.false) c.stopped.ensures
 
 pub overflow_sub-s : goal.overflow_sub-s
-overflow_sub-s c = omega (arith, (varint_placed 4 15 _ _ c.decode_varint32-f.ensures c.in-Value.is).inside)
+overflow_sub-s c = omega (arith, (varint_placed 4 15 _ _ {f = value_at c.in-Ok.f.value c.in-Ok.f.next} c.in-Ok.ensures refl).inside)
 
-pub returns-then-s-next : goal.returns-then-s-next
-returns-then-s-next c =
-    let h = on_by c.loop-at.invariant c.quick-q.ensures in
-    stops h (message_short _ _ _ _ (ap (as_read _) (sym c.in-Value.is) ∙ c.decode_varint32-f.ensures) c.if-s-next.true) c.counted-then-s-next.ensures
+pub returns-then-s-f : goal.returns-then-s-f
+returns-then-s-f c =
+    stops (on_by c.loop-at.invariant c.quick-q.ensures) (message_short _ _ _ _ c.in-Ok.ensures c.if-s-f.true) c.stopped-then-s-f.ensures
 
 pub returns-then-most-to : goal.returns-then-most-to
 returns-then-most-to c =
-    let h = on_by c.loop-at.invariant c.quick-q.ensures in
-    full h (message_there _ _ _ _ (ap (as_read _) (sym c.in-Value.is) ∙ c.decode_varint32-f.ensures) c.if-s-next.false) c.if-most-to.true c.counted-then-most-to.ensures
+    full (on_by c.loop-at.invariant c.quick-q.ensures) (message_there _ _ _ _ c.in-Ok.ensures c.if-s-f.false) c.if-most-to.true
+    c.stopped-then-most-to.ensures
 
-pub bounds-room-to-in-Value : goal.bounds-room-to-in-Value
-bounds-room-to-in-Value c = simp length-set (omega (arith, c.quick-q.ensures.even, c.quick-q.ensures.kept, c.loop-at.invariant.kept, c.if-most-to.false))
+pub bounds-room-to-in-loop-at : goal.bounds-room-to-in-loop-at
+bounds-room-to-in-loop-at c = simp length-set (omega (arith, c.quick-q.ensures.even, c.quick-q.ensures.kept, c.loop-at.invariant.kept, c.if-most-to.false))
 
 pub loop-at-smaller : goal.loop-at-smaller
-loop-at-smaller c = omega (arith, c.quick-q.ensures.on, c.if-s-next.false, varint_placed 4 15 _ _ c.decode_varint32-f.ensures c.in-Value.is)
+loop-at-smaller c =
+    let there = varint_placed 4 15 _ _ {f = value_at c.in-Ok.f.value c.in-Ok.f.next} c.in-Ok.ensures refl in
+    omega (arith, c.quick-q.ensures.on, c.if-s-f.false, there.past, there.inside)
 
 pub loop-at-preserved : goal.loop-at-preserved
 loop-at-preserved c =
-    let h = on_by c.loop-at.invariant c.quick-q.ensures in
-    let there = varint_placed 4 15 _ _ c.decode_varint32-f.ensures c.in-Value.is in
-    stores h (message_there _ _ _ _ (ap (as_read _) (sym c.in-Value.is) ∙ c.decode_varint32-f.ensures) c.if-s-next.false) (omega (arith, there.past)) (omega (arith, there.inside, c.if-s-next.false)) c.if-most-to.false
-    (omega arith)
+    let there = varint_placed 4 15 _ _ {f = value_at c.in-Ok.f.value c.in-Ok.f.next} c.in-Ok.ensures refl in
+    stores (on_by c.loop-at.invariant c.quick-q.ensures) (message_there _ _ _ _ c.in-Ok.ensures c.if-s-f.false) (omega (arith, there.past))
+    (omega (arith, there.inside, c.if-s-f.false)) c.if-most-to.false (omega arith)
 
 pub returns : goal.returns
-returns c = ends c.loop-at.invariant (message_none _ _ c.loop-at-test.false) c.counted-2.ensures
+returns c =
+    elim c.loop-at-test.branch [
+      | else-loop-at-test w ↦ rw (w.room-is, w.to-is) (ends c.loop-at.invariant (message_none _ _ w.loop-at-test.false))
+      | then-loop-at-test+then-s-at w ↦ rw (w.room-is, w.to-is) (ends (on_by c.loop-at.invariant w.quick-q.ensures) (message_none _ _ w.if-s-at.true))
+    ]

@@ -7,8 +7,7 @@ use lib.ListN.{length, drop, get_or, length-set}
 use Rattle.spec.specs.Base.{Read}
 use Rattle.spec.specs.Varint.{varint32}
 use Rattle.spec.proofs.VarintLaws.{top}
-use Rattle.wire.specs.declared.found.Found.TheVariants.{Value}
-use Rattle.wire.specs.Answers.{as_read}
+use Rattle.wire.specs.Answers.{as_read, value_at}
 use Rattle.wire.proofs.FoundLaws.{Placed, varint_placed}
 use Rattle.segment.proofs.ShortLengths.{one, two, three}
 use Rattle.segment.proofs.EmitLaws.{stores, message_there}
@@ -16,13 +15,13 @@ use Rattle.segment.proofs.reading.quick.Goals as goal
 use Rattle.segment.proofs.reading.quick.Goals.{Joined-b0-ge128, then-b0-ge128+then-b1-ge128+else-b2-ge128, then-b0-ge128+else-b1-ge128, else-b0-ge128}
 
 -- the length that the next message has, by the number of its bytes
-length_read : (c : Joined-b0-ge128) → as_read c.loop-at.at (Value c.if-b0-ge128.n c.if-b0-ge128.next) ≡ varint32 (drop c.loop-at.at c.args.s.now)
+length_read : (c : Joined-b0-ge128) → as_read c.loop-at.at (value_at c.if-b0-ge128.n c.if-b0-ge128.next) ≡ varint32 (drop c.loop-at.at c.args.s.now)
 length_read c =
     let s : List ℕ = c.args.s.now in
     let at : ℕ = c.loop-at.at in
     let inside : at + 2 < length s = omega arith in
     let byte : (i : ℕ) → get_or s i 0 < 256 = λ i. (c.type_inv.s i).fits in
-    let read : ℕ → ℕ → Read = λ n next. as_read at (Value n next) in
+    let read : ℕ → ℕ → Read = λ n next. as_read at (value_at n next) in
     elim c.if-b0-ge128.branch [
       | then-b0-ge128+then-b1-ge128+else-b2-ge128 w ↦
           ap₂ read w.n-is w.next-is ∙ three s at inside w.if-b0-ge128.true (byte at) w.if-b1-ge128.true (byte (at + 1)) w.if-b2-ge128.false

@@ -1,12 +1,9 @@
 -- `segment::writing::put_segment` meets its contract. The loop's invariant: storing the messages of the ranges that are left gives what storing all
--- of them gives. The measure is how many numbers are left. Assumes nothing.
-use Prim.Native.Nat.{◌-◌}
-use lib.ListN.{length}
+-- of them gives. Assumes nothing.
+use mathlib.Core.Path.{◌≡◌}
+use Rattle.segment.specs.Segment.{range_stride}
 use Rattle.segment.proofs.PutLaws.{Going}
 use Rattle.segment.proofs.writing.put_segment.Given as goal
 
-abbrev pub invariant-loop-i : goal.invariant-loop-i
-invariant-loop-i l = Going l.ranges l.payload l.initial.out l.out l.at l.i
-
-abbrev pub decreases-loop-i : goal.decreases-loop-i
-decreases-loop-i l = length l.ranges - l.i
+abbrev pub invariant-loop-range : goal.invariant-loop-range
+invariant-loop-range l = (l.range-iterator.size ≡ range_stride) × Going l.ranges l.payload l.initial.out l.out l.at l.range-iterator.rest.now

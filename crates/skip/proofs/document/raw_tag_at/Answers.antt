@@ -5,11 +5,8 @@ use native.Mathlib.Omega.{arith}
 use Rattle.skip.proofs.PastLaws.{one_byte}
 use Rattle.skip.proofs.document.raw_tag_at.Goals as goal
 
-pub overflow_cast-b : goal.overflow_cast-b
-overflow_cast-b c = omega (arith, c.type_inv.s c.args.at)
-
 pub returns : goal.returns
 returns c =
     let a = c.args in
     let q : a.at + 1 - a.at ≡ 1 = omega arith in
-    rw q (sym (one_byte 3 15 a.at a.s.now (omega arith) (omega arith)))
+    rw (q, c.from-b.ensures) (sym (one_byte 3 15 a.at a.s.now (omega arith) (omega (arith, c.from-b.ensures))))

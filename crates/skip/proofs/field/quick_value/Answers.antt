@@ -1,27 +1,23 @@
 -- `skip::field::quick_value` meets its contract: one law for each wire type. Assumes nothing.
-use native.Mathlib.Omega.{arith}
-use lib.ListN.{length-drop}
+use Rattle.std.proofs.Common.{ℕ, ◌≡◌, refl, Result, Ok, Err, IfSome}
+use Rattle.std.specs.Result.{result_ok}
+use Rattle.spec.specs.declared.refusals.Refusal.{Refusal}
 use Rattle.spec.proofs.SkipLaws.{plain_varint, plain_fixed64, plain_bytes, plain_fixed32}
-use Rattle.skip.proofs.PastLaws.{ends_behind, fixed_ends}
 use Rattle.skip.proofs.field.quick_value.Goals as goal
 
-pub returns-then-s-at-lt8 : goal.returns-then-s-at-lt8
-returns-then-s-at-lt8 c h = absurd (omega arith)
-
-pub returns-then-s-at-lt4 : goal.returns-then-s-at-lt4
-returns-then-s-at-lt4 c h = absurd (omega arith)
+-- where a place was found, it is the answer
+ok_or_none : (r : Result ℕ Refusal) → IfSome (result_ok r) (λ next. Ok next ≡ r)
+ok_or_none (Ok n) = refl
+ok_or_none (Err k) = tt
 
 pub returns-in-0 : goal.returns-in-0
-returns-in-0 c h = rw (c.in-0.is, plain_varint) (c.quick_varint.ensures h)
+returns-in-0 c = rw (c.in-0.is, plain_varint) c.quick_varint.ensures
 
-pub returns-else-s-at-lt8 : goal.returns-else-s-at-lt8
-returns-else-s-at-lt8 c h = rw (c.in-1.is, plain_fixed64) (ends_behind _ 8 (fixed_ends 8 _ (rw length-drop (omega arith))))
+pub returns-in-1 : goal.returns-in-1
+returns-in-1 c = rw (c.in-1.is, plain_fixed64, ← c.past_fixed.ensures, c.ok.ensures.value) (ok_or_none c.past_fixed.result)
 
 pub returns-in-2 : goal.returns-in-2
-returns-in-2 c h = rw (c.in-2.is, plain_bytes) (c.quick_bytes.ensures h)
+returns-in-2 c = rw (c.in-2.is, plain_bytes) c.quick_bytes.ensures
 
-pub returns-else-s-at-lt4 : goal.returns-else-s-at-lt4
-returns-else-s-at-lt4 c h = rw (c.in-5.is, plain_fixed32) (ends_behind _ 4 (fixed_ends 4 _ (rw length-drop (omega arith))))
-
-pub returns-in_default : goal.returns-in_default
-returns-in_default c h = absurd (omega arith)
+pub returns-in-5 : goal.returns-in-5
+returns-in-5 c = rw (c.in-5.is, plain_fixed32, ← c.past_fixed-in-5.ensures, c.ok-in-5.ensures.value) (ok_or_none c.past_fixed-in-5.result)

@@ -26,23 +26,17 @@ along-4 c =
     let along-3 : let a = c.args in Along a.s.now a.at 3 = turned (along-2) (omega arith) (omega arith) c.if-s-at-lt128-3.false in
     turned (along-3) (omega arith) (omega arith) c.if-s-at-lt128-4.false
 
-pub returns-then-s-at-lt5 : goal.returns-then-s-at-lt5
-returns-then-s-at-lt5 c h = absurd (omega arith)
-
 pub returns-then-s-at-lt128 : goal.returns-then-s-at-lt128
-returns-then-s-at-lt128 c h = first_stopped _ _ (omega arith) c.if-s-at-lt128.true
+returns-then-s-at-lt128 c = first_stopped _ _ (omega arith) c.if-s-at-lt128.true
 
 pub returns-then-s-at-lt128-2 : goal.returns-then-s-at-lt128-2
-returns-then-s-at-lt128-2 c h = stopped (along-1 (goal.at.returns-then-s-at-lt128-2 c).Else-s-at-lt128) (omega arith) (omega arith) _ (omega arith) c.if-s-at-lt128-2.true
+returns-then-s-at-lt128-2 c = stopped (along-1 (goal.at.returns-then-s-at-lt128-2 c).Else-s-at-lt128) (omega arith) (omega arith) _ (omega arith) c.if-s-at-lt128-2.true
 
 pub returns-then-s-at-lt128-3 : goal.returns-then-s-at-lt128-3
-returns-then-s-at-lt128-3 c h = stopped (along-2 (goal.at.returns-then-s-at-lt128-3 c).Else-s-at-lt128-2) (omega arith) (omega arith) _ (omega arith) c.if-s-at-lt128-3.true
+returns-then-s-at-lt128-3 c = stopped (along-2 (goal.at.returns-then-s-at-lt128-3 c).Else-s-at-lt128-2) (omega arith) (omega arith) _ (omega arith) c.if-s-at-lt128-3.true
 
 pub returns-then-s-at-lt128-4 : goal.returns-then-s-at-lt128-4
-returns-then-s-at-lt128-4 c h = stopped (along-3 (goal.at.returns-then-s-at-lt128-4 c).Else-s-at-lt128-3) (omega arith) (omega arith) _ (omega arith) c.if-s-at-lt128-4.true
+returns-then-s-at-lt128-4 c = stopped (along-3 (goal.at.returns-then-s-at-lt128-4 c).Else-s-at-lt128-3) (omega arith) (omega arith) _ (omega arith) c.if-s-at-lt128-4.true
 
 pub returns-then-s-at-lt128-5 : goal.returns-then-s-at-lt128-5
-returns-then-s-at-lt128-5 c h = stopped (along-4 (goal.at.returns-then-s-at-lt128-5 c).Else-s-at-lt128-4) (omega arith) (omega arith) _ (omega arith) c.if-s-at-lt128-5.true
-
-pub returns : goal.returns
-returns c h = absurd (omega arith)
+returns-then-s-at-lt128-5 c = stopped (along-4 (goal.at.returns-then-s-at-lt128-5 c).Else-s-at-lt128-4) (omega arith) (omega arith) _ (omega arith) c.if-s-at-lt128-5.true

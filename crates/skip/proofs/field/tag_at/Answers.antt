@@ -12,22 +12,22 @@ use Rattle.skip.proofs.field.tag_at.Goals as goal
 pub returns-then-s-at : goal.returns-then-s-at
 returns-then-s-at c = sym (tag_refused _ (ap varint32 (drop_of_length-le _ c.if-s-at.true) ∙ no_byte 4 15))
 
-pub overflow_cast-b : goal.overflow_cast-b
-overflow_cast-b c = omega (arith, c.type_inv.s c.args.at)
-
 pub returns-then-b-gt-FIXED32 : goal.returns-then-b-gt-FIXED32
 returns-then-b-gt-FIXED32 c =
     let a = c.args in
-    sym (tag_bad _ (one_byte 3 15 a.at a.s.now (omega arith) c.if-b-ge128.false) (bad_wire (get_or a.s.now a.at 0) (omega arith)))
+    let b = c.from-b.ensures in
+    sym (tag_bad _ (one_byte 3 15 a.at a.s.now (omega arith) (omega (arith, b))) (bad_wire (get_or a.s.now a.at 0) (omega (arith, b))))
 
 pub returns-then-b-lt8 : goal.returns-then-b-lt8
 returns-then-b-lt8 c =
     let a = c.args in
-    sym (tag_bad _ (one_byte 3 15 a.at a.s.now (omega arith) c.if-b-ge128.false) (bad_number (get_or a.s.now a.at 0) (omega arith)))
+    let b = c.from-b.ensures in
+    sym (tag_bad _ (one_byte 3 15 a.at a.s.now (omega arith) (omega (arith, b))) (bad_number (get_or a.s.now a.at 0) (omega (arith, b))))
 
 pub returns : goal.returns
 returns c =
     let a = c.args in
+    let b = c.from-b.ensures in
     let q : a.at + 1 - a.at ≡ 1 = omega arith in
-    rw q
-    (sym (tag_good _ (one_byte 3 15 a.at a.s.now (omega arith) c.if-b-ge128.false) (good_tag_lem (get_or a.s.now a.at 0) (omega arith) (omega arith))))
+    rw (q, b)
+    (sym (tag_good _ (one_byte 3 15 a.at a.s.now (omega arith) (omega (arith, b))) (good_tag_lem (get_or a.s.now a.at 0) (omega (arith, b)) (omega (arith, b)))))

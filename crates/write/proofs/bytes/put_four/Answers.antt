@@ -1,11 +1,10 @@
 -- `write::bytes::put_four` meets its contract: four bytes, one after the other. Assumes nothing.
-use Prim.Native.Nat.{ℕ, ◌+◌, ◌-◌, ◌/◌, ◌%◌}
-use mathlib.Core.Path.{◌≡◌, refl}
-use mathlib.Core.List.{List, [], ◌∷◌}
+use Prim.Native.Nat.{ℕ, ◌+◌, ◌-◌}
+use mathlib.Core.Path.{refl}
 use native.Mathlib.Omega.{arith}
 use lib.ListN.{length-set}
 use Rattle.write.specs.Backward.{four}
-use Rattle.write.proofs.StoreLaws.{stored_as, going, gone_on, gone}
+use Rattle.write.proofs.StoreLaws.{going, gone_on, gone}
 use Rattle.write.proofs.bytes.put_four.Goals as goal
 
 pub bounds-out-q-2 : goal.bounds-out-q-2
@@ -19,21 +18,10 @@ bounds-out-q-4 c = simp length-set (omega arith)
 
 pub returns : goal.returns
 returns c =
-    let v = c.args.v in
-    let r₁ = c.low_byte in
-    let r₂ = c.low_byte-2 in
-    let r₃ = c.low_byte-3 in
-    let r₄ = c.low_byte-4 in
-    let new : List ℕ = r₁.result ∷ r₂.result ∷ r₃.result ∷ r₄.result ∷ [] in
-    let b₁ : r₁.result ≡ 128 + v % 128 = omega arith in
-    let b₂ : r₂.result ≡ 128 + v / 128 % 128 = omega arith in
-    let b₃ : r₃.result ≡ 128 + v / 128 / 128 % 128 = omega arith in
-    let b₄ : r₄.result ≡ 128 + v / 128 / 128 / 128 % 128 = omega arith in
-    let same : new ≡ four v = cc in
     let q : ℕ = c.args.p - 4 in
-    let g = going new c.args.out.now q c.args.p q refl (omega arith) c.requires.1 in
+    let g = going (four c.args.v) c.args.out.now q c.args.p q refl (omega arith) c.requires.1 in
     let g₁ = gone_on g (q + 1) _ _ refl refl in
     let g₂ = gone_on g₁ (q + 2) _ _ (omega arith) refl in
     let g₃ = gone_on g₂ (q + 3) _ _ (omega arith) refl in
     let g₄ = gone_on g₃ (q + 4) _ _ (omega arith) refl in
-    stored_as same (gone g₄ refl)
+    gone g₄ refl

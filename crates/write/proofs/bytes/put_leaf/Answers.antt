@@ -4,8 +4,8 @@ use Rattle.write.proofs.HereLaws.{leads, kind_small, byte_at, number_is}
 use Rattle.write.proofs.StoreLaws.{stored_as, room_as}
 use Rattle.write.proofs.bytes.put_leaf.Goals as goal
 
-pub bounds-table-i : goal.bounds-table-i
-bounds-table-i c = kind_small c.requires.1
+pub bounds-table-kind : goal.bounds-table-kind
+bounds-table-kind c = kind_small c.requires.1
 
 pub put_number-requires : goal.put_number-requires
 put_number-requires c =

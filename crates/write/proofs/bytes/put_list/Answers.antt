@@ -8,7 +8,7 @@ use lib.ListN.{length, drop}
 use lib.Seq.{take_all}
 use Rattle.spec.specs.Base.{filled}
 use Rattle.spec.specs.Record.{records_of, stride}
-use Rattle.spec.specs.Writing.{written}
+use Rattle.spec.specs.Writing.{bytes_of, written}
 use Rattle.spec.proofs.VarintLaws.{lower_or_not}
 use Rattle.spec.proofs.WritingLaws.{bytes_in}
 use Rattle.spec.proofs.RunLaws.{Passed, records_count}
@@ -38,13 +38,14 @@ stored_front {new} {out} {now} {q = q} s e =
     ap (λ (n : ℕ). drop n now) front ∙ s.behind ∙ ap (λ (n : ℕ). new ++ drop n out) e
 
 pub put_run-requires : goal.put_run-requires
+unfolding span start bytes_of
 put_run-requires c =
     let a = c.args in
     let passed = c.requires.1.passed in
     record {
       types = c.requires.0;
       given = c.requires.1;
-      ends = record { passed = passed; aligned = whole a.list.now passed; inside = omega arith };
+      ends = record { passed = passed; aligned = omega (arith, whole a.list.now passed); inside = omega arith };
       room = record { few = omega (arith, ap length (list_bytes a.list.now a.payload.now passed), c.requires.2); inside = c.requires.3 };
     }
 

@@ -13,8 +13,8 @@ use Rattle.write.proofs.HereLaws.{read, fit, kind_small, type_at, byte_at, tag_a
 use Rattle.write.proofs.bytes.put_record.Goals as goal
 use Rattle.write.proofs.bytes.put_record.Goals.{Start}
 
-pub bounds-table-i : goal.bounds-table-i
-bounds-table-i c = kind_small c.requires.1
+pub bounds-table-kind : goal.bounds-table-kind
+bounds-table-kind c = kind_small c.requires.1
 
 -- how many bytes go before p
 parts : (c : Start) → let a = c.args in let own = at a.list.now (a.b / stride) in let body = lead_of a.list.now a.payload.now a.b 0 in

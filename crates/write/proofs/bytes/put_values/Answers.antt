@@ -105,8 +105,8 @@ bounds-list-upto c =
     let v = c.requires in
     omega (arith, v.aligned, v.ends.aligned, v.some, v.ends.inside)
 
-pub bounds-table-i : goal.bounds-table-i
-bounds-table-i c = kind_few c.requires
+pub bounds-table-kind : goal.bounds-table-kind
+bounds-table-kind c = kind_few c.requires
 
 pub loop-b-init : goal.loop-b-init
 loop-b-init c = start c.requires

@@ -1,7 +1,6 @@
 -- `write::bytes::put_varint` meets its contract: one byte, or two, or the general way. Assumes nothing.
 use Prim.Native.Nat.{ℕ, ◌+◌, ◌-◌}
-use mathlib.Core.Path.{◌≡◌, refl, ap, ap₂, ◌∙◌}
-use mathlib.Core.List.{[], ◌∷◌}
+use mathlib.Core.Path.{refl, ap}
 use native.Mathlib.Omega.{arith}
 use lib.ListN.{length, length-set}
 use Rattle.spec.specs.Varint.{encode}
@@ -18,7 +17,7 @@ bounds-out-q c = omega (arith, ap length (encode_ends c.args.v c.if-v-lt-TWO_BYT
 pub returns-then-v-lt-TWO_BYTES : goal.returns-then-v-lt-TWO_BYTES
 returns-then-v-lt-TWO_BYTES c =
     let v : ℕ = c.args.v in
-    let e : encode v ≡ c.low_byte.result ∷ [] = encode_ends v c.if-v-lt-TWO_BYTES.true ∙ ap (λ (b : ℕ). b ∷ []) (omega arith) in
+    let e = encode_ends v c.if-v-lt-TWO_BYTES.true in
     let q : ℕ = c.args.p - 1 in
     let g = going (encode v) c.args.out.now q c.args.p q refl (omega (arith, ap length e)) c.requires.inside in
     gone (gone_on g (q + 1) _ _ refl e) refl
@@ -35,10 +34,7 @@ bounds-out-q-then-v-lt-THREE_BYTES-2 c = simp length-set (omega (arith, ap lengt
 pub returns-then-v-lt-THREE_BYTES : goal.returns-then-v-lt-THREE_BYTES
 returns-then-v-lt-THREE_BYTES c =
     let v : ℕ = c.args.v in
-    let a : ℕ = c.low_byte-then-v-lt-THREE_BYTES.result in
-    let b : ℕ = c.low_byte-then-v-lt-THREE_BYTES-2.result in
-    let e : encode v ≡ a ∷ b ∷ [] =
-    encode_two v (omega arith) c.if-v-lt-THREE_BYTES.true ∙ ap₂ (λ (x y : ℕ). x ∷ y ∷ []) (omega arith) (omega arith) in
+    let e = encode_two v (omega arith) c.if-v-lt-THREE_BYTES.true in
     let q : ℕ = c.args.p - 2 in
     let g = going (encode v) c.args.out.now q c.args.p q refl (omega (arith, ap length e)) c.requires.inside in
     gone (gone_on (gone_on g (q + 1) _ _ refl e) (q + 1 + 1) _ _ refl refl) refl

@@ -29,8 +29,8 @@ run_size-bounds-list-at-in-loop-at t c = omega (arith, whole c.loop-at.invariant
 pub run_size-bounds-list-at-in-loop-at-2 : goal.run_size-bounds-list-at-in-loop-at-2
 run_size-bounds-list-at-in-loop-at-2 t c = omega (arith, whole c.loop-at.invariant c.loop-at-test.true)
 
-pub run_size-bounds-table-i : goal.run_size-bounds-table-i
-run_size-bounds-table-i t c = omega (arith, kind_small (fit c.loop-at.invariant c.loop-at-test.true))
+pub run_size-bounds-table-kind : goal.run_size-bounds-table-kind
+run_size-bounds-table-kind t c = omega (arith, kind_small (fit c.loop-at.invariant c.loop-at-test.true))
 
 pub run_size-tag_size-size-requires : goal.run_size-tag_size-size-requires
 run_size-tag_size-size-requires t c = (fit c.loop-at.invariant c.loop-at-test.true).small

@@ -25,8 +25,8 @@ offset_bounds-list-from c = omega (arith, first_whole c.requires)
 pub bounds-list-from : goal.bounds-list-from
 bounds-list-from c = omega (arith, first_whole c.requires)
 
-pub bounds-table-i : goal.bounds-table-i
-bounds-table-i c = omega (arith, first_small c.requires)
+pub bounds-table-kind : goal.bounds-table-kind
+bounds-table-kind c = omega (arith, first_small c.requires)
 
 pub loop-at-init : goal.loop-at-init
 loop-at-init c = let e = c.requires in (values_start e, (e.m, e.values))

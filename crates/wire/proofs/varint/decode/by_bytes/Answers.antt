@@ -1,5 +1,4 @@
 -- `wire::varint::decode::by_bytes` meets its contract, at any width. The loop's invariant: n bytes are passed, and `scale` is what the next one counts.
--- The measure is what is left of `more`.
 -- Assumes nothing.
 use Prim.Native.Nat.{ℕ, suc, ◌-◌, ◌+◌, ◌^◌}
 use native.Mathlib.Nat.{pow-suc}
@@ -7,6 +6,7 @@ use native.Mathlib.Numerals.{add-one}
 use native.Mathlib.Omega.{arith}
 use mathlib.Core.Path.{◌≡◌, refl, sym, ap, ◌∙◌}
 use lib.ListN.{get_or}
+use Rattle.wire.specs.Reached.{Reached}
 use Rattle.wire.proofs.VarintSteps.{begin, ended, stopped, turned, took_last, refused_last, scale_below, digit_below, last_below}
 use Rattle.wire.proofs.varint.decode.by_bytes.Goals as goal
 use Rattle.wire.proofs.varint.decode.by_bytes.Goals.{After-loop-n, After-shared_slice_known-1}
@@ -51,29 +51,24 @@ loop-n-preserved c =
       reached = rw inv.scaled (turned (omega arith) (rw (more_left (goal.at.loop-n-preserved c).After-shared_slice_known-1) at inv.reached) c.if-b-lt128.false);
     }
 
-pub returns-then-size-n-2 : goal.returns-then-size-n-2
-returns-then-size-n-2 c = ended c.loop-n.invariant.reached (omega arith)
+pub returns-then-size-more : goal.returns-then-size-more
+returns-then-size-more c = ended c.loop-n.invariant.reached (omega arith)
 
 pub overflow_cast-b-2 : goal.overflow_cast-b-2
-overflow_cast-b-2 c = omega (arith, c.type_inv.s (c.args.at + c.loop-n.n))
+overflow_cast-b-2 c = omega (arith, c.type_inv.s (c.args.at + c.args.more))
 
 -- all bytes but the last are passed
-all-passed : (c : After-loop-n) → c.args.more - c.loop-n.n ≡ 0
-all-passed c = omega arith
+last-left : (c : After-loop-n) → Reached c.args.more c.args.last c.args.s.now c.args.at c.args.more 0 c.loop-n.value
+last-left c =
+    let full : c.loop-n.n ≡ c.args.more = omega arith in
+    let none : c.args.more - c.args.more ≡ 0 = omega arith in
+    rw none at (rw full at c.loop-n.invariant.reached)
 
 pub returns-then-last-b : goal.returns-then-last-b
-returns-then-last-b c = refused_last (omega arith) (rw (all-passed (goal.at.returns-then-last-b c).After-loop-n) at c.loop-n.invariant.reached) c.if-last-b.true
-
-pub overflow_add-whole : goal.overflow_add-whole
-overflow_add-whole c =
-    let inv = c.loop-n.invariant in
-    let full : c.loop-n.n ≡ c.args.more = omega arith in
-    rw inv.scaled (omega (arith, last_below full inv.reached.low c.if-last-b.false, c.requires.1))
-
-pub overflow_mul-high : goal.overflow_mul-high
-overflow_mul-high c = omega (arith, overflow_add-whole c)
+returns-then-last-b c = refused_last (omega arith) (last-left (goal.at.returns-then-last-b c).After-loop-n) c.if-last-b.true
 
 pub returns : goal.returns
 returns c =
     let inv = c.loop-n.invariant in
-    rw inv.scaled (took_last (omega arith) (rw (all-passed (goal.at.returns c).After-loop-n) at inv.reached) c.if-last-b.false)
+    let full : c.loop-n.n ≡ c.args.more = omega arith in
+    rw (inv.scaled, full) (took_last (omega arith) (last-left (goal.at.returns c).After-loop-n) c.if-last-b.false)

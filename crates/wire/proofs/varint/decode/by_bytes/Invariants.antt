@@ -1,5 +1,4 @@
 -- `wire::varint::decode::by_bytes` meets its contract, at any width. The loop's invariant: n bytes are passed, and `scale` is what the next one counts.
--- The measure is what is left of `more`.
 -- Assumes nothing.
 use Prim.Native.Nat.{ℕ, ◌-◌, ◌^◌, ◌≤◌}
 use mathlib.Core.Path.{◌≡◌}
@@ -15,6 +14,3 @@ pub record Passed (more last : ℕ) (s : List ℕ) (at n value scale : ℕ) : Ty
 
 abbrev pub invariant-loop-n : goal.invariant-loop-n
 invariant-loop-n l = Passed l.more l.last l.s l.at l.n l.value l.scale
-
-abbrev pub decreases-loop-n : goal.decreases-loop-n
-decreases-loop-n l = l.more - l.n

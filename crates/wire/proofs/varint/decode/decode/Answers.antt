@@ -1,10 +1,8 @@
 -- `wire::varint::decode::decode` meets its contract: one and two bytes by the laws of `VarintSteps`, and the others by `long`.
 -- Assumes nothing.
 use Prim.Native.Nat.{suc, ◌+◌}
-use mathlib.Core.Path.{sym, ap, ◌∙◌}
 use native.Mathlib.Omega.{arith}
 use lib.ListN.{drop}
-use Rattle.wire.specs.Answers.{as_read}
 use Rattle.wire.proofs.VarintSteps.{begin, ended, either_width, one_byte, first_byte, stopped}
 use Rattle.wire.proofs.varint.decode.decode.Goals as goal
 
@@ -29,6 +27,3 @@ returns-then-b1-lt128 c =
     let a = c.args in
     either_width a.narrow (drop a.at a.s.now) λ k last.
     stopped {s = a.s.now} {at = a.at} (omega arith) (first_byte (suc (suc (suc k))) last _ _ (omega arith) c.if-b0-lt128.false) c.if-b1-lt128.true
-
-pub returns-then-s-at-gt1 : goal.returns-then-s-at-gt1
-returns-then-s-at-gt1 c = ap (as_read _) (sym c.in-Value.is) ∙ c.long-f.ensures

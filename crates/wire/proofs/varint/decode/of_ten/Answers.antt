@@ -7,8 +7,7 @@ use mathlib.Core.Bool.{Bool}
 use mathlib.Core.List.{List}
 use lib.ListN.{length, get_or, drop}
 use Rattle.wire.specs.Reached.{Reached, varint_of}
-use Rattle.wire.specs.Answers.{as_read}
-use Rattle.wire.specs.declared.found.Found.TheVariants.{Value}
+use Rattle.wire.specs.Answers.{as_read, value_at}
 use Rattle.wire.proofs.VarintSteps.{either_width, first_byte, stopped, turned}
 use Rattle.wire.proofs.varint.decode.of_ten.Goals as goal
 
@@ -28,15 +27,15 @@ module _ (s : List ℕ) (at : ℕ) (fits : at + 10 ≤ length s) (big0 : 128 ≤
       → Reached (suc (suc (suc (suc k)))) last s at 4 k (get_or s at 0 % 128 + get_or s (at + 1) 0 % 128 * 128 + get_or s (at + 2) 0 % 128 * 0x4000 + get_or s (at + 3) 0 % 128 * 0x20_0000)
   four big1 big2 big3 k last = turned (omega arith) (three big1 big2 (suc k) last) big3
 
-  ends_1 : (narrow : Bool) → get_or s (at + 1) 0 < 128 → as_read at (Value (get_or s at 0 % 128 + get_or s (at + 1) 0 % 128 * 128) (at + 2)) ≡ varint_of narrow (drop at s)
+  ends_1 : (narrow : Bool) → get_or s (at + 1) 0 < 128 → as_read at (value_at (get_or s at 0 % 128 + get_or s (at + 1) 0 % 128 * 128) (at + 2)) ≡ varint_of narrow (drop at s)
   ends_1 narrow small = either_width narrow (drop at s) λ k last. stopped (omega arith) (one (suc (suc (suc k))) last) small
 
   ends_2 : (narrow : Bool) → 128 ≤ get_or s (at + 1) 0 → get_or s (at + 2) 0 < 128
-      → as_read at (Value (get_or s at 0 % 128 + get_or s (at + 1) 0 % 128 * 128 + get_or s (at + 2) 0 % 128 * 0x4000) (at + 3)) ≡ varint_of narrow (drop at s)
+      → as_read at (value_at (get_or s at 0 % 128 + get_or s (at + 1) 0 % 128 * 128 + get_or s (at + 2) 0 % 128 * 0x4000) (at + 3)) ≡ varint_of narrow (drop at s)
   ends_2 narrow big1 small = either_width narrow (drop at s) λ k last. stopped (omega arith) (two big1 (suc (suc k)) last) small
 
   ends_3 : (narrow : Bool) → 128 ≤ get_or s (at + 1) 0 → 128 ≤ get_or s (at + 2) 0 → get_or s (at + 3) 0 < 128
-      → as_read at (Value (get_or s at 0 % 128 + get_or s (at + 1) 0 % 128 * 128 + get_or s (at + 2) 0 % 128 * 0x4000 + get_or s (at + 3) 0 % 128 * 0x20_0000) (at + 4)) ≡ varint_of narrow (drop at s)
+      → as_read at (value_at (get_or s at 0 % 128 + get_or s (at + 1) 0 % 128 * 128 + get_or s (at + 2) 0 % 128 * 0x4000 + get_or s (at + 3) 0 % 128 * 0x20_0000) (at + 4)) ≡ varint_of narrow (drop at s)
   ends_3 narrow big1 big2 small = either_width narrow (drop at s) λ k last. stopped (omega arith) (three big1 big2 (suc k) last) small
 
 pub overflow_cast-b0 : goal.overflow_cast-b0

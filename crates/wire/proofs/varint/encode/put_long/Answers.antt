@@ -24,8 +24,8 @@ room c =
       | else-left-lt-LONGEST w ↦ omega (arith, bytes_within 10 c.args.value (omega arith) (omega arith))
     ]
 
-pub store-next-requires : goal.store-next-requires
-store-next-requires c = room (goal.at.store-next-requires c).Joined-left-lt-LONGEST
+pub store-requires : goal.store-requires
+store-requires c = room (goal.at.store-requires c).Joined-left-lt-LONGEST
 
 pub returns : goal.returns
-returns c = in_place (room (goal.at.returns c).Joined-left-lt-LONGEST) c.store-next.ensures.0 c.store-next.ensures.1
+returns c = in_place (room (goal.at.returns c).Joined-left-lt-LONGEST) c.store.ensures.0 c.store.ensures.1

@@ -1,7 +1,0 @@
--- `printing::put_decimal` meets its contract. Assumes nothing.
-use Rattle.printing.specs.Text.{decimal}
-use Rattle.printing.proofs.put_decimal.Goals as goal
-
-pub returns : goal.returns
-unfolding decimal
-returns c = c.put_digits.ensures
