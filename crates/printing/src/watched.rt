@@ -6,7 +6,7 @@ ghost use Rattle.spec.specs.Told.{read_number, read_count, read_place, written_n
 ghost use Rattle.printing.specs.Page.{Adds};
 ghost use Rattle.printing.specs.Watched.{three, size_or_refusal, touched_if, rows_or_none, bytes_or_none, reading_text, writing_text};
 
-use crate::{Layout, Page, rows_read};
+use crate::{Ending, Layout, Page, rows_read};
 use spec::answers::{Stopped, Unwritten};
 use spec::refusals::Refusal;
 
@@ -33,13 +33,9 @@ impl Page<'_> {
     fn put_read_numbers(&mut self, read: Result<usize, Stopped>)
         ensures { Adds self.old (three (read_number read) (read_count read) (read_place read)) self.new }
     {
-        match read {
-            Ok(count) => self.put_three(0, count as u64, 0),
-            Err(stopped) => {
-                let number = u64::from(stopped.refusal.number());
-                self.put_three(number, stopped.count as u64, stopped.place as u64);
-            }
-        }
+        let ending = Ending::from(read);
+        let number = u64::from(ending.number);
+        self.put_three(number, ending.count as u64, ending.place as u64);
     }
 
     // The numbers of a writing: the refusal's, 0 for none; the size; the index.
