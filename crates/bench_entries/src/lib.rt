@@ -27,8 +27,8 @@ pub fn perf_entries_read(
         × (room.new ≡ room_after (reading (first_of types numbers.now) (length room.old / stride) s.now) room.old) }
 {
     let mut made_in = [NO_ENTRY; MOST_MADE];
-    let made = entries::made(numbers, &mut made_in);
-    match entries::read(types, made, s, room) {
+    let count = entries::made(numbers, &mut made_in);
+    match entries::read(types, &made_in[..count], s, room) {
         Ok(count) => {
             *answer = [count as u64, 0];
             0

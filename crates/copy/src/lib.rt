@@ -5,8 +5,8 @@ ghost use Rattle.std.specs.Prelude.{◌≡◌, ◌+◌, ◌*◌, ◌≤◌, leng
 ghost use Rattle.spec.specs.Base.{part};
 ghost use Rattle.wire.specs.Answers.{stored};
 
-// From this length on the library copies. Its copy is a call, which costs more than all the work on fewer bytes.
-const LONG: usize = 128;
+// The largest piece that is copied at once.
+const PIECE: usize = 64;
 
 // The N bytes from place i on, to the same place. They are an array in between, so all are loaded before one is stored: up to 16 take one load and one store.
 fn put_piece<const N: usize>(from: &[u8], i: usize, to: &mut [u8])
@@ -26,16 +26,29 @@ fn put_ends<const N: usize>(from: &[u8], to: &mut [u8])
     put_piece::<N>(from, from.len() - N, to);
 }
 
+// From PIECE bytes on: piece after piece, and the last PIECE bytes, which may overlap the piece before. The library's copy of a whole slice is not used for
+// many bytes: it is a call of `memmove`, a name that the archive for C would then need from outside.
+fn put_pieces(from: &[u8], to: &mut [u8])
+    requires { (length from.now ≡ length to.old) × (64 ≤ length from.now) }
+    ensures { to.new ≡ from.now }
+{
+    let last = from.len() - PIECE;
+    let mut i = 0;
+    while i < last {
+        put_piece::<PIECE>(from, i, to);
+        i += PIECE;
+    }
+    put_piece::<PIECE>(from, last, to);
+}
+
 // All the bytes. Up to three are stored one by one with no branch on how many there are: one place may be stored twice or three times.
 fn put_all(from: &[u8], to: &mut [u8])
     requires { length from.now ≡ length to.old }
     ensures { to.new ≡ from.now }
 {
     let n = from.len();
-    if LONG <= n {
-        to.copy_from_slice(from);
-    } else if 64 <= n {
-        put_ends::<64>(from, to);
+    if PIECE <= n {
+        put_pieces(from, to);
     } else if 32 <= n {
         put_ends::<32>(from, to);
     } else if 16 <= n {

@@ -10,6 +10,7 @@ use mathlib.Core.Option.{some}
 use mathlib.Core.List.{List, [], ◌∷◌, ◌++◌}
 use lib.ListN.{length, take, drop, set}
 use lib.Seq.{drop-drop, get_or-drop, take_all, take-suc-set}
+use Rattle.std.proofs.lemmas.List.{drop-set-lt}
 use lib.Dec.{eqb}
 use Rattle.spec.specs.Schema.{Schema, bad_schema, entries_of, schema_of, entry_stride}
 use Rattle.spec.specs.declared.Entry.{Entry}
@@ -32,18 +33,33 @@ entries_more (suc k) ns =
     ap (λ (l : List Entry). first_entry ns ∷ l)
     (entries_more k (drop entry_stride ns) ∙ ap (λ (l : List ℕ). entries_of k (drop entry_stride ns) ++ (first_entry l ∷ [])) (drop-drop (entry_stride * k) entry_stride ns ∙ ap (λ (n : ℕ). drop n ns) further))
 
--- the loop of `made`: the first i entries are made
-abbrev pub Here : List ℕ → ℕ → List Entry → Type 0
-Here ns i es = take i es ≡ entries_of i ns
+-- the loop of `made`: of a room, the first i entries are made, and the others are as they were
+pub record Here (ns : List ℕ) (first : List Entry) (i : ℕ) (es : List Entry) : Type 0 where
+  pub front : take i es ≡ entries_of i ns
+  pub rest : drop i es ≡ drop i first
 
-pub here_next : (ns : List ℕ) (i j : ℕ) (es : List Entry) (e : Entry) → i < length es → j ≡ i * entry_stride → Here ns i es → e ≡ entry_at ns j → Here ns (i + 1) (set es i e)
-here_next ns i j es e inside at h is =
+pub here_first : (ns : List ℕ) (first : List Entry) → Here ns first 0 first
+unfolding entries_of
+here_first ns first = record { front = refl; rest = refl }
+
+pub here_next : (ns : List ℕ) (first : List Entry) (i j : ℕ) (es : List Entry) (e : Entry) → i < length es → j ≡ i * entry_stride → Here ns first i es → e ≡ entry_at ns j
+    → Here ns first (i + 1) (set es i e)
+here_next ns first i j es e inside at h is =
     let place : j ≡ entry_stride * i = omega (arith, at) in
-    ap (λ (k : ℕ). take k (set es i e)) (add-one i)
-    ∙ take-suc-set es i e inside
-    ∙ ap₂ (λ (l : List Entry) (x : Entry). l ++ (x ∷ [])) h (is ∙ ap (entry_at ns) place ∙ sym (entry_behind ns (entry_stride * i)))
-    ∙ sym (entries_more i ns)
-    ∙ ap (λ (k : ℕ). entries_of k ns) (sym (add-one i))
+    record {
+      front =
+          ap (λ (k : ℕ). take k (set es i e)) (add-one i)
+          ∙ take-suc-set es i e inside
+          ∙ ap₂ (λ (l : List Entry) (x : Entry). l ++ (x ∷ [])) h.front (is ∙ ap (entry_at ns) place ∙ sym (entry_behind ns (entry_stride * i)))
+          ∙ sym (entries_more i ns)
+          ∙ ap (λ (k : ℕ). entries_of k ns) (sym (add-one i));
+      rest = drop-set-lt (i + 1) es i e (omega arith) ∙ sym (drop-drop 1 i es) ∙ ap (drop 1) h.rest ∙ drop-drop 1 i first;
+    }
+
+-- what `made` leaves at the front of a room of so many
+pub made_front : (ns : List ℕ) (most k : ℕ) {front : List Entry} → k ≡ min (length ns / entry_stride) most → front ≡ entries_of k ns
+    → front ≡ entries_of (min (length ns / entry_stride) most) ns
+made_front ns most k many is = is ∙ ap (λ (n : ℕ). entries_of n ns) many
 
 -- ---- how many are made
 

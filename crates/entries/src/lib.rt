@@ -2,7 +2,7 @@
 // the work; `lookup` goes over the entries themselves.
 #![tactic(auto)]
 
-ghost use Rattle.std.specs.Prelude.{◌≡◌, ◌+◌, ◌/◌, ◌<◌, length, min};
+ghost use Rattle.std.specs.Prelude.{◌≡◌, ◌+◌, ◌/◌, ◌<◌, length, min, take, drop};
 ghost use Rattle.spec.specs.Names.{child_column, most_entries};
 ghost use Rattle.spec.specs.Record.{records_of, stride};
 ghost use Rattle.spec.specs.Reading.{reading, reading_as, number, place, listed, room_after};
@@ -168,16 +168,18 @@ fn entry_at(numbers: &[u32], i: usize) -> Entry
     }
 }
 
-// Makes entries of the numbers, as many as there are or as the room holds, and lends them.
-pub fn made<'a>(numbers: &[u32], room: &'a mut [Entry]) -> &'a [Entry]
-    ensures { result.now ≡ entries_of (min (length numbers.now / entry_stride) (length room.old)) numbers.now }
+// Makes entries of the numbers at the front of the room, as many as there are or as the room holds: how many. The rest of the room stays as it was.
+pub fn made(numbers: &[u32], room: &mut [Entry]) -> usize
+    ensures count { result ≡ min (length numbers.now / entry_stride) (length room.old) }
+    ensures front { take result room.new ≡ entries_of result numbers.now }
+    ensures rest { drop result room.new ≡ drop result room.old }
 {
     let count = (numbers.len() / columns::ENTRY_STRIDE).min(room.len());
     // by places: of what `iter_mut` leaves a proof knows only the length
     for i in 0..count {
         room[i] = entry_at(numbers, i * columns::ENTRY_STRIDE);
     }
-    &room[..count]
+    count
 }
 
 // The type count that stands for so many numbers: 0 where they are no whole entries, as the definition `schema_of` has it.
@@ -206,7 +208,8 @@ pub fn read_numbers_as(
         × (room.new ≡ room_after (reading_as mode (schema_of types numbers.now) (length room.old / stride) s.now) room.old) }
 {
     let mut made_in = [NO_ENTRY; ONE_MORE];
-    let entries = made(numbers, &mut made_in);
+    let count = made(numbers, &mut made_in);
+    let entries = &made_in[..count];
     read_as(mode, type_count(types, numbers.len()), entries, s, room)
 }
 
@@ -234,7 +237,8 @@ pub fn lookup_numbers(numbers: &[u32], owner: u32, number: u32) -> Option<usize>
         return None;
     }
     let mut room = [NO_ENTRY; ONE_MORE];
-    lookup(made(numbers, &mut room), owner, number)
+    let count = made(numbers, &mut room);
+    lookup(&room[..count], owner, number)
 }
 
 // Checks a list of seven numbers a record, whose contents lie in `payload`, under a schema of five numbers an entry.
@@ -242,7 +246,8 @@ pub fn check_numbers(types: u32, numbers: &[u32], list: &[u64], payload: &[u8]) 
     ensures { verdict result ≡ list_check (schema_of types numbers.now) payload.now (records_of list.now) }
 {
     let mut made_in = [NO_ENTRY; ONE_MORE];
-    let entries = made(numbers, &mut made_in);
+    let count = made(numbers, &mut made_in);
+    let entries = &made_in[..count];
     check(type_count(types, numbers.len()), entries, list, payload)
 }
 
@@ -258,7 +263,8 @@ pub fn size_numbers(
     ensures index { written_index result ≡ writer.index (sizing (schema_of types numbers.now) payload.now (records_of list.now)) }
 {
     let mut made_in = [NO_ENTRY; ONE_MORE];
-    let entries = made(numbers, &mut made_in);
+    let count = made(numbers, &mut made_in);
+    let entries = &made_in[..count];
     size(type_count(types, numbers.len()), entries, list, payload)
 }
 
@@ -276,7 +282,8 @@ pub fn write_numbers(
     ensures output { out.new ≡ output (writing (schema_of types numbers.now) (length out.old) payload.now (records_of list.now)) out.old }
 {
     let mut made_in = [NO_ENTRY; ONE_MORE];
-    let entries = made(numbers, &mut made_in);
+    let count = made(numbers, &mut made_in);
+    let entries = &made_in[..count];
     write(
         type_count(types, numbers.len()),
         entries,

@@ -141,10 +141,8 @@ module _ {p : Page} where
   unfolding digits_of
   digits_none n e = rw e adds_none
 
-  pub digits_one : (left n : ℕ) {q : Page} → 0 < left → n < 10 → Adds p ((zero_glyph + n % 10) ∷ []) q → Adds p (digits_of left n) q
-  digits_one left n l h s =
-      let e : n % 10 ≡ n = omega arith in
-      rw (digits_last left n l h) (rw e at s)
+  pub digits_one : (left n : ℕ) {q : Page} → 0 < left → n < 10 → Adds p ((zero_glyph + n) ∷ []) q → Adds p (digits_of left n) q
+  digits_one left n l h s = rw (digits_last left n l h) s
 
   pub digits_many : (left n : ℕ) {q r : Page} → 0 < left → 10 ≤ n
       → Adds p (digits_of (left - 1) (n / 10)) q → Adds q ((zero_glyph + n % 10) ∷ []) r → Adds p (digits_of left n) r

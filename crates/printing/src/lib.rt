@@ -109,9 +109,11 @@ impl<'a> Page<'a> {
         if left == 0 {
             return;
         }
-        if 10 <= n {
-            self.put_digits(n / 10, left - 1);
+        if n < 10 {
+            self.put_byte(b'0' + n as u8);
+            return;
         }
+        self.put_digits(n / 10, left - 1);
         self.put_byte(b'0' + (n % 10) as u8);
     }
 

@@ -10,11 +10,15 @@ use crate::{Ending, Layout, Page, rows_read};
 use spec::answers::{Stopped, Unwritten};
 use spec::refusals::Refusal;
 
-// Whether any of these is not the pattern.
+// Whether any of these is not the pattern. No element ends the loop, as `any` would: so the compiler compares many at a time, and nearly always all are the pattern.
 fn is_changed<T: PartialEq>(list: &[T], pattern: &T) -> bool
     ensures { result ≡ list_any (λ x. not (T.eq x pattern.now)) list.now }
 {
-    list.iter().any(|x| *x != *pattern)
+    let mut changed = false;
+    for x in list {
+        changed |= *x != *pattern;
+    }
+    changed
 }
 
 impl Page<'_> {

@@ -12,6 +12,9 @@ use std::io::{Read, Write};
 // The longest message.
 const LONGEST: usize = 65536;
 
+// The buffer of the input: the longest message, and one byte by which a longer one is known.
+const INPUT: usize = LONGEST + 1;
+
 // The room for records.
 const ROOM: usize = 1024 * STRIDE;
 
@@ -34,24 +37,43 @@ const SCHEMA: [[u32; ENTRY_STRIDE]; 9] = [
     [1, 3, kinds32::MESSAGE, 0, 1],
 ];
 
-// What reading the message answers. One that is too long is not read.
-fn read_message(s: &[u8], room: &mut [u64]) -> Result<usize, Stopped> {
-    if LONGEST < s.len() {
+// Fills the buffer from the input, as far as there is any: how many bytes it has then. Each read is offered all that is left of the buffer, since an input that
+// keeps the bounds of packets drops what of a packet a shorter read does not take; `read_to_end` begins with short ones.
+fn read_input<R: Read>(input: &mut R, buf: &mut [u8]) -> io::Result<usize> {
+    let mut have = 0;
+    // an iteration that goes on reads a byte at least
+    for _ in 0..buf.len() {
+        if buf.len() <= have {
+            return Ok(have);
+        }
+        let more = input.read(&mut buf[have..])?;
+        if more == 0 {
+            return Ok(have);
+        }
+        have += more;
+    }
+    Ok(have)
+}
+
+// What reading the message answers, which is the first `have` bytes of the buffer. One that fills the buffer is too long, and is not read.
+fn read_message(buf: &[u8], have: usize, room: &mut [u64]) -> Result<usize, Stopped> {
+    if buf.len() <= have {
         return Err(Stopped {
             refusal: Refusal::TooLarge,
             count: 0,
             place: 0,
         });
     }
-    read::read(TYPES, SCHEMA.as_flattened(), s, room)
+    read::read(TYPES, SCHEMA.as_flattened(), &buf[..have], room)
 }
 
 fn main(rt: HostRuntime) -> io::Result<()> {
-    let mut input = Vec::new(rt.alloc());
-    rt.stdin().take(LONGEST as u64 + 1).read_to_end(&mut input)?;
+    // all arrays before any call: those made after one are filled twice
+    let mut buf = [0u8; INPUT];
     let mut room = [0u64; ROOM];
-    let read = read_message(&input, &mut room);
     let mut out = [0u8; OUTPUT];
+    let have = read_input(&mut rt.stdin(), &mut buf)?;
+    let read = read_message(&buf, have, &mut room);
     let mut page = Page::new(&mut out);
     page.put_listing(read.into(), rows_read(read, &room, STRIDE), b'\n');
     page.put_byte(b'\n');

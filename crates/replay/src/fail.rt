@@ -1,6 +1,5 @@
 // Why a line has no answer.
 use hex::FromHexError;
-use std::alloc::{AllocError, AllocFailed};
 use std::str::Utf8Error;
 use std::{fmt, io};
 
@@ -10,18 +9,6 @@ pub enum Fail {
     BadLine,
     // The program cannot go on.
     Host(io::Error),
-}
-
-impl From<AllocError> for Fail {
-    fn from(e: AllocError) -> Fail {
-        Fail::Host(io::Error::from(e))
-    }
-}
-
-impl<T: Drop> From<AllocFailed<T>> for Fail {
-    fn from(e: AllocFailed<T>) -> Fail {
-        Fail::from(AllocError::from(e))
-    }
 }
 
 impl From<fmt::Error> for Fail {
@@ -37,10 +24,7 @@ impl From<Utf8Error> for Fail {
 }
 
 impl From<FromHexError> for Fail {
-    fn from(e: FromHexError) -> Fail {
-        match e {
-            FromHexError::OutOfMemory => Fail::from(AllocError),
-            _ => Fail::BadLine,
-        }
+    fn from(_: FromHexError) -> Fail {
+        Fail::BadLine
     }
 }

@@ -1,6 +1,7 @@
 // The verbs on numbers and on bytes alone: varints, zigzag, tags, the size limit, the table of kinds, UTF-8, skipping, the document check.
 use crate::answers::put_refused;
 use crate::fail::Fail;
+use crate::room::Room;
 use crate::sizings::signed32;
 use crate::words::Words;
 use printing::Page;
@@ -104,23 +105,23 @@ fn put_found(found: Result<Found, Refusal>, page: &mut Page) -> fmt::Result {
 }
 
 // `varint64 HEX`.
-pub fn varint64(words: &mut Words, page: &mut Page) -> Result<(), Fail> {
-    let s = words.last_bytes()?;
-    put_found(decode_varint64(&s, 0), page)?;
+pub fn varint64(words: &mut Words, room: &mut Room, page: &mut Page) -> Result<(), Fail> {
+    let s = words.last_bytes(&mut room.bytes)?;
+    put_found(decode_varint64(s, 0), page)?;
     Ok(())
 }
 
 // `varint32 HEX`.
-pub fn varint32(words: &mut Words, page: &mut Page) -> Result<(), Fail> {
-    let s = words.last_bytes()?;
-    put_found(decode_varint32(&s, 0), page)?;
+pub fn varint32(words: &mut Words, room: &mut Room, page: &mut Page) -> Result<(), Fail> {
+    let s = words.last_bytes(&mut room.bytes)?;
+    put_found(decode_varint32(s, 0), page)?;
     Ok(())
 }
 
 // `utf8 HEX`: `ok` or `refused 6`.
-pub fn utf8(words: &mut Words, page: &mut Page) -> Result<(), Fail> {
-    let s = words.last_bytes()?;
-    if utf8::is_utf8(&s) {
+pub fn utf8(words: &mut Words, room: &mut Room, page: &mut Page) -> Result<(), Fail> {
+    let s = words.last_bytes(&mut room.bytes)?;
+    if utf8::is_utf8(s) {
         page.put_text(b"ok");
     } else {
         put_refused(Refusal::NotUtf8, page)?;
@@ -129,16 +130,16 @@ pub fn utf8(words: &mut Words, page: &mut Page) -> Result<(), Fail> {
 }
 
 // `utf8prefix HEX`.
-pub fn utf8prefix(words: &mut Words, page: &mut Page) -> Result<(), Fail> {
-    let s = words.last_bytes()?;
-    write!(page, "{}", utf8::utf8_prefix(&s))?;
+pub fn utf8prefix(words: &mut Words, room: &mut Room, page: &mut Page) -> Result<(), Fail> {
+    let s = words.last_bytes(&mut room.bytes)?;
+    write!(page, "{}", utf8::utf8_prefix(s))?;
     Ok(())
 }
 
 // `document HEX`: `yes` or `no`.
-pub fn document(words: &mut Words, page: &mut Page) -> Result<(), Fail> {
-    let s = words.last_bytes()?;
-    let said = if skip::document::is_document(&s) {
+pub fn document(words: &mut Words, room: &mut Room, page: &mut Page) -> Result<(), Fail> {
+    let s = words.last_bytes(&mut room.bytes)?;
+    let said = if skip::document::is_document(s) {
         "yes"
     } else {
         "no"
@@ -156,20 +157,20 @@ fn put_skipped(skipped: Result<usize, Refusal>, page: &mut Page) -> fmt::Result 
 }
 
 // `skip LEVEL TAG HEX`.
-pub fn skip(words: &mut Words, page: &mut Page) -> Result<(), Fail> {
+pub fn skip(words: &mut Words, room: &mut Room, page: &mut Page) -> Result<(), Fail> {
     let level = words.number()?;
     let tag = words.number()?;
-    let s = words.last_bytes()?;
-    put_skipped(skip_field_for_tag(tag, &s, level), page)?;
+    let s = words.last_bytes(&mut room.bytes)?;
+    put_skipped(skip_field_for_tag(tag, s, level), page)?;
     Ok(())
 }
 
 // `group LEVEL TAG HEX`.
-pub fn group(words: &mut Words, page: &mut Page) -> Result<(), Fail> {
+pub fn group(words: &mut Words, room: &mut Room, page: &mut Page) -> Result<(), Fail> {
     let level = words.number()?;
     let tag = words.number()?;
-    let s = words.last_bytes()?;
-    put_skipped(read_unknown_or_skip_group(tag, &s, level), page)?;
+    let s = words.last_bytes(&mut room.bytes)?;
+    put_skipped(read_unknown_or_skip_group(tag, s, level), page)?;
     Ok(())
 }
 

@@ -1,5 +1,6 @@
 // The verb `pull`: the steps of a pull reader, and of the readers that it enters, one after the other, and the answer to each.
 use crate::fail::Fail;
+use crate::room::Room;
 use crate::words::{Words, number};
 use printing::Page;
 use pull::reader::{enter_once, step_once};
@@ -16,11 +17,15 @@ struct Open<'a> {
     level: u32,
 }
 
-// The reader on top, and those that it was entered from, the outermost first.
+// The most readers below the one on top: each has a level of its own.
+const MOST_BELOW: usize = MOST_LEVELS as usize;
+
+// The reader on top, and those that it was entered from, the outermost first: so many at the front of `below`.
 #[derive(Drop)]
-struct Readers<'a> {
+struct Readers<'a, 'b> {
     top: Open<'a>,
-    below: Vec<Open<'a>>,
+    below: &'b mut [Open<'a>],
+    count: usize,
 }
 
 // What a step asks the reader for.
@@ -60,22 +65,36 @@ fn put_said(said: Result<Said, Refused>, at: usize, page: &mut Page) -> fmt::Res
     }
 }
 
-impl Readers<'_> {
+impl<'a> Readers<'a, '_> {
+    // Puts a reader on top.
+    fn push(&mut self, inner: Open<'a>) -> Result<(), Fail> {
+        let (outer, count) = (self.top, self.count);
+        let place = self.below.get_mut(count).ok_or(Fail::BadLine)?;
+        *place = outer;
+        self.top = inner;
+        self.count = count + 1;
+        Ok(())
+    }
+
+    // Takes the reader below off the others.
+    fn pop(&mut self) -> Option<Open<'a>> {
+        let last = self.count.checked_sub(1)?;
+        self.count = last;
+        self.below.get(last).copied()
+    }
+
     // `enter`: the reader over the content is on top then. A refused one puts no reader on top.
     fn enter(&mut self, page: &mut Page) -> Result<(), Fail> {
         let outer = self.top;
         let entered = enter_once(outer.bytes, outer.at, outer.level);
         if let Ok(Said::Content { start, end }) = entered.said {
             if let Some(bytes) = outer.bytes.get(start..end) {
-                self.below.push(Open {
-                    at: entered.at,
-                    ..outer
-                })?;
-                self.top = Open {
+                self.top.at = entered.at;
+                self.push(Open {
                     bytes,
                     at: 0,
                     level: entered.level,
-                };
+                })?;
             }
         }
         put_said(entered.said, entered.at, page)?;
@@ -84,7 +103,7 @@ impl Readers<'_> {
 
     // `leave`: the reader below is on top again.
     fn leave(&mut self, page: &mut Page) -> fmt::Result {
-        match self.below.pop() {
+        match self.pop() {
             Some(outer) => {
                 self.top = outer;
                 write!(page, "left@{}", outer.at)
@@ -103,7 +122,7 @@ impl Readers<'_> {
 }
 
 // The answers of the steps, with `,` between them.
-fn put_steps(steps: &str, mut readers: Readers, page: &mut Page) -> Result<(), Fail> {
+fn put_steps(steps: &str, readers: &mut Readers, page: &mut Page) -> Result<(), Fail> {
     for (i, step) in steps.split(',').enumerate() {
         if 0 < i {
             page.put_byte(b',');
@@ -118,21 +137,22 @@ fn put_steps(steps: &str, mut readers: Readers, page: &mut Page) -> Result<(), F
 }
 
 // `pull LEVEL STEPS HEX`.
-pub fn pull(words: &mut Words, page: &mut Page) -> Result<(), Fail> {
+pub fn pull(words: &mut Words, room: &mut Room, page: &mut Page) -> Result<(), Fail> {
     let level = words.number()?;
     let steps = words.word()?;
-    let bytes = words.last_bytes()?;
+    let bytes = words.last_bytes(&mut room.bytes)?;
     if MOST_LEVELS < level {
         return Err(Fail::BadLine);
     }
     let top = Open {
-        bytes: &bytes,
+        bytes,
         at: 0,
         level,
     };
-    let readers = Readers {
+    let mut readers = Readers {
         top,
-        below: Vec::new(words.alloc),
+        below: &mut [top; MOST_BELOW],
+        count: 0,
     };
-    put_steps(steps, readers, page)
+    put_steps(steps, &mut readers, page)
 }

@@ -1,6 +1,7 @@
 // The verbs that read a message: `read`, `readdropped` and `records`. The room of the first two is filled with a pattern before the call. What the call was not
 // lent, and what stands after the records that it says it stored, is watched. `segread` (segments) does the same.
 use crate::fail::Fail;
+use crate::room::Room;
 use crate::words::Words;
 use printing::{Layout, Page, rows_read};
 use spec::Mode;
@@ -26,31 +27,38 @@ const RECORDS: Layout = Layout {
 };
 
 // `read SCHEMA ROOM HEX`, and `readdropped SCHEMA ROOM HEX`: `N COUNT PLACE RECORDS`.
-pub fn read(dropped: bool, words: &mut Words, page: &mut Page) -> Result<(), Fail> {
-    let schema = words.schema()?;
+pub fn read(
+    dropped: bool,
+    words: &mut Words,
+    room: &mut Room,
+    page: &mut Page,
+) -> Result<(), Fail> {
+    let schema = words.schema(&mut room.numbers)?;
     let most: usize = words.number()?;
-    let s = words.last_bytes()?;
+    let s = words.last_bytes(&mut room.bytes)?;
     if MOST < most {
         return Err(Fail::BadLine);
     }
     let lent = most * STRIDE;
-    let mut room = vec![in words.alloc; PATTERN; lent + WATCHED]?;
+    let list = &mut room.list[..];
+    let watched = &mut list[..lent + WATCHED];
+    watched.fill(PATTERN);
     let read = if dropped {
         let mode = Mode { dropped: true };
-        entries::read_numbers_as(mode, schema.types, &schema.numbers, &s, &mut room[..lent])
+        entries::read_numbers_as(mode, schema.types, schema.numbers, s, &mut watched[..lent])
     } else {
-        entries::read_numbers(schema.types, &schema.numbers, &s, &mut room[..lent])
+        entries::read_numbers(schema.types, schema.numbers, s, &mut watched[..lent])
     };
-    page.put_reading(read, &room, STRIDE, RECORDS, PATTERN);
+    page.put_reading(read, watched, STRIDE, RECORDS, PATTERN);
     Ok(())
 }
 
 // `records SCHEMA HEX`: what the program `records` would print under that schema, with `/` between lines.
-pub fn records(words: &mut Words, page: &mut Page) -> Result<(), Fail> {
-    let schema = words.schema()?;
-    let s = words.last_bytes()?;
-    let mut room = vec![in words.alloc; 0u64; LISTED]?;
-    let read = entries::read_numbers(schema.types, &schema.numbers, &s, &mut room);
-    page.put_listing(read.into(), rows_read(read, &room, STRIDE), b'/');
+pub fn records(words: &mut Words, room: &mut Room, page: &mut Page) -> Result<(), Fail> {
+    let schema = words.schema(&mut room.numbers)?;
+    let s = words.last_bytes(&mut room.bytes)?;
+    let listed = room.list.get_mut(..LISTED).ok_or(Fail::BadLine)?;
+    let read = entries::read_numbers(schema.types, schema.numbers, s, listed);
+    page.put_listing(read.into(), rows_read(read, listed, STRIDE), b'/');
     Ok(())
 }

@@ -1,5 +1,6 @@
 // The verbs of sizes: `fieldsize` and `packedsize`.
 use crate::fail::Fail;
+use crate::room::Room;
 use crate::words::Words;
 use printing::Page;
 use spec::kinds32;
@@ -58,14 +59,14 @@ fn is_packable(kind: u32) -> bool {
 }
 
 // `packedsize KIND NUMBER VALUES`: the size of a packed field, or `refused 11`.
-pub fn packedsize(words: &mut Words, page: &mut Page) -> Result<(), Fail> {
+pub fn packedsize(words: &mut Words, room: &mut Room, page: &mut Page) -> Result<(), Fail> {
     let kind = words.number()?;
     let number = words.number()?;
-    let values = words.values()?;
+    let values = words.values(&mut room.list)?;
     words.end()?;
     if !is_packable(kind) || !values.iter().all(|value| fits(kind, *value)) {
         return Err(Fail::BadLine);
     }
-    page.put_sized(sizes::packed_size(kind, number, &values));
+    page.put_sized(sizes::packed_size(kind, number, values));
     Ok(())
 }

@@ -19,7 +19,7 @@ use Rattle.spec.proofs.Laws.{both_true}
 use Rattle.spec.proofs.SizeLaws.{output_refused}
 use Rattle.sizes.specs.Answers.{Tells}
 use Rattle.sizes.specs.SizeParts.{capped}
-use Rattle.sizes.proofs.AnswerLaws.{tells_as}
+use Rattle.sizes.proofs.AnswerLaws.{cut_once, tells_as}
 use Rattle.segment.specs.Segment.{front_size, range_stride, messages, segment, Range, range, ranges_of, contents_of, lies, bad_range, ranges_first, writing}
 use Rattle.segment.proofs.SegmentLaws.{writing_well}
 use Rattle.segment.specs.Judging.{outside, Judges, lies_outside, all_inside}
@@ -133,11 +133,12 @@ module _ (room : ℕ) (payload : List ℕ) (rs : List Range) where
   unfolding number w.size index writing ranges_first
   tells_bad (lies_outside {i} e) = tells_as {r = Err (outside i)} (ap (λ (o : Option ℕ). ranges_first o (sized room (segment (contents_of payload rs)))) e) (record { number = refl; size = refl; index = refl })
 
-  pub tells_size : {n : ℕ} (r : Result ℕ Unwritten) → Judges payload rs (Ok n) → ((s : List ℕ) → n ≡ capped (length s) → Tells (sized room s) r)
+  pub tells_size : {n : ℕ} (r : Result ℕ Unwritten) → Judges payload rs (Ok n) → ((s : List ℕ) → capped n ≡ capped (length s) → Tells (sized room s) r)
       → Tells (writing room payload rs) r
   unfolding writing ranges_first
-  tells_size r (all_inside e is) t =
-      tells_as {r = r} (ap (λ (o : Option ℕ). ranges_first o (sized room (segment (contents_of payload rs)))) e) (t (segment (contents_of payload rs)) is)
+  tells_size {n = n} r (all_inside e is) t =
+      let bytes : List ℕ = segment (contents_of payload rs) in
+      tells_as {r = r} (ap (λ (o : Option ℕ). ranges_first o (sized room bytes)) e) (t bytes (cut_once n (length bytes) is))
 
 -- ---- a refusal: the output stays as it was
 

@@ -1,5 +1,5 @@
 -- What the parts of the sizes answer: a size that is cut off just above the limit, so that no sum of such sizes can wrap, and the number that is written
--- for a value. Assumes nothing: these are definitions. Only inner functions and loops cite it.
+-- for a value. Assumes nothing: these are definitions. Public promises cite `capped` and `coded`; the other, inner functions alone.
 use Rattle.std.specs.Prelude.{ℕ, ◌+◌, ◌-◌, List, eqb, get_or, min, if◌then◌else◌}
 use Rattle.spec.specs.Names.{kind_column, sint32_kind, sint64_kind, start_column, stop_column, unknown_bytes, value_column}
 use Rattle.spec.specs.Base.{between, limit}

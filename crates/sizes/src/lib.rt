@@ -59,9 +59,9 @@ pub fn cut(size: u64) -> u64
     size.min(MAX_MESSAGE_SIZE + 1)
 }
 
-// The answer of a call that writes this many bytes: `size` is cut off above the limit, and `room` is what there is for them.
+// The answer of a call that writes this many bytes: `size` may be cut off above the limit, and `room` is what there is for them.
 pub fn by_size(room: u64, size: u64) -> Result<usize, Unwritten>
-    ensures { (s : List ℕ) → size ≡ capped (length s) → Tells (sized room s) result }
+    ensures { (s : List ℕ) → capped size ≡ capped (length s) → Tells (sized room s) result }
 {
     if MAX_MESSAGE_SIZE < size {
         return Err(Unwritten {

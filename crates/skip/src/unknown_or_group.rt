@@ -77,7 +77,9 @@ fn checked(tag: u32, s: &[u8]) -> Result<(), Refusal>
     Ok(())
 }
 
-// Skips the field after a tag. Every group counts, and the end of the bytes closes all open groups. The answer is how many bytes it took.
+// Skips the field after a tag. Every group counts, and the end of the bytes closes all open groups. The answer is how many bytes it took. It is always inlined:
+// of a short field the answer then needs no memory, which costs as much as all else.
+#[inline(always)]
 pub fn skip_field_for_tag(tag: u32, s: &[u8], level: u32) -> Result<usize, Refusal>
     ensures { (skipped_number result ≡ refusal (skip_field_for_tag tag level s.now)) × (skipped_used result ≡ taken (skip_field_for_tag tag level s.now)) }
 {

@@ -23,7 +23,7 @@ use Rattle.spec.proofs.ListLaws.{accepted}
 use Rattle.spec.proofs.RunLaws.{fine_passed}
 use Rattle.sizes.specs.SizeParts.{capped}
 use Rattle.sizes.specs.Answers.{Tells}
-use Rattle.sizes.proofs.AnswerLaws.{tells_as}
+use Rattle.sizes.proofs.AnswerLaws.{cut_once, tells_as}
 use Rattle.write.specs.Backward.{Given}
 
 -- ---- what a caller may rely on
@@ -96,9 +96,9 @@ module _ (room : ℕ) (b : List ℕ) where
 
 -- the answer from the size of a list whose contents lie in the payload, which is how many bytes it is written as
 pub by_written : (room : ℕ) (payload : List ℕ) (rs : List Record) {r : Result ℕ Unwritten} {n : ℕ} → Held payload rs
-    → ((s : List ℕ) → n ≡ capped (length s) → Tells (sized room s) r) → n ≡ capped (size_of rs) → Tells (sized room (written payload rs)) r
+    → ((s : List ℕ) → capped n ≡ capped (length s) → Tells (sized room s) r) → n ≡ capped (size_of rs) → Tells (sized room (written payload rs)) r
 unfolding size_of written
-by_written room payload rs h told is = told (written payload rs) (is ∙ ap capped (size_bytes (length rs) true payload rs h))
+by_written room payload rs {n = n} h told is = told (written payload rs) (cut_once n (length (written payload rs)) (is ∙ ap capped (size_bytes (length rs) true payload rs h)))
 
 -- ---- the size call
 
@@ -107,7 +107,7 @@ module _ (sch : Schema) (payload : List ℕ) (rs : List Record) where
   unfolding sizing
   size_faulty f e = told_faulty sch limit payload rs f e
 
-  pub size_fine : {r : Result ℕ Unwritten} {n : ℕ} → list_check sch payload rs ≡ Fine → ((s : List ℕ) → n ≡ capped (length s) → Tells (sized limit s) r) → n ≡ capped (size_of rs) → Tells (sizing sch payload rs) r
+  pub size_fine : {r : Result ℕ Unwritten} {n : ℕ} → list_check sch payload rs ≡ Fine → ((s : List ℕ) → capped n ≡ capped (length s) → Tells (sized limit s) r) → n ≡ capped (size_of rs) → Tells (sizing sch payload rs) r
   unfolding sizing
   size_fine e is cut =
       tells_as (writing_fine sch limit payload rs e) (by_written limit payload rs (fine_held sch payload 0 (Fields 0 ∷ []) rs (check_fine sch payload rs e).1) is cut)

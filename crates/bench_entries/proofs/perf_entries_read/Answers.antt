@@ -5,6 +5,8 @@ use mathlib.Core.List.{List, [], ◌∷◌}
 use lib.ListN.{length}
 use Rattle.spec.specs.Schema.{Schema}
 use Rattle.spec.specs.Reading.{Reading, number, place, listed, room_after, reading}
+use Rattle.entries.proofs.NumbersLaws.{made_front}
+use Rattle.bench_entries.specs.First.{most_made}
 use Rattle.bench_entries.proofs.FirstLaws.{first_made}
 use Rattle.bench_entries.proofs.perf_entries_read.Goals as goal
 
@@ -17,9 +19,9 @@ told n s room e h =
     (h.0 ∙ ap number is, ap₂ (λ (x y : ℕ). x ∷ y ∷ []) (h.2 ∙ ap (λ (q : Reading). length (listed q)) is) (h.1 ∙ ap place is), h.3 ∙ ap (λ (q : Reading). room_after q room) is)
 
 pub returns-in-Ok : goal.returns-in-Ok
-returns-in-Ok c = told _ _ _ (first_made c.args.types c.args.numbers.now c.made-made.ensures) c.in-Ok.ensures
+returns-in-Ok c = told _ _ _ (first_made c.args.types c.args.numbers.now (made_front c.args.numbers.now most_made c.made-count.result c.made-count.ensures.count c.made-count.ensures.front)) c.in-Ok.ensures
 
 pub returns-in-Err : goal.returns-in-Err
 returns-in-Err c =
     let h = c.in-Err.ensures in
-    told _ _ _ (first_made c.args.types c.args.numbers.now c.made-made.ensures) (c.number.ensures ∙ h.0, h.1, h.2, h.3)
+    told _ _ _ (first_made c.args.types c.args.numbers.now (made_front c.args.numbers.now most_made c.made-count.result c.made-count.ensures.count c.made-count.ensures.front)) (c.number.ensures ∙ h.0, h.1, h.2, h.3)

@@ -4,7 +4,8 @@ use mathlib.Core.List.{List}
 use borrow.Author.Tests.{eq-eqb, ne_eqb}
 use Rattle.spec.specs.Schema.{place_of}
 use Rattle.spec.specs.declared.Entry.{Entry}
-use Rattle.entries.proofs.NumbersLaws.{first_none, first_made}
+use Rattle.entries.specs.Copied.{one_more}
+use Rattle.entries.proofs.NumbersLaws.{first_none, first_made, made_front}
 use Rattle.entries.proofs.lookup_numbers.Goals as goal
 
 pub returns-then-numbers-ne0 : goal.returns-then-numbers-ne0
@@ -14,5 +15,5 @@ returns-then-numbers-ne0 c = rw (first_none c.args.numbers.now (ne_eqb _ _ c.if-
 pub returns : goal.returns
 returns c =
     let a = c.args in
-    let seen = c.made.ensures ∙ first_made a.numbers.now (eq-eqb _ _ c.if-numbers-ne0.false) in
+    let seen = made_front a.numbers.now one_more c.made-count.result c.made-count.ensures.count c.made-count.ensures.front ∙ first_made a.numbers.now (eq-eqb _ _ c.if-numbers-ne0.false) in
     c.lookup.ensures ∙ ap (λ (es : List Entry). place_of 0 es a.owner a.number) seen

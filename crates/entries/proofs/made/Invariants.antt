@@ -3,4 +3,4 @@ use Rattle.entries.proofs.NumbersLaws.{Here}
 use Rattle.entries.proofs.made.Given as goal
 
 abbrev pub invariant-loop-i : goal.invariant-loop-i
-invariant-loop-i l = Here l.numbers l.i l.room
+invariant-loop-i l = Here l.numbers l.initial.room l.i l.room
