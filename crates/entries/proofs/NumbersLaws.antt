@@ -17,7 +17,7 @@ use Rattle.spec.specs.declared.Entry.{Entry}
 use Rattle.spec.proofs.Laws.{by_test}
 use Rattle.spec.proofs.SchemaLaws.{first_entry, length_entries}
 use Rattle.spec.proofs.VarintLaws.{lower_or_not}
-use Rattle.entries.specs.Copied.{one_more, entry_at, types_of, first_entries}
+use Rattle.entries.specs.Copied.{one_more, made_entries, entry_at, types_of, first_entries}
 use Rattle.entries.proofs.LentLaws.{Alike, one, bad, many_bad}
 
 -- ---- one entry more
@@ -85,7 +85,7 @@ no_types es = refl
 
 -- the schema of the entries that are made
 abbrev pub made : ℕ → List ℕ → Schema
-made types ns = record { types = types_of types (length ns); entries = entries_of (min (length ns / entry_stride) one_more) ns }
+made types ns = record { types = types_of types (length ns); entries = made_entries ns }
 
 pub made_alike : (types : ℕ) (ns : List ℕ) → Alike (made types ns) (schema_of types ns)
 made_alike types ns =
@@ -95,12 +95,12 @@ made_alike types ns =
     lower_or_not one_more n
     (λ h.
     let few : min n one_more ≡ one_more = omega arith in
-    rw (types_whole types (length ns) e, few, schema_whole types ns e)
+    rw (types_whole types (length ns) e, e, few, schema_whole types ns e)
     (bad (many_bad types (entries_of one_more ns) (rw (length_entries one_more ns) (omega arith))) (many_bad types (entries_of n ns) (rw (length_entries n ns) (omega arith)))))
     (λ h.
     let all : min n one_more ≡ n = omega arith in
-    one (ap₂ (λ (t k : ℕ). record { types = t; entries = entries_of k ns }) (types_whole types (length ns) e) all ∙ sym (schema_whole types ns e))))
-    (λ e. rw (types_rest types (length ns) e, schema_rest types ns e) (bad (no_types (entries_of (min n one_more) ns)) (no_types [])))
+    rw e (one (ap₂ (λ (t k : ℕ). record { types = t; entries = entries_of k ns }) (types_whole types (length ns) e) all ∙ sym (schema_whole types ns e)))))
+    (λ e. rw (types_rest types (length ns) e, e, schema_rest types ns e) (bad (no_types []) (no_types [])))
 
 -- ---- those that a lookup sees
 

@@ -1,7 +1,7 @@
 -- What the functions of this crate compute on the list of entries. Assumes nothing: these are definitions. Public promises cite it.
-use Rattle.std.specs.Prelude.{ℕ, ◌+◌, ◌*◌, ◌%◌, List, [], ◌∷◌, length, take, get_or, set, ltb, eqb, if◌then◌else◌}
+use Rattle.std.specs.Prelude.{ℕ, ◌+◌, ◌*◌, ◌/◌, ◌%◌, min, List, [], ◌∷◌, length, take, get_or, set, ltb, eqb, if◌then◌else◌}
 use Rattle.spec.specs.Names.{child_column, entry_kind_column, entry_number_column, most_entries, repeated_column}
-use Rattle.spec.specs.Schema.{bit, copied, entry_of, schema_of, entry_stride}
+use Rattle.spec.specs.Schema.{bit, copied, entries_of, entry_of, schema_of, entry_stride}
 use Rattle.spec.specs.declared.Entry.{Entry}
 -- the numbers of as many entries as a schema may have
 pub use Rattle.schema.specs.Layout.{most_numbers}
@@ -37,6 +37,10 @@ lent es a = if ltb most_entries (length es) then take 1 a else copied es
 -- the entry of the five numbers from place i on
 abbrev pub entry_at : List ℕ → ℕ → Entry
 entry_at ns i = entry_of (get_or ns i 0) (get_or ns (i + entry_number_column) 0) (get_or ns (i + entry_kind_column) 0) (get_or ns (i + repeated_column) 0) (get_or ns (i + child_column) 0)
+
+-- the entries that the calls over numbers make: as many as there are, or one more than a schema may have, and none of numbers with a remainder
+abbrev pub made_entries : List ℕ → List Entry
+made_entries ns = if eqb (length ns % entry_stride) 0 then entries_of (min (length ns / entry_stride) one_more) ns else []
 
 -- the type count that stands for so many numbers: of numbers with a remainder it is a schema of no types
 unfoldable pub types_of : ℕ → ℕ → ℕ

@@ -2,7 +2,7 @@
 // the work; `lookup` goes over the entries themselves.
 #![tactic(auto)]
 
-ghost use Rattle.std.specs.Prelude.{◌≡◌, ◌+◌, ◌/◌, ◌<◌, length, min, take, drop};
+ghost use Rattle.std.specs.Prelude.{◌≡◌, ◌+◌, ◌/◌, ◌<◌, ◌≤◌, length, min, take, drop};
 ghost use Rattle.spec.specs.Names.{child_column, most_entries};
 ghost use Rattle.spec.specs.Record.{records_of, stride};
 ghost use Rattle.spec.specs.Reading.{reading, reading_as, number, place, listed, room_after};
@@ -12,7 +12,7 @@ ghost use Rattle.spec.specs.Writing.{list_check, writing, sizing, output};
 ghost use Rattle.spec.specs.Writing as writer;
 ghost use Rattle.list.specs.Told.{as_verdict as verdict};
 ghost use Rattle.schema.specs.Told.{place as entry_place};
-ghost use Rattle.entries.specs.Copied.{stored_at, copied_to, lent, entry_at, types_of, first_entries};
+ghost use Rattle.entries.specs.Copied.{one_more, made_entries, stored_at, copied_to, lent, entry_at, types_of, first_entries};
 
 use spec::answers::{Fault, Stopped, Unwritten};
 use spec::{Entry, Mode, columns, limits};
@@ -182,6 +182,18 @@ pub fn made(numbers: &[u32], room: &mut [Entry]) -> usize
     count
 }
 
+// The same for the calls below. Of numbers that are no whole entries none is made: their schema has no types, and is refused without a look at its entries.
+fn made_whole(numbers: &[u32], room: &mut [Entry; ONE_MORE]) -> usize
+    ensures count { result ≤ one_more }
+    ensures front { take result room.new ≡ made_entries numbers.now }
+{
+    if numbers.len() % columns::ENTRY_STRIDE == 0 {
+        made(numbers, room)
+    } else {
+        0
+    }
+}
+
 // The type count that stands for so many numbers: 0 where they are no whole entries, as the definition `schema_of` has it.
 #[tactic(auto, unfolding(crate::specs::Copied::types_of))]
 fn type_count(types: u32, length: usize) -> u32
@@ -208,7 +220,7 @@ pub fn read_numbers_as(
         × (room.new ≡ room_after (reading_as mode (schema_of types numbers.now) (length room.old / stride) s.now) room.old) }
 {
     let mut made_in = [NO_ENTRY; ONE_MORE];
-    let count = made(numbers, &mut made_in);
+    let count = made_whole(numbers, &mut made_in);
     let entries = &made_in[..count];
     read_as(mode, type_count(types, numbers.len()), entries, s, room)
 }
@@ -246,7 +258,7 @@ pub fn check_numbers(types: u32, numbers: &[u32], list: &[u64], payload: &[u8]) 
     ensures { verdict result ≡ list_check (schema_of types numbers.now) payload.now (records_of list.now) }
 {
     let mut made_in = [NO_ENTRY; ONE_MORE];
-    let count = made(numbers, &mut made_in);
+    let count = made_whole(numbers, &mut made_in);
     let entries = &made_in[..count];
     check(type_count(types, numbers.len()), entries, list, payload)
 }
@@ -263,7 +275,7 @@ pub fn size_numbers(
     ensures index { written_index result ≡ writer.index (sizing (schema_of types numbers.now) payload.now (records_of list.now)) }
 {
     let mut made_in = [NO_ENTRY; ONE_MORE];
-    let count = made(numbers, &mut made_in);
+    let count = made_whole(numbers, &mut made_in);
     let entries = &made_in[..count];
     size(type_count(types, numbers.len()), entries, list, payload)
 }
@@ -282,7 +294,7 @@ pub fn write_numbers(
     ensures output { out.new ≡ output (writing (schema_of types numbers.now) (length out.old) payload.now (records_of list.now)) out.old }
 {
     let mut made_in = [NO_ENTRY; ONE_MORE];
-    let count = made(numbers, &mut made_in);
+    let count = made_whole(numbers, &mut made_in);
     let entries = &made_in[..count];
     write(
         type_count(types, numbers.len()),

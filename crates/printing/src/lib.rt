@@ -117,10 +117,14 @@ impl<'a> Page<'a> {
         self.put_byte(b'0' + (n % 10) as u8);
     }
 
-    // A number in decimal: no number of 64 bits has more than twenty digits.
+    // A number in decimal: no number of 64 bits has more than twenty digits. Many have one, and need no call.
     pub fn put_decimal(&mut self, n: u64)
         ensures { Adds self.old (decimal n) self.new }
     {
+        if n < 10 {
+            self.put_byte(b'0' + n as u8);
+            return;
+        }
         self.put_digits(n, 20);
     }
 

@@ -6,8 +6,7 @@ use Rattle.spec.specs.Record.{records_of}
 use Rattle.spec.specs.Writing.{Verdict, list_check}
 use Rattle.spec.specs.declared.Entry.{Entry}
 use Rattle.entries.proofs.LentLaws.{alike_check}
-use Rattle.entries.specs.Copied.{one_more}
-use Rattle.entries.proofs.NumbersLaws.{made_alike, made_front}
+use Rattle.entries.proofs.NumbersLaws.{made_alike}
 use Rattle.entries.proofs.check_numbers.Goals as goal
 
 pub returns : goal.returns
@@ -15,5 +14,5 @@ returns c =
     let a = c.args in
     let under : ℕ → List Entry → Verdict = λ types es. list_check (record { types = types; entries = es }) a.payload.now (records_of a.list.now) in
     c.check.ensures
-    ∙ ap₂ under c.type_count.ensures (made_front a.numbers.now one_more c.made-count.result c.made-count.ensures.count c.made-count.ensures.front)
+    ∙ ap₂ under c.type_count.ensures c.made_whole-count.ensures.front
     ∙ alike_check (made_alike a.types a.numbers.now) a.payload.now (records_of a.list.now)
