@@ -83,24 +83,37 @@ no_types : (es : List Entry) → bad_schema (record { types = 0; entries = es })
 unfolding bad_schema
 no_types es = refl
 
--- the schema of the entries that are made
-abbrev pub made : ℕ → List ℕ → Schema
-made types ns = record { types = types_of types (length ns); entries = made_entries ns }
-
-pub made_alike : (types : ℕ) (ns : List ℕ) → Alike (made types ns) (schema_of types ns)
-made_alike types ns =
+-- What the entries are matters only where the numbers are whole entries: with a remainder the schema has no types, and is bad whatever they are.
+alike_of : (types : ℕ) (ns : List ℕ) (es : List Entry) → (eqb (length ns % entry_stride) 0 ≡ true → es ≡ entries_of (min (length ns / entry_stride) one_more) ns)
+    → Alike (record { types = types_of types (length ns); entries = es }) (schema_of types ns)
+alike_of types ns es is =
     let n : ℕ = length ns / entry_stride in
     by_test (eqb (length ns % entry_stride) 0)
     (λ e.
     lower_or_not one_more n
     (λ h.
     let few : min n one_more ≡ one_more = omega arith in
-    rw (types_whole types (length ns) e, e, few, schema_whole types ns e)
+    rw (types_whole types (length ns) e, is e, few, schema_whole types ns e)
     (bad (many_bad types (entries_of one_more ns) (rw (length_entries one_more ns) (omega arith))) (many_bad types (entries_of n ns) (rw (length_entries n ns) (omega arith)))))
     (λ h.
     let all : min n one_more ≡ n = omega arith in
-    rw e (one (ap₂ (λ (t k : ℕ). record { types = t; entries = entries_of k ns }) (types_whole types (length ns) e) all ∙ sym (schema_whole types ns e)))))
-    (λ e. rw (types_rest types (length ns) e, e, schema_rest types ns e) (bad (no_types []) (no_types [])))
+    rw (is e) (one (ap₂ (λ (t k : ℕ). record { types = t; entries = entries_of k ns }) (types_whole types (length ns) e) all ∙ sym (schema_whole types ns e)))))
+    (λ e. rw (types_rest types (length ns) e, schema_rest types ns e) (bad (no_types es) (no_types [])))
+
+-- the schema of the entries that `made` makes in a room of one entry more than a schema may have
+abbrev pub made : ℕ → List ℕ → Schema
+made types ns = record { types = types_of types (length ns); entries = entries_of (min (length ns / entry_stride) one_more) ns }
+
+-- Nothing here cites it: it is for a caller of `made` in another repository (docs/LOOK-BACK.md).
+pub made_alike : (types : ℕ) (ns : List ℕ) → Alike (made types ns) (schema_of types ns)
+made_alike types ns = alike_of types ns (entries_of (min (length ns / entry_stride) one_more) ns) (λ e. refl)
+
+-- the schema of the entries that `made_whole` makes
+abbrev pub whole_made : ℕ → List ℕ → Schema
+whole_made types ns = record { types = types_of types (length ns); entries = made_entries ns }
+
+pub whole_alike : (types : ℕ) (ns : List ℕ) → Alike (whole_made types ns) (schema_of types ns)
+whole_alike types ns = alike_of types ns (made_entries ns) (λ e. rw e refl)
 
 -- ---- those that a lookup sees
 

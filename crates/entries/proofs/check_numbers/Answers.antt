@@ -6,7 +6,7 @@ use Rattle.spec.specs.Record.{records_of}
 use Rattle.spec.specs.Writing.{Verdict, list_check}
 use Rattle.spec.specs.declared.Entry.{Entry}
 use Rattle.entries.proofs.LentLaws.{alike_check}
-use Rattle.entries.proofs.NumbersLaws.{made_alike}
+use Rattle.entries.proofs.NumbersLaws.{whole_alike}
 use Rattle.entries.proofs.check_numbers.Goals as goal
 
 pub returns : goal.returns
@@ -15,4 +15,4 @@ returns c =
     let under : ℕ → List Entry → Verdict = λ types es. list_check (record { types = types; entries = es }) a.payload.now (records_of a.list.now) in
     c.check.ensures
     ∙ ap₂ under c.type_count.ensures c.made_whole-count.ensures.front
-    ∙ alike_check (made_alike a.types a.numbers.now) a.payload.now (records_of a.list.now)
+    ∙ alike_check (whole_alike a.types a.numbers.now) a.payload.now (records_of a.list.now)

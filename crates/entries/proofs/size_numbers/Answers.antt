@@ -6,7 +6,7 @@ use Rattle.spec.specs.Record.{records_of}
 use Rattle.spec.specs.Writing.{Writing, sizing, number, size, index}
 use Rattle.spec.specs.declared.Entry.{Entry}
 use Rattle.entries.proofs.LentLaws.{alike_sizing}
-use Rattle.entries.proofs.NumbersLaws.{made_alike}
+use Rattle.entries.proofs.NumbersLaws.{whole_alike}
 use Rattle.entries.proofs.size_numbers.Goals as goal
 
 pub returns : goal.returns
@@ -16,7 +16,7 @@ returns c =
     let under : ℕ → List Entry → Writing = λ types es. sizing (record { types = types; entries = es }) a.payload.now (records_of a.list.now) in
     let same =
     ap₂ under c.type_count.ensures c.made_whole-count.ensures.front
-    ∙ alike_sizing (made_alike a.types a.numbers.now) a.payload.now (records_of a.list.now) in
+    ∙ alike_sizing (whole_alike a.types a.numbers.now) a.payload.now (records_of a.list.now) in
     record {
       number = h.number ∙ ap number same;
       size = h.size ∙ ap size same;

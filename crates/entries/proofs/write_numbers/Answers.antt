@@ -7,7 +7,7 @@ use Rattle.spec.specs.Record.{records_of}
 use Rattle.spec.specs.Writing.{Writing, writing, number, size, index, output}
 use Rattle.spec.specs.declared.Entry.{Entry}
 use Rattle.entries.proofs.LentLaws.{alike_writing}
-use Rattle.entries.proofs.NumbersLaws.{made_alike}
+use Rattle.entries.proofs.NumbersLaws.{whole_alike}
 use Rattle.entries.proofs.write_numbers.Goals as goal
 
 pub returns : goal.returns
@@ -17,7 +17,7 @@ returns c =
     let under : ℕ → List Entry → Writing = λ types es. writing (record { types = types; entries = es }) (length a.out.now) a.payload.now (records_of a.list.now) in
     let same =
     ap₂ under c.type_count.ensures c.made_whole-count.ensures.front
-    ∙ alike_writing (made_alike a.types a.numbers.now) (length a.out.now) a.payload.now (records_of a.list.now) in
+    ∙ alike_writing (whole_alike a.types a.numbers.now) (length a.out.now) a.payload.now (records_of a.list.now) in
     record {
       number = h.number ∙ ap number same;
       size = h.size ∙ ap size same;
